@@ -1,0 +1,5 @@
+pub mod Lefts
+pub mod Fronts
+pub mod Overridden
+pub mod Cursors
+pub mod Nexts

@@ -1,0 +1,12 @@
+pub mod Amount
+pub mod AmountFalls
+pub mod Reading
+pub mod ReadingLemmas
+pub mod Plain
+pub mod PlainLemmas
+pub mod ItemIter
+pub mod SparseIndicesIter
+pub mod Sparse
+pub mod Counted
+pub mod Stored
+pub mod Laws

@@ -1,0 +1,40 @@
+//! Laws of the definitions that the contracts of this crate name. Each function's contract is the law, and its body
+//! does nothing.
+
+ghost use Rattle.std.specs.Prelude.{◌≡◌, ℕ, ◌+◌, ◌*◌, ◌<◌, ◌≤◌, ◌↔◌, IsTrue, List, Option, length, drop, slice_get, SomeIff};
+ghost use Rattle.gltf_items.specs.Plain.{plain};
+ghost use Rattle.gltf_items.specs.Sparse.{front, total, sparse, sparse_item};
+ghost use Rattle.gltf_items.specs.Laws.{NthIsNext, IsFront, Overrides};
+
+use crate::item::{F32, Item};
+
+/// `nth(n)` answers what the last of n + 1 calls of `next` answers, and leaves what they leave. This holds of every
+/// list, and so of each iterator, whose contracts say that `next` answers the first item of the list that is left and
+/// leaves the others, and `nth` the item at a place and those behind it.
+pub fn nth_is_next<T: Item>()
+    ensures { (items : List T) (n : ℕ) → NthIsNext items n }
+{}
+
+/// Item i at the steps of a stride is there exactly where its bytes are, and is what the bytes from i strides on spell.
+pub fn plain_by_position<T: Item>()
+    ensures { (bytes : List ℕ) (stride i : ℕ) → T.size ≤ stride → SomeIff (slice_get (plain T.size T.value bytes stride) i) (i * stride + T.size ≤ length bytes) (T.value (drop (i * stride) bytes)) }
+{}
+
+/// The stored indices that count are their longest strictly increasing beginning that is no longer than the values.
+pub fn front_is_longest<T: Item>()
+    ensures { (indices : List ℕ) (values : List T) → IsFront indices values (front indices values) }
+{}
+
+/// The items of a sparse accessor are as many as the base's, or `n` without a base. The item at the k-th index that
+/// counts is the k-th value, and each item at no such index is the base's, or zero without a base.
+pub fn sparse_by_position<T: Item>()
+    ensures items { (base : Option (List T)) (n : ℕ) (indices : List ℕ) (values : List T) (i : ℕ) → SomeIff (slice_get (sparse T.zero_item base n indices values) i) (i < total base n) (sparse_item T.zero_item base indices values i) }
+    ensures overrides { (base : Option (List T)) (indices : List ℕ) (values : List T) → Overrides T.zero_item base indices values }
+{}
+
+/// Two numbers of single precision are equal exactly where their four bytes are.
+pub fn f32_equality(left: F32, right: F32) -> bool
+    ensures { IsTrue result ↔ (left ≡ right) }
+{
+    left == right
+}
