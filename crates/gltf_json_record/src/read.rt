@@ -1,0 +1,156 @@
+//! How the members of a record are read from a JSON object.
+ghost use Rattle.std.specs.Prelude.{◌≡◌, ◌≢◌, Ok, Err, IfOk, IfErr, IsNone, IsSome, option_map, Option};
+ghost use Rattle.serde_json.specs.Find.{as_object};
+ghost use Rattle.serde_json.specs.View.{view};
+ghost use Rattle.gltf_json_record.specs.Fault.{Tells, IsUnder};
+ghost use Rattle.gltf_json_record.specs.Kind.{IsWrongKind};
+ghost use Rattle.gltf_json_record.specs.Table.{required, optional, defaulted, IsMissing};
+ghost use Rattle.gltf_json_record.specs.Member.{member_at};
+ghost use Rattle.gltf_json_record.specs.Place.{place_of};
+ghost use Rattle.gltf_json_record.specs.declared.error.Error.TheVariants.{Memory};
+
+use crate::error::{Error, RecordFault};
+use crate::path::{Path, Step};
+use serde_json::Value;
+use std::alloc::Global;
+
+/// A type that is read from a JSON value. Its `kind` says which values it is the reading of, and which
+/// faults stand in the others.
+pub trait FromValue: Drop {
+    ghost use Rattle.std.specs.Prelude.{IfOk, IfErr};
+    ghost use Rattle.serde_json.specs.View.{view};
+    ghost use Rattle.gltf_json_record.specs.Fault.{Tells};
+    ghost use Rattle.gltf_json_record.specs.Kind.{Kind};
+
+    ghost kind: { Kind Self };
+
+    /// The reading of a value, or a fault that stands in it, or want of memory.
+    fn from_value(alloc: Global, value: &Value) -> Result<Self, Error>
+    where
+        Self: Sized,
+        ensures ok { IfOk result (kind.is (view value.now)) }
+        ensures err { IfErr result (Tells (kind.fault (view value.now))) };
+}
+
+/// The reading of a value. It is answered exactly where the value fits its kind, want of memory aside;
+/// otherwise a fault that stands in the value is told.
+pub fn read<T: FromValue>(alloc: Global, value: &Value) -> Result<T, Error>
+    ensures ok { IfOk result (T.kind.is (view value.now)) }
+    ensures fits { IfOk result (λ _. T.kind.fits (view value.now)) }
+    ensures err { IfErr result (Tells (T.kind.fault (view value.now))) }
+    ensures refused { IfErr result (λ e. e ≢ Memory → T.kind.fits (view value.now) → ⊥) }
+{
+    T::from_value(alloc, value)
+}
+
+/// The fault of a value that is of another kind.
+pub fn wrong_kind(alloc: Global) -> Error
+    ensures { Tells IsWrongKind result }
+{
+    Error::Record {
+        path: Path::new(alloc),
+        fault: RecordFault::WrongKind,
+    }
+}
+
+/// The same error, seen from one step further out; or want of memory for that step.
+pub fn under(step: Step, error: Error) -> Error
+    ensures { IsUnder (place_of step) error result }
+{
+    match error {
+        Error::Record { mut path, fault } => match path.put_in_front(step) {
+            Ok(()) => Error::Record { path, fault },
+            Err(_) => Error::Memory,
+        },
+        other => other,
+    }
+}
+
+/// What an object has at a name; None where that is null, or where the value is no object.
+pub fn member<'v>(value: &'v Value, name: &str) -> Option<&'v Value>
+    ensures { option_map (λ v. view v.now) result ≡ member_at name.now (view value.now) }
+{
+    match value.get(name) {
+        Some(Value::Null) => None,
+        found => found,
+    }
+}
+
+/// A member that may be absent.
+pub fn optional<T: FromValue>(
+    alloc: Global,
+    value: &Value,
+    name: &'static str,
+) -> Result<Option<T>, Error>
+    ensures ok { IfOk result ((optional name.now (λ x. x) T.kind).is (view value.now)) }
+    ensures err { IfErr result (Tells ((optional name.now (λ (x : Option T). x) T.kind).fault (view value.now))) }
+{
+    match member(value, name) {
+        Some(found) => match T::from_value(alloc, found) {
+            Ok(read) => Ok(Some(read)),
+            Err(error) => Err(under(Step::Member(name), error)),
+        },
+        None => Ok(None),
+    }
+}
+
+/// A member that has to be there.
+pub fn required<T: FromValue>(alloc: Global, value: &Value, name: &'static str) -> Result<T, Error>
+    ensures ok { IfOk result ((required name.now (λ x. x) T.kind).is (view value.now)) }
+    ensures err { IfErr result (Tells ((required name.now (λ (x : T). x) T.kind).fault (view value.now))) }
+{
+    match optional(alloc, value, name)? {
+        Some(read) => Ok(read),
+        None => Err(missing_member(alloc, name)),
+    }
+}
+
+// The fault of a member that is not there.
+fn missing_member(alloc: Global, name: &'static str) -> Error
+    ensures { Tells (IsMissing name.now) result }
+{
+    under(
+        Step::Member(name),
+        Error::Record {
+            path: Path::new(alloc),
+            fault: RecordFault::MissingMember,
+        },
+    )
+}
+
+/// A member that stands for `default` where it is absent.
+pub fn or_default<T: FromValue>(
+    alloc: Global,
+    value: &Value,
+    name: &'static str,
+    default: T,
+) -> Result<T, Error>
+    ensures ok { IfOk result ((defaulted name.now (λ x. x) default T.kind).is (view value.now)) }
+    ensures err { IfErr result (Tells ((defaulted name.now (λ x. x) default T.kind).fault (view value.now))) }
+{
+    Ok(optional(alloc, value, name)?.unwrap_or(default))
+}
+
+/// Tests that a value is an object: a record can be read from nothing else.
+pub fn object(alloc: Global, value: &Value) -> Result<(), Error>
+    ensures ok { IfOk result (λ _. IsSome (as_object (view value.now))) }
+    ensures err { IfErr result (λ e. IsNone (as_object (view value.now)) × Tells IsWrongKind e) }
+{
+    if value.is_object() {
+        Ok(())
+    } else {
+        Err(wrong_kind(alloc))
+    }
+}
+
+/// What was read, and what is read behind it. `record!` hands over by it what it has, so that no exit of
+/// the caller's has to let go of that.
+pub fn and<A: Drop, B: Drop>(read: A, next: Result<B, Error>) -> Result<(A, B), Error>
+    ensures ok { IfOk result (λ both. (both.0 ≡ read) × (next ≡ Ok both.1)) }
+    ensures err { IfErr result (λ e. next ≡ Err e) }
+{
+    match next {
+        Ok(next) => Ok((read, next)),
+        Err(error) => Err(error),
+    }
+}
