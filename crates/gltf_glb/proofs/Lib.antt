@@ -1,0 +1,10 @@
+pub mod Words
+pub mod Types
+pub mod Chunks
+pub mod Containers
+pub mod Rows
+pub mod Lengths
+pub mod Seen
+pub mod Unique
+pub mod TheLaws
+pub mod Again

@@ -1,0 +1,9 @@
+pub mod Bytes
+pub mod Faults
+pub mod Container
+pub mod Reading
+pub mod Written
+pub mod Glb
+pub mod Steps
+pub mod Laws
+pub mod Texts

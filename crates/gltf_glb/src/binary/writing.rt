@@ -1,0 +1,66 @@
+//! The bytes of a container out of its parts.
+ghost use Rattle.std.specs.Prelude.{◌≡◌, ◌<◌, ◌^◌, ◌-◌, ◌%◌, ◌++◌, length, OnOk, SomeIff, option_copied};
+ghost use Rattle.gltf_glb.specs.Bytes.{magic, word, chunk, padded};
+ghost use Rattle.gltf_glb.specs.Written.{total_of};
+
+use byteorder::{ByteOrder, LittleEndian};
+use std::alloc::AllocError;
+
+/// How many bytes fill contents up to a multiple of four.
+fn padding_of(contents: &[u8]) -> usize
+    ensures { result ≡ (4 - length contents.now % 4) % 4 }
+{
+    (4 - contents.len() % 4) % 4
+}
+
+/// The length of the whole container in bytes, where its header can say it.
+#[tactic(auto, using(crate::proofs::Lengths::total_none, crate::proofs::Lengths::total_some))]
+pub(crate) fn total_of(json: &[u8], bin: Option<&[u8]>) -> Option<u32>
+    ensures { let total = total_of json.now (option_copied bin.entry) in SomeIff result (total < 2 ^ 32) total }
+{
+    let mut total = 20 + json.len() as u128 + padding_of(json) as u128;
+    if let Some(bin) = bin {
+        total += 8 + bin.len() as u128 + padding_of(bin) as u128;
+    }
+    u32::try_from(total).ok()
+}
+
+/// The four bytes of a number.
+#[tactic(auto, unfolding(crate::specs::Bytes::word))]
+fn word_of(number: u32) -> [u8; 4]
+    ensures { result ≡ word number }
+{
+    let mut bytes = [0; 4];
+    LittleEndian::write_u32(&mut bytes, number);
+    bytes
+}
+
+/// Adds a header.
+pub(crate) fn put_header(out: &mut Vec<u8>, total: u32) -> Result<(), AllocError>
+    ensures { OnOk result (out.new.items ≡ out.old.items ++ (magic ++ (word 2 ++ word total))) }
+{
+    out.extend_from_slice(b"glTF")?;
+    out.extend_from_slice(&word_of(2))?;
+    out.extend_from_slice(&word_of(total))?;
+    Ok(())
+}
+
+/// Adds a chunk, filled up to a multiple of four bytes.
+#[tactic(auto, using(crate::proofs::Lengths::length_padded))]
+pub(crate) fn put_chunk(
+    out: &mut Vec<u8>,
+    tag: [u8; 4],
+    contents: &[u8],
+    filler: u8,
+) -> Result<(), AllocError>
+    requires { length (padded filler contents.now) < 2 ^ 32 }
+    ensures { OnOk result (out.new.items ≡ out.old.items ++ chunk tag (padded filler contents.now)) }
+{
+    let padding = padding_of(contents);
+    let length = word_of((contents.len() + padding) as u32);
+    out.extend_from_slice(&length)?;
+    out.extend_from_slice(&tag)?;
+    out.extend_from_slice(contents)?;
+    out.extend_from_slice(&[filler; 3][..padding])?;
+    Ok(())
+}

@@ -1,0 +1,4 @@
+pub mod Named
+pub mod Answers
+pub mod Paths
+pub mod Sources

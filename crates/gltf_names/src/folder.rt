@@ -1,0 +1,94 @@
+//! Named bytes in files.
+ghost use Rattle.std.specs.Prelude.{◌≡◌, [], IfOk, IfSome, string_bytes};
+ghost use Rattle.gltf_names.specs.Named.{named};
+ghost use Rattle.gltf_names.specs.Paths.{path_of};
+ghost use Rattle.gltf_names.specs.Sources.{folder_failures};
+
+use crate::failures::Failures;
+use crate::name::{Name, NamedBytes, NamedFault};
+use std::alloc::{AllocError, Global};
+use std::fs::File;
+use std::io;
+use std::io::Read;
+use std::rt::Files;
+
+/// Files by name: [`Name::File`] as it stands, [`Name::Relative`] behind the base, but one that
+/// begins with `/` as it stands.
+#[derive(Drop)]
+pub struct Folder<'a, R: Files> {
+    rt: &'a R,
+    base: &'a str,
+    failures: Failures,
+}
+
+impl<'a, R: Files> Folder<'a, R> {
+    /// A folder whose relative names stand behind the base, as `models/`: no `/` is put between.
+    /// Takes no memory, and opens nothing.
+    pub fn new(rt: &'a R, base: &'a str) -> Folder<'a, R>
+        ensures { folder_failures result ≡ [] }
+    {
+        Folder {
+            rt,
+            base,
+            failures: Failures::new(),
+        }
+    }
+
+    fn find(&self, alloc: Global, name: &Name<'_>) -> Result<Vec<u8>, NamedFault> {
+        let path = path_of(alloc, self.base, name)?;
+        match File::open(self.rt, path.as_str()) {
+            Ok(mut file) => all_of(alloc, &mut file),
+            Err(cause) => Err(fault_of(cause)),
+        }
+    }
+}
+
+impl<'a, R: Files> NamedBytes for Folder<'a, R> {
+    ghost failures = { folder_failures };
+
+    fn read(&mut self, alloc: Global, name: Name<'_>) -> Result<Vec<u8>, NamedFault> {
+        match self.find(alloc, &name) {
+            Ok(bytes) => Ok(bytes),
+            Err(NamedFault::Memory) => Err(NamedFault::Memory),
+            Err(NamedFault::Io(cause)) => {
+                self.failures = self.failures.and(&name);
+                Err(NamedFault::Io(cause))
+            }
+        }
+    }
+}
+
+/// The path of the file that a name stands for.
+fn path_of(alloc: Global, base: &str, name: &Name<'_>) -> Result<String, AllocError>
+    ensures { IfOk result (λ path. string_bytes path ≡ path_of base.now (named name.now)) }
+{
+    match name {
+        Name::File(text) => String::from_str(alloc, text),
+        Name::Relative(text) => {
+            if text.starts_with('/') {
+                return String::from_str(alloc, text);
+            }
+            let mut path = String::from_str(alloc, base)?;
+            path.push_str(text)?;
+            Ok(path)
+        }
+    }
+}
+
+/// All that a reader still gives.
+fn all_of<R: Read>(alloc: Global, reader: &mut R) -> Result<Vec<u8>, NamedFault>
+    ensures { IfOk result (λ bytes. IfSome (R.remaining reader.old) (λ known. bytes.items ≡ known)) }
+{
+    let mut bytes = Vec::new(alloc);
+    match reader.read_to_end(&mut bytes) {
+        Ok(_) => Ok(bytes),
+        Err(cause) => Err(fault_of(cause)),
+    }
+}
+
+fn fault_of(cause: io::Error) -> NamedFault {
+    match cause.kind() {
+        io::ErrorKind::OutOfMemory => NamedFault::Memory,
+        _ => NamedFault::Io(cause),
+    }
+}

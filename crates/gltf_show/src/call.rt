@@ -1,0 +1,17 @@
+//! What the words on the command line ask for.
+
+/// A call of the program.
+pub(crate) enum Call<'w> {
+    /// `chunks PATH`: the header and the chunks of a GLB file.
+    Chunks(&'w str),
+}
+
+impl<'w> Call<'w> {
+    /// The call that the words make, or `None` where they make none.
+    pub(crate) fn of(words: &[&'w str]) -> Option<Call<'w>> {
+        match words {
+            [command, path] if *command == "chunks" => Some(Call::Chunks(*path)),
+            _ => None,
+        }
+    }
+}

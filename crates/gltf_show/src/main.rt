@@ -1,0 +1,41 @@
+//! Shows what a glTF file holds.
+#![tactic(auto)]
+
+mod call;
+mod chunks;
+mod refusal;
+mod run;
+
+pub use run::run;
+
+use gltf::Folder;
+use std::env;
+use std::process::ExitCode;
+
+fn main(rt: HostRuntime) -> std::io::Result<ExitCode> {
+    let alloc = rt.alloc();
+    let mut arguments = env::args(&rt)?;
+    let _program = arguments.next();
+    let arguments: Vec<String> = arguments.collect(alloc)?;
+    let mut words = Vec::new(alloc);
+    for word in &arguments {
+        words.push(word.as_str())?;
+    }
+    let mut folder = Folder::new(&rt, base_of(words.as_slice()));
+    let status = run(alloc, &mut folder, words.as_slice(), &mut rt.stdout(), &mut rt.stderr());
+    Ok(ExitCode::from(status))
+}
+
+/// The text of the path up to and with its last `/`.
+fn base_of<'w>(words: &[&'w str]) -> &'w str {
+    match words {
+        [_, path, ..] => match path.rsplit_once("/") {
+            Some((folders, _)) => &path[..folders.len() + 1],
+            None => "",
+        },
+        _ => "",
+    }
+}
+
+#[cfg(test)]
+mod tests;

@@ -1,0 +1,53 @@
+//! Why a call is not answered.
+use gltf::{Error, NamedFault};
+use std::fmt;
+use std::io;
+
+/// Why a call is not answered.
+#[derive(Debug, Drop)]
+pub(crate) enum Refusal {
+    /// The words make no call.
+    Usage,
+    /// The file is refused, or could not be read.
+    File(Error),
+    /// The answer could not be written.
+    Write(io::Error),
+}
+
+impl Refusal {
+    /// The exit status.
+    pub(crate) fn status(&self) -> u8 {
+        match self {
+            Refusal::Usage => 2,
+            Refusal::File(_) | Refusal::Write(_) => 1,
+        }
+    }
+}
+
+impl From<NamedFault> for Refusal {
+    fn from(fault: NamedFault) -> Refusal {
+        Refusal::File(match fault {
+            NamedFault::Io(cause) => Error::Io(cause),
+            NamedFault::Memory => Error::Memory,
+        })
+    }
+}
+
+impl From<Error> for Refusal {
+    fn from(error: Error) -> Refusal {
+        Refusal::File(error)
+    }
+}
+
+impl fmt::Display for Refusal {
+    fn fmt<W: fmt::Write>(&self, f: &mut fmt::Formatter<W>) -> fmt::Result {
+        match self {
+            Refusal::Usage => write!(
+                f,
+                "usage: gltf_show chunks PATH | check PATH | indices PATH MESH PRIMITIVE"
+            ),
+            Refusal::File(error) => write!(f, "{error}"),
+            Refusal::Write(cause) => write!(f, "{cause}"),
+        }
+    }
+}

@@ -1,0 +1,46 @@
+//! The engine of the program, over any source of named bytes and any two writers.
+use crate::call::Call;
+use crate::chunks::Chunks;
+use crate::refusal::Refusal;
+use gltf::{Glb, Name, NamedBytes};
+use std::alloc::Global;
+use std::io::Write;
+
+/// Answers the call that the words make, where the words are the arguments behind the program's name,
+/// and gives the exit status.
+///
+/// - 0: the answer stands on `out`.
+/// - 1: the file is refused, or a write failed; the reason stands on `err`.
+/// - 2: the words make no call; the usage stands on `err`.
+pub fn run<S: NamedBytes, O: Write, E: Write>(
+    alloc: Global,
+    source: &mut S,
+    words: &[&str],
+    out: &mut O,
+    err: &mut E,
+) -> u8 {
+    match answer(alloc, source, words, out) {
+        Ok(()) => 0,
+        Err(refusal) => {
+            // Where this write fails too, the status alone tells.
+            let _ = writeln!(err, "{refusal}");
+            refusal.status()
+        }
+    }
+}
+
+fn answer<S: NamedBytes, O: Write>(
+    alloc: Global,
+    source: &mut S,
+    words: &[&str],
+    out: &mut O,
+) -> Result<(), Refusal> {
+    match Call::of(words) {
+        Some(Call::Chunks(path)) => {
+            let bytes = source.read(alloc, Name::File(path))?;
+            let glb = Glb::from_slice(&bytes)?;
+            write!(out, "{}", Chunks(&glb)).map_err(Refusal::Write)
+        }
+        None => Err(Refusal::Usage),
+    }
+}

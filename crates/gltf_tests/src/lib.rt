@@ -1,0 +1,8 @@
+//! Tests of the loader's public calls, with expected values from the GLB part of the glTF 2.0
+//! specification and from this project's tables in `docs/FORMATS.md`.
+#![tactic(auto)]
+
+#[cfg(test)]
+mod container;
+#[cfg(test)]
+mod names;
