@@ -1,0 +1,4 @@
+pub mod Codes
+pub mod Buffers
+pub mod Accessors
+pub mod Meshes

@@ -1,0 +1,148 @@
+//! Accessors: typed items in the bytes of a view (glTF 2.0, section 3.6.2, "Accessors").
+pub mod sparse;
+
+use crate::accessor::sparse::Sparse;
+use gltf_json_record::error::Error;
+use gltf_json_record::extensions::Others;
+use gltf_json_record::extras::Extras;
+use gltf_json_record::index::Index;
+use gltf_json_record::kinds;
+use gltf_json_record::read::{FromValue, object, optional, or_default, required};
+use gltf_json_record::validation::{Checked, Code};
+use serde_json::Value;
+use std::alloc::{AllocError, Global};
+
+/// The type of each component of an item (glTF 2.0, section 5.1.3, `accessor.componentType`).
+#[derive(Clone, Copy, Debug, PartialEq, Eq)]
+pub enum ComponentType {
+    /// A signed number of one byte: the code 5120.
+    I8,
+    /// An unsigned number of one byte: the code 5121.
+    U8,
+    /// A signed number of two bytes: the code 5122.
+    I16,
+    /// An unsigned number of two bytes: the code 5123.
+    U16,
+    /// An unsigned number of four bytes: the code 5125.
+    U32,
+    /// A floating-point number of four bytes: the code 5126.
+    F32,
+}
+
+impl Code for ComponentType {
+    ghost use Rattle.gltf_json_geometry.specs.Codes.{component_type};
+
+    ghost reads = { component_type };
+
+    fn read(value: &Value) -> Option<Checked<ComponentType>> {
+        Some(match value.as_u64()? {
+            5120 => Checked::Valid(ComponentType::I8),
+            5121 => Checked::Valid(ComponentType::U8),
+            5122 => Checked::Valid(ComponentType::I16),
+            5123 => Checked::Valid(ComponentType::U16),
+            5125 => Checked::Valid(ComponentType::U32),
+            5126 => Checked::Valid(ComponentType::F32),
+            _ => Checked::Invalid,
+        })
+    }
+}
+
+/// The components of an item (glTF 2.0, section 5.1.6, `accessor.type`).
+#[derive(Clone, Copy, Debug, PartialEq, Eq)]
+pub enum Type {
+    /// One component: `SCALAR`.
+    Scalar,
+    /// Two: `VEC2`.
+    Vec2,
+    /// Three: `VEC3`.
+    Vec3,
+    /// Four: `VEC4`.
+    Vec4,
+    /// Two columns of two: `MAT2`.
+    Mat2,
+    /// Three columns of three: `MAT3`.
+    Mat3,
+    /// Four columns of four: `MAT4`.
+    Mat4,
+}
+
+impl Code for Type {
+    ghost use Rattle.gltf_json_geometry.specs.Codes.{dimensions};
+
+    ghost reads = { dimensions };
+
+    fn read(value: &Value) -> Option<Checked<Type>> {
+        Some(match value.as_str()? {
+            "SCALAR" => Checked::Valid(Type::Scalar),
+            "VEC2" => Checked::Valid(Type::Vec2),
+            "VEC3" => Checked::Valid(Type::Vec3),
+            "VEC4" => Checked::Valid(Type::Vec4),
+            "MAT2" => Checked::Valid(Type::Mat2),
+            "MAT3" => Checked::Valid(Type::Mat3),
+            "MAT4" => Checked::Valid(Type::Mat4),
+            _ => Checked::Invalid,
+        })
+    }
+}
+
+/// A typed view into the bytes of a buffer view (glTF 2.0, section 5.1, "Accessor").
+#[derive(Clone, Debug, Drop)]
+pub struct Accessor {
+    /// The view that the items stand in: `bufferView`.
+    pub buffer_view: Option<Index<kinds::View>>,
+    /// The distance in bytes from the start of the view to the first item: `byteOffset`. It stands for 0
+    /// where absent.
+    pub byte_offset: Option<u64>,
+    /// The type of each component: `componentType`.
+    pub component_type: Checked<ComponentType>,
+    /// Whether whole numbers stand for fractions: `normalized`, false where absent.
+    pub normalized: bool,
+    /// The number of items: `count`.
+    pub count: u64,
+    /// The components of an item: `type`.
+    pub type_: Checked<Type>,
+    /// The greatest value of each component, as it stands: `max`.
+    pub max: Option<Value>,
+    /// The least value of each component, as it stands: `min`.
+    pub min: Option<Value>,
+    /// The items that differ from those of the view: `sparse`.
+    pub sparse: Option<Sparse>,
+    /// A name given by the user: `name`.
+    pub name: Option<String>,
+    /// The extensions: `extensions`. None is known here.
+    pub extensions: Option<Others>,
+    /// What the application stores here: `extras`.
+    pub extras: Extras,
+}
+
+impl Accessor {
+    /// A copy of the record.
+    pub fn clone(&self, _alloc: Global) -> Result<Accessor, AllocError> {
+        Clone::clone(self)
+    }
+}
+
+impl FromValue for Accessor {
+    ghost use Rattle.gltf_json_geometry.specs.Accessors.{accessor};
+
+    ghost kind = { accessor };
+
+    #[tactic(auto, unfolding(crate::specs::Accessors::accessor))]
+    fn from_value(alloc: Global, value: &Value) -> Result<Accessor, Error> {
+        object(alloc, value)?;
+        Ok(Accessor {
+            buffer_view: optional(alloc, value, "bufferView")?,
+            byte_offset: optional(alloc, value, "byteOffset")?,
+            component_type: required(alloc, value, "componentType")?,
+            normalized: or_default(alloc, value, "normalized", false)?,
+            count: required(alloc, value, "count")?,
+            type_: required(alloc, value, "type")?,
+            max: optional(alloc, value, "max")?,
+            min: optional(alloc, value, "min")?,
+            sparse: optional(alloc, value, "sparse")?,
+            name: optional(alloc, value, "name")?,
+            extensions: optional(alloc, value, "extensions")?,
+            extras: optional(alloc, value, "extras")?,
+        })
+    }
+}

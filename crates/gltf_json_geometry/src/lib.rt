@@ -1,0 +1,7 @@
+//! Records of the data of a glTF document: accessors, buffers and meshes.
+#![tactic(auto)]
+
+pub mod accessor;
+pub mod buffer;
+pub mod extensions;
+pub mod mesh;

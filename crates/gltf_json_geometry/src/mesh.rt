@@ -1,0 +1,167 @@
+//! Meshes and their primitives (glTF 2.0, section 3.7, "Geometry").
+use crate::extensions;
+use gltf_json_record::error::Error;
+use gltf_json_record::extensions::Others;
+use gltf_json_record::extras::Extras;
+use gltf_json_record::index::Index;
+use gltf_json_record::kinds;
+use gltf_json_record::lists::list_or_empty;
+use gltf_json_record::read::{FromValue, object, optional, or_default, required};
+use gltf_json_record::validation::{Checked, Code};
+use serde_json::Value;
+use std::alloc::{AllocError, Global};
+
+/// How vertices are joined (glTF 2.0, section 5.24.4, `mesh.primitive.mode`).
+#[derive(Clone, Copy, Debug, PartialEq, Eq)]
+pub enum Mode {
+    /// The code 0.
+    Points,
+    /// The code 1.
+    Lines,
+    /// The code 2.
+    LineLoop,
+    /// The code 3.
+    LineStrip,
+    /// The code 4, which stands where the member is absent.
+    Triangles,
+    /// The code 5.
+    TriangleStrip,
+    /// The code 6.
+    TriangleFan,
+}
+
+impl Code for Mode {
+    ghost use Rattle.gltf_json_geometry.specs.Codes.{mode};
+
+    ghost reads = { mode };
+
+    fn read(value: &Value) -> Option<Checked<Mode>> {
+        Some(match value.as_u64()? {
+            0 => Checked::Valid(Mode::Points),
+            1 => Checked::Valid(Mode::Lines),
+            2 => Checked::Valid(Mode::LineLoop),
+            3 => Checked::Valid(Mode::LineStrip),
+            4 => Checked::Valid(Mode::Triangles),
+            5 => Checked::Valid(Mode::TriangleStrip),
+            6 => Checked::Valid(Mode::TriangleFan),
+            _ => Checked::Invalid,
+        })
+    }
+}
+
+/// What a morph target adds to the vertices of a primitive (glTF 2.0, section 3.7.2.2, "Morph Targets").
+#[derive(Clone, Debug, Drop)]
+pub struct MorphTarget {
+    /// What is added to positions: `POSITION`.
+    pub positions: Option<Index<kinds::Accessor>>,
+    /// What is added to normals: `NORMAL`.
+    pub normals: Option<Index<kinds::Accessor>>,
+    /// What is added to tangents: `TANGENT`.
+    pub tangents: Option<Index<kinds::Accessor>>,
+}
+
+impl MorphTarget {
+    /// A copy of the record.
+    pub fn clone(&self, _alloc: Global) -> Result<MorphTarget, AllocError> {
+        Clone::clone(self)
+    }
+}
+
+impl FromValue for MorphTarget {
+    ghost use Rattle.gltf_json_geometry.specs.Meshes.{morph_target};
+
+    ghost kind = { morph_target };
+
+    #[tactic(auto, unfolding(crate::specs::Meshes::morph_target))]
+    fn from_value(alloc: Global, value: &Value) -> Result<MorphTarget, Error> {
+        object(alloc, value)?;
+        Ok(MorphTarget {
+            positions: optional(alloc, value, "POSITION")?,
+            normals: optional(alloc, value, "NORMAL")?,
+            tangents: optional(alloc, value, "TANGENT")?,
+        })
+    }
+}
+
+/// Geometry to be drawn with one material (glTF 2.0, section 5.24, "Mesh Primitive").
+#[derive(Clone, Debug, Drop)]
+pub struct Primitive {
+    /// The accessor of the vertex indices: `indices`.
+    pub indices: Option<Index<kinds::Accessor>>,
+    /// The material: `material`.
+    pub material: Option<Index<kinds::Material>>,
+    /// How vertices are joined: `mode`, triangles where absent.
+    pub mode: Checked<Mode>,
+    /// The morph targets: `targets`, empty where absent.
+    pub targets: Vec<MorphTarget>,
+    /// The extensions: `extensions`.
+    pub extensions: Option<extensions::mesh::Primitive>,
+    /// What the application stores here: `extras`.
+    pub extras: Extras,
+}
+
+impl Primitive {
+    /// A copy of the record.
+    pub fn clone(&self, _alloc: Global) -> Result<Primitive, AllocError> {
+        Clone::clone(self)
+    }
+}
+
+impl FromValue for Primitive {
+    ghost use Rattle.gltf_json_geometry.specs.Meshes.{primitive};
+
+    ghost kind = { primitive };
+
+    #[tactic(auto, unfolding(crate::specs::Meshes::primitive))]
+    fn from_value(alloc: Global, value: &Value) -> Result<Primitive, Error> {
+        object(alloc, value)?;
+        Ok(Primitive {
+            indices: optional(alloc, value, "indices")?,
+            material: optional(alloc, value, "material")?,
+            mode: or_default(alloc, value, "mode", Checked::Valid(Mode::Triangles))?,
+            targets: list_or_empty(alloc, value, "targets")?,
+            extensions: optional(alloc, value, "extensions")?,
+            extras: optional(alloc, value, "extras")?,
+        })
+    }
+}
+
+/// A set of primitives (glTF 2.0, section 5.23, "Mesh").
+#[derive(Clone, Debug, Drop)]
+pub struct Mesh {
+    /// The primitives: `primitives`.
+    pub primitives: Vec<Primitive>,
+    /// The weights of the morph targets, as they stand: `weights`.
+    pub weights: Option<Value>,
+    /// A name given by the user: `name`.
+    pub name: Option<String>,
+    /// The extensions: `extensions`. None is known here.
+    pub extensions: Option<Others>,
+    /// What the application stores here: `extras`.
+    pub extras: Extras,
+}
+
+impl Mesh {
+    /// A copy of the record.
+    pub fn clone(&self, _alloc: Global) -> Result<Mesh, AllocError> {
+        Clone::clone(self)
+    }
+}
+
+impl FromValue for Mesh {
+    ghost use Rattle.gltf_json_geometry.specs.Meshes.{mesh};
+
+    ghost kind = { mesh };
+
+    #[tactic(auto, unfolding(crate::specs::Meshes::mesh))]
+    fn from_value(alloc: Global, value: &Value) -> Result<Mesh, Error> {
+        object(alloc, value)?;
+        Ok(Mesh {
+            primitives: required(alloc, value, "primitives")?,
+            weights: optional(alloc, value, "weights")?,
+            name: optional(alloc, value, "name")?,
+            extensions: optional(alloc, value, "extensions")?,
+            extras: optional(alloc, value, "extras")?,
+        })
+    }
+}
