@@ -5,6 +5,10 @@ use Rattle.gltf_names.specs.declared.shelf.Shelf.{Shelf}
 use Rattle.gltf_names.specs.declared.folder.Folder.{Folder}
 use Rattle.gltf_names.specs.Named.{Named, File, Relative}
 
+-- the text that a folder puts before relative references
+abbrev pub folder_base : {R F D : Type 0} → Folder R F D → List ℕ
+folder_base folder = folder.base.now
+
 -- the names whose reads failed, the last of them first
 abbrev pub folder_failures : {R F D : Type 0} → Folder R F D → List Named
 folder_failures folder = folder.failures.names

@@ -2,7 +2,7 @@
 ghost use Rattle.std.specs.Prelude.{◌≡◌, [], IfOk, IfSome, string_bytes};
 ghost use Rattle.gltf_names.specs.Named.{named};
 ghost use Rattle.gltf_names.specs.Paths.{path_of};
-ghost use Rattle.gltf_names.specs.Sources.{folder_failures};
+ghost use Rattle.gltf_names.specs.Sources.{folder_base, folder_failures};
 
 use crate::failures::Failures;
 use crate::name::{Name, NamedBytes, NamedFault};
@@ -25,7 +25,8 @@ impl<'a, R: Files> Folder<'a, R> {
     /// A folder whose relative names stand behind the base, as `models/`: no `/` is put between.
     /// Takes no memory, and opens nothing.
     pub fn new(rt: &'a R, base: &'a str) -> Folder<'a, R>
-        ensures { folder_failures result ≡ [] }
+        ensures base { folder_base result ≡ base.now }
+        ensures failures { folder_failures result ≡ [] }
     {
         Folder {
             rt,
