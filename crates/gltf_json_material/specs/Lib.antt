@@ -1,0 +1,4 @@
+pub mod Codes
+pub mod Textures
+pub mod MaterialExtensions
+pub mod Materials
