@@ -1,0 +1,4 @@
+//! Animations, read from JSON.
+#![tactic(auto)]
+
+pub mod animation;
