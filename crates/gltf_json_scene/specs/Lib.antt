@@ -1,0 +1,9 @@
+pub mod Codes
+pub mod Assets
+pub mod Cameras
+pub mod Images
+pub mod Lights
+pub mod Variants
+pub mod Scenes
+pub mod Skins
+pub mod Textures

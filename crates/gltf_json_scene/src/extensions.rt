@@ -1,0 +1,2 @@
+//! What the extensions add to the records.
+pub mod scene;

@@ -1,0 +1,112 @@
+//! The lights of a document (`KHR_lights_punctual`).
+use gltf_json_record::error::Error;
+use gltf_json_record::extras::Extras;
+use gltf_json_record::read::{FromValue, object, optional, required};
+use gltf_json_record::validation::{Checked, Code};
+use serde_json::Value;
+use std::alloc::{AllocError, Global};
+
+/// How a light shines (`KHR_lights_punctual`, "Light Types").
+#[derive(Clone, Copy, Debug, PartialEq, Eq)]
+pub enum Type {
+    /// From infinitely far, in the direction -z of its node: the code `directional`.
+    Directional,
+    /// From its node, in all directions: the code `point`.
+    Point,
+    /// From its node, in a cone round -z: the code `spot`.
+    Spot,
+}
+
+impl Code for Type {
+    ghost use Rattle.gltf_json_scene.specs.Codes.{light_type};
+
+    ghost reads = { light_type };
+
+    fn read(value: &Value) -> Option<Checked<Type>> {
+        Some(match value.as_str()? {
+            "directional" => Checked::Valid(Type::Directional),
+            "point" => Checked::Valid(Type::Point),
+            "spot" => Checked::Valid(Type::Spot),
+            _ => Checked::Invalid,
+        })
+    }
+}
+
+/// The cone of a spot light (`KHR_lights_punctual`, "Spot"). Its numbers are kept as they stand, of any
+/// kind.
+#[derive(Clone, Debug, Drop)]
+pub struct Spot {
+    /// The angle, in radians from the cone's axis, at which the light begins to fade: `innerConeAngle`.
+    pub inner_cone_angle: Option<Value>,
+    /// The angle, in radians from the cone's axis, at which the light ends: `outerConeAngle`.
+    pub outer_cone_angle: Option<Value>,
+}
+
+impl Spot {
+    /// A copy of the record.
+    pub fn clone(&self, _alloc: Global) -> Result<Spot, AllocError> {
+        Clone::clone(self)
+    }
+}
+
+impl FromValue for Spot {
+    ghost use Rattle.gltf_json_scene.specs.Lights.{spot};
+
+    ghost kind = { spot };
+
+    #[tactic(auto, unfolding(crate::specs::Lights::spot))]
+    fn from_value(alloc: Global, value: &Value) -> Result<Spot, Error> {
+        object(alloc, value)?;
+        Ok(Spot {
+            inner_cone_angle: optional(alloc, value, "innerConeAngle")?,
+            outer_cone_angle: optional(alloc, value, "outerConeAngle")?,
+        })
+    }
+}
+
+/// A light (`KHR_lights_punctual`, "Light Shared Properties"). Its numbers are kept as they stand, of any
+/// kind.
+#[derive(Clone, Debug, Drop)]
+pub struct Light {
+    /// The colour, as linear red, green and blue: `color`.
+    pub color: Option<Value>,
+    /// The brightness, in candela for point and spot lights and in lux for directional ones: `intensity`.
+    pub intensity: Option<Value>,
+    /// The distance at which the light ends: `range`.
+    pub range: Option<Value>,
+    /// How the light shines: `type`.
+    pub type_: Checked<Type>,
+    /// The cone of a spot light: `spot`.
+    pub spot: Option<Spot>,
+    /// A name given by the user: `name`.
+    pub name: Option<String>,
+    /// What the application stores here: `extras`.
+    pub extras: Extras,
+}
+
+impl Light {
+    /// A copy of the record.
+    pub fn clone(&self, _alloc: Global) -> Result<Light, AllocError> {
+        Clone::clone(self)
+    }
+}
+
+impl FromValue for Light {
+    ghost use Rattle.gltf_json_scene.specs.Lights.{light};
+
+    ghost kind = { light };
+
+    #[tactic(auto, unfolding(crate::specs::Lights::light))]
+    fn from_value(alloc: Global, value: &Value) -> Result<Light, Error> {
+        object(alloc, value)?;
+        Ok(Light {
+            color: optional(alloc, value, "color")?,
+            intensity: optional(alloc, value, "intensity")?,
+            range: optional(alloc, value, "range")?,
+            type_: required(alloc, value, "type")?,
+            spot: optional(alloc, value, "spot")?,
+            name: optional(alloc, value, "name")?,
+            extras: optional(alloc, value, "extras")?,
+        })
+    }
+}

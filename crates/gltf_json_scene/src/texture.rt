@@ -1,0 +1,182 @@
+//! Textures, and how they are sampled (glTF 2.0, section 3.8, "Texture Data").
+use gltf_json_record::error::Error;
+use gltf_json_record::extensions::Others;
+use gltf_json_record::extras::Extras;
+use gltf_json_record::index::Index;
+use gltf_json_record::kinds;
+use gltf_json_record::read::{FromValue, object, optional, or_default, required};
+use gltf_json_record::validation::{Checked, Code};
+use serde_json::Value;
+use std::alloc::{AllocError, Global};
+
+/// How a texture is enlarged (glTF 2.0, section 5.26.1, `sampler.magFilter`).
+#[derive(Clone, Copy, Debug, PartialEq, Eq)]
+pub enum MagFilter {
+    /// The nearest texel: the code 9728.
+    Nearest,
+    /// A mean of the texels around: the code 9729.
+    Linear,
+}
+
+impl Code for MagFilter {
+    ghost use Rattle.gltf_json_scene.specs.Codes.{mag_filter};
+
+    ghost reads = { mag_filter };
+
+    fn read(value: &Value) -> Option<Checked<MagFilter>> {
+        Some(match value.as_u64()? {
+            9728 => Checked::Valid(MagFilter::Nearest),
+            9729 => Checked::Valid(MagFilter::Linear),
+            _ => Checked::Invalid,
+        })
+    }
+}
+
+/// How a texture is made smaller (glTF 2.0, section 5.26.2, `sampler.minFilter`).
+#[derive(Clone, Copy, Debug, PartialEq, Eq)]
+pub enum MinFilter {
+    /// The nearest texel: the code 9728.
+    Nearest,
+    /// A mean of the texels around: the code 9729.
+    Linear,
+    /// The nearest texel of the nearest mipmap: the code 9984.
+    NearestMipmapNearest,
+    /// A mean of the texels around, in the nearest mipmap: the code 9985.
+    LinearMipmapNearest,
+    /// A mean of the nearest texels of two mipmaps: the code 9986.
+    NearestMipmapLinear,
+    /// A mean of the texels around, in two mipmaps: the code 9987.
+    LinearMipmapLinear,
+}
+
+impl Code for MinFilter {
+    ghost use Rattle.gltf_json_scene.specs.Codes.{min_filter};
+
+    ghost reads = { min_filter };
+
+    fn read(value: &Value) -> Option<Checked<MinFilter>> {
+        Some(match value.as_u64()? {
+            9728 => Checked::Valid(MinFilter::Nearest),
+            9729 => Checked::Valid(MinFilter::Linear),
+            9984 => Checked::Valid(MinFilter::NearestMipmapNearest),
+            9985 => Checked::Valid(MinFilter::LinearMipmapNearest),
+            9986 => Checked::Valid(MinFilter::NearestMipmapLinear),
+            9987 => Checked::Valid(MinFilter::LinearMipmapLinear),
+            _ => Checked::Invalid,
+        })
+    }
+}
+
+/// What stands beyond the edge of a texture (glTF 2.0, sections 5.26.3 and 5.26.4, `sampler.wrapS` and
+/// `sampler.wrapT`).
+#[derive(Clone, Copy, Debug, PartialEq, Eq)]
+pub enum WrappingMode {
+    /// The texels of the edge: the code 33071.
+    ClampToEdge,
+    /// The texture, mirrored at every other turn: the code 33648.
+    MirroredRepeat,
+    /// The texture once more: the code 10497.
+    Repeat,
+}
+
+impl Code for WrappingMode {
+    ghost use Rattle.gltf_json_scene.specs.Codes.{wrapping_mode};
+
+    ghost reads = { wrapping_mode };
+
+    fn read(value: &Value) -> Option<Checked<WrappingMode>> {
+        Some(match value.as_u64()? {
+            33071 => Checked::Valid(WrappingMode::ClampToEdge),
+            33648 => Checked::Valid(WrappingMode::MirroredRepeat),
+            10497 => Checked::Valid(WrappingMode::Repeat),
+            _ => Checked::Invalid,
+        })
+    }
+}
+
+/// How a texture is sampled (glTF 2.0, section 5.26, "Sampler").
+#[derive(Clone, Debug, Drop)]
+pub struct Sampler {
+    /// How a texture is enlarged: `magFilter`.
+    pub mag_filter: Option<Checked<MagFilter>>,
+    /// How a texture is made smaller: `minFilter`.
+    pub min_filter: Option<Checked<MinFilter>>,
+    /// What stands beyond the left and right edges: `wrapS`. `Repeat` where absent.
+    pub wrap_s: Checked<WrappingMode>,
+    /// What stands beyond the upper and lower edges: `wrapT`. `Repeat` where absent.
+    pub wrap_t: Checked<WrappingMode>,
+    /// A name given by the user: `name`.
+    pub name: Option<String>,
+    /// The extensions: `extensions`. None is known here.
+    pub extensions: Option<Others>,
+    /// What the application stores here: `extras`.
+    pub extras: Extras,
+}
+
+impl Sampler {
+    /// A copy of the record.
+    pub fn clone(&self, _alloc: Global) -> Result<Sampler, AllocError> {
+        Clone::clone(self)
+    }
+}
+
+impl FromValue for Sampler {
+    ghost use Rattle.gltf_json_scene.specs.Textures.{sampler};
+
+    ghost kind = { sampler };
+
+    #[tactic(auto, unfolding(crate::specs::Textures::sampler))]
+    fn from_value(alloc: Global, value: &Value) -> Result<Sampler, Error> {
+        let repeat = Checked::Valid(WrappingMode::Repeat);
+        object(alloc, value)?;
+        Ok(Sampler {
+            mag_filter: optional(alloc, value, "magFilter")?,
+            min_filter: optional(alloc, value, "minFilter")?,
+            wrap_s: or_default(alloc, value, "wrapS", repeat)?,
+            wrap_t: or_default(alloc, value, "wrapT", repeat)?,
+            name: optional(alloc, value, "name")?,
+            extensions: optional(alloc, value, "extensions")?,
+            extras: optional(alloc, value, "extras")?,
+        })
+    }
+}
+
+/// An image, and how it is sampled (glTF 2.0, section 5.29, "Texture").
+#[derive(Clone, Debug, Drop)]
+pub struct Texture {
+    /// How the texture is sampled: `sampler`. A sampler with no members stands for it where absent.
+    pub sampler: Option<Index<kinds::Sampler>>,
+    /// The image: `source`. A texture without it is refused.
+    pub source: Index<kinds::Image>,
+    /// A name given by the user: `name`.
+    pub name: Option<String>,
+    /// The extensions: `extensions`. None is known here.
+    pub extensions: Option<Others>,
+    /// What the application stores here: `extras`.
+    pub extras: Extras,
+}
+
+impl Texture {
+    /// A copy of the record.
+    pub fn clone(&self, _alloc: Global) -> Result<Texture, AllocError> {
+        Clone::clone(self)
+    }
+}
+
+impl FromValue for Texture {
+    ghost use Rattle.gltf_json_scene.specs.Textures.{texture};
+
+    ghost kind = { texture };
+
+    #[tactic(auto, unfolding(crate::specs::Textures::texture))]
+    fn from_value(alloc: Global, value: &Value) -> Result<Texture, Error> {
+        object(alloc, value)?;
+        Ok(Texture {
+            sampler: optional(alloc, value, "sampler")?,
+            source: required(alloc, value, "source")?,
+            name: optional(alloc, value, "name")?,
+            extensions: optional(alloc, value, "extensions")?,
+            extras: optional(alloc, value, "extras")?,
+        })
+    }
+}
