@@ -8,9 +8,9 @@ use Rattle.gltf_json_scene.specs.declared.asset.Asset.{Asset}
 
 unfoldable pub asset : Kind Asset
 asset = table
-  ( required (codes "version") (λ r. r.version) text
-  & optional (codes "generator") (λ r. r.generator) text
-  & optional (codes "copyright") (λ r. r.copyright) text
-  & optional (codes "minVersion") (λ r. r.min_version) text
-  & optional (codes "extensions") (λ r. r.extensions) others_only
-  & optional (codes "extras") (λ r. r.extras) any )
+    (required (codes "version") (λ r. r.version) text
+    & optional (codes "generator") (λ r. r.generator) text
+    & optional (codes "copyright") (λ r. r.copyright) text
+    & optional (codes "minVersion") (λ r. r.min_version) text
+    & optional (codes "extensions") (λ r. r.extensions) others_only
+    & optional (codes "extras") (λ r. r.extras) any)

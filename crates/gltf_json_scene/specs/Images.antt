@@ -8,9 +8,9 @@ use Rattle.gltf_json_scene.specs.declared.image.Image.{Image}
 
 unfoldable pub image : Kind Image
 image = table
-  ( optional (codes "bufferView") (λ r. r.buffer_view) index
-  & optional (codes "mimeType") (λ r. r.mime_type) text
-  & optional (codes "uri") (λ r. r.uri) text
-  & optional (codes "name") (λ r. r.name) text
-  & optional (codes "extensions") (λ r. r.extensions) others_only
-  & optional (codes "extras") (λ r. r.extras) any )
+    (optional (codes "bufferView") (λ r. r.buffer_view) index
+    & optional (codes "mimeType") (λ r. r.mime_type) text
+    & optional (codes "uri") (λ r. r.uri) text
+    & optional (codes "name") (λ r. r.name) text
+    & optional (codes "extensions") (λ r. r.extensions) others_only
+    & optional (codes "extras") (λ r. r.extras) any)

@@ -9,9 +9,9 @@ use Rattle.gltf_json_scene.specs.declared.skin.Skin.{Skin}
 
 unfoldable pub skin : Kind Skin
 skin = table
-  ( optional (codes "inverseBindMatrices") (λ r. r.inverse_bind_matrices) index
-  & required (codes "joints") (λ r. r.joints) (list index)
-  & optional (codes "skeleton") (λ r. r.skeleton) index
-  & optional (codes "name") (λ r. r.name) text
-  & optional (codes "extensions") (λ r. r.extensions) others_only
-  & optional (codes "extras") (λ r. r.extras) any )
+    (optional (codes "inverseBindMatrices") (λ r. r.inverse_bind_matrices) index
+    & required (codes "joints") (λ r. r.joints) (list index)
+    & optional (codes "skeleton") (λ r. r.skeleton) index
+    & optional (codes "name") (λ r. r.name) text
+    & optional (codes "extensions") (λ r. r.extensions) others_only
+    & optional (codes "extras") (λ r. r.extras) any)

@@ -12,18 +12,18 @@ use Rattle.gltf_json_scene.specs.declared.texture.WrappingMode.TheVariants.{Repe
 
 unfoldable pub sampler : Kind Sampler
 sampler = table
-  ( optional (codes "magFilter") (λ r. r.mag_filter) (code mag_filter)
-  & optional (codes "minFilter") (λ r. r.min_filter) (code min_filter)
-  & defaulted (codes "wrapS") (λ r. r.wrap_s) (Valid Repeat) (code wrapping_mode)
-  & defaulted (codes "wrapT") (λ r. r.wrap_t) (Valid Repeat) (code wrapping_mode)
-  & optional (codes "name") (λ r. r.name) text
-  & optional (codes "extensions") (λ r. r.extensions) others_only
-  & optional (codes "extras") (λ r. r.extras) any )
+    (optional (codes "magFilter") (λ r. r.mag_filter) (code mag_filter)
+    & optional (codes "minFilter") (λ r. r.min_filter) (code min_filter)
+    & defaulted (codes "wrapS") (λ r. r.wrap_s) (Valid Repeat) (code wrapping_mode)
+    & defaulted (codes "wrapT") (λ r. r.wrap_t) (Valid Repeat) (code wrapping_mode)
+    & optional (codes "name") (λ r. r.name) text
+    & optional (codes "extensions") (λ r. r.extensions) others_only
+    & optional (codes "extras") (λ r. r.extras) any)
 
 unfoldable pub texture : Kind Texture
 texture = table
-  ( optional (codes "sampler") (λ r. r.sampler) index
-  & required (codes "source") (λ r. r.source) index
-  & optional (codes "name") (λ r. r.name) text
-  & optional (codes "extensions") (λ r. r.extensions) others_only
-  & optional (codes "extras") (λ r. r.extras) any )
+    (optional (codes "sampler") (λ r. r.sampler) index
+    & required (codes "source") (λ r. r.source) index
+    & optional (codes "name") (λ r. r.name) text
+    & optional (codes "extensions") (λ r. r.extensions) others_only
+    & optional (codes "extras") (λ r. r.extras) any)

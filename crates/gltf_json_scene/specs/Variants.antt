@@ -7,4 +7,4 @@ use Rattle.gltf_json_scene.specs.declared.extensions.scene.khr_materials_variant
 
 unfoldable pub variant : Kind Variant
 variant = table
-  ( required (codes "name") (λ r. r.name) text )
+    (required (codes "name") (λ r. r.name) text)
