@@ -1,0 +1,4 @@
+pub mod Prefixes
+pub mod Cuts
+pub mod Firsts
+pub mod Texts

@@ -1,0 +1,3 @@
+pub mod Uri
+pub mod Meanings
+pub mod Laws
