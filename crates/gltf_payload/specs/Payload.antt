@@ -1,0 +1,28 @@
+-- The bytes that a payload spells (glTF 2.0, section 2.8; RFC 4648, section 4).
+use Rattle.std.specs.Prelude.{◌≡◌, ℕ, ◌%◌, ◌==◌, List, ◌++◌, length, replicate, Result, Err, if◌then◌else◌, ⊤}
+use Rattle.base64.specs.GeneralPurpose.{decode_of}
+use Rattle.base64.specs.Engines.{standard}
+use Rattle.base64.specs.declared.decode.DecodeError.{DecodeError}
+use Rattle.base64.specs.declared.decode.DecodeAllocError.{DecodeAllocError}
+use Rattle.base64.specs.declared.decode.DecodeAllocError.TheVariants.{DecodeError as Failed, OutOfMemory}
+
+-- `=`
+abbrev pub padding_sign : ℕ
+padding_sign = 61
+
+-- how many `=` are put behind a text of n bytes
+abbrev pub missing : ℕ → ℕ
+missing n = if n % 4 == 2 then 2 else if n % 4 == 3 then 1 else 0
+
+-- the text with these behind it
+abbrev pub completed : List ℕ → List ℕ
+completed text = text ++ replicate (missing (length text)) padding_sign
+
+-- the bytes that it spells then, or the fault
+unfoldable pub payload_bytes : List ℕ → Result (List ℕ) DecodeError
+payload_bytes text = decode_of standard (completed text)
+
+-- what an error says of the payload
+abbrev pub IsFailure : List ℕ → DecodeAllocError → Type 0
+IsFailure text (Failed fault) = payload_bytes text ≡ Err fault
+IsFailure text OutOfMemory = ⊤
