@@ -8,8 +8,11 @@ use crate::item_iter::ItemIter;
 /// "accessor.sparse.indices"). Each is given as a `u32`.
 #[derive(Clone, Debug, Drop)]
 pub enum SparseIndicesIter<'a> {
+    /// Indices of one byte.
     U8(ItemIter<'a, u8>),
+    /// Indices of two bytes.
     U16(ItemIter<'a, u16>),
+    /// Indices of four bytes.
     U32(ItemIter<'a, u32>),
 }
 

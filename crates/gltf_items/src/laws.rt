@@ -1,5 +1,5 @@
-//! Laws of the definitions that the contracts of this crate name. Each function's contract is the law, and its body
-//! does nothing.
+//! Laws of the definitions that the contracts of this crate name. Each function's contract is the law. It needs no
+//! body, but for the equality, which is asked there.
 
 ghost use Rattle.std.specs.Prelude.{◌≡◌, ℕ, ◌+◌, ◌*◌, ◌<◌, ◌≤◌, ◌↔◌, IsTrue, List, Option, length, drop, slice_get, SomeIff};
 ghost use Rattle.gltf_items.specs.Plain.{plain};

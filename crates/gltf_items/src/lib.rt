@@ -3,6 +3,7 @@
 #![tactic(auto)]
 
 mod count;
+mod cursor;
 mod indices;
 mod item;
 mod item_iter;

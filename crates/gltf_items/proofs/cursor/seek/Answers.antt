@@ -2,7 +2,7 @@ use Rattle.std.proofs.Common.{◌≡◌, ◌+◌, ◌-◌, ◌/◌, ◌<◌, ◌
 use Rattle.std.specs.Prelude.{slice_index}
 use Rattle.gltf_items.specs.Stored.{StoredLists}
 use Rattle.gltf_items.proofs.Cursors.{digits_fall, below_middle, above_middle}
-use Rattle.gltf_items.proofs.sparse.seek.Goals as goal
+use Rattle.gltf_items.proofs.cursor.seek.Goals as goal
 
 pub loop-low-preserved-then-index-target : goal.loop-low-preserved-then-index-target
 loop-low-preserved-then-index-target g c =

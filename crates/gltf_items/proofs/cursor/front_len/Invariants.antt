@@ -1,7 +1,7 @@
 use Rattle.std.proofs.Common.{◌≡◌, ◌+◌, ◌-◌, ◌^◌, ◌≤◌, length}
 use Rattle.gltf_items.specs.Sparse.{front}
 use Rattle.gltf_items.proofs.Fronts.{ahead}
-use Rattle.gltf_items.proofs.sparse.front_len.Given as goal
+use Rattle.gltf_items.proofs.cursor.front_len.Given as goal
 
 abbrev pub invariant-loop-front : goal.invariant-loop-front
 invariant-loop-front g l = record {

@@ -5,7 +5,7 @@ use Rattle.gltf_items.specs.Sparse.{under}
 use Rattle.gltf_items.proofs.Fronts.{length-front, front_rises}
 use Rattle.gltf_items.proofs.Overridden.{item_at_value, item_at_base}
 use Rattle.gltf_items.proofs.Cursors.{others_miss, stands_behind_hit, stands_behind_miss}
-use Rattle.gltf_items.proofs.sparse.item_at.Goals as goal
+use Rattle.gltf_items.proofs.cursor.item_at.Goals as goal
 
 pub is_here-requires : goal.is_here-requires
 is_here-requires g c = omega (arith, c.requires.front, (length-front c.args.stored.now.indices c.args.stored.now.values).0)

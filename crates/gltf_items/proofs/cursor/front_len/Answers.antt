@@ -2,7 +2,7 @@ use Rattle.std.proofs.Common.{◌≡◌, ℕ, List, ap, ◌∙◌, arith, rules}
 use Rattle.std.specs.Prelude.{slice_index}
 use Rattle.gltf_items.specs.Stored.{StoredLists}
 use Rattle.gltf_items.proofs.Fronts.{ahead_all, ahead_more, ahead_none, ahead_end}
-use Rattle.gltf_items.proofs.sparse.front_len.Goals as goal
+use Rattle.gltf_items.proofs.cursor.front_len.Goals as goal
 
 pub loop-front-init : goal.loop-front-init
 loop-front-init g c = record {
