@@ -1,0 +1,44 @@
+//! Documents, read from JSON values and from JSON text.
+ghost use Rattle.std.specs.Prelude.{◌≡◌, ◌≢◌, IfOk, IfErr};
+ghost use Rattle.serde_json.specs.Data.{Data};
+ghost use Rattle.serde_json.specs.View.{view};
+ghost use Rattle.gltf_json_record.specs.Fault.{Tells};
+ghost use Rattle.gltf_json_record.specs.declared.error.Error.TheVariants.{Memory};
+ghost use Rattle.gltf_json.specs.Documents.{root};
+ghost use Rattle.gltf_json.specs.Reading.{Reads, Refuses};
+ghost use Rattle.gltf_json.specs.declared.root.Root.{Root};
+
+use crate::root::Root;
+use gltf_json_record::error::Error;
+use gltf_json_record::read::read;
+use serde_json::Value;
+use std::alloc::Global;
+
+/// The document that a JSON value is (glTF 2.0, section 5.17, "glTF"). It is answered exactly where
+/// the value fits the tables of the format, want of memory aside; any other document that the value is
+/// shows the same. Otherwise the answer is a `Record` with a fault that stands in the value at its
+/// path, and the value is no document; or `Memory`.
+pub fn from_value(alloc: Global, value: &Value) -> Result<Root, Error>
+    ensures ok { IfOk result (root.is (view value.now)) }
+    ensures alike { IfOk result (λ r. (s : Root) → root.is (view value.now) s → root.seen s ≡ root.seen r) }
+    ensures fits { IfOk result (λ _. root.fits (view value.now)) }
+    ensures fault { IfErr result (Tells (root.fault (view value.now))) }
+    ensures refused { IfErr result (λ e. e ≢ Memory → root.fits (view value.now) → ⊥) }
+    ensures unread { IfErr result (λ e. e ≢ Memory → (r : Root) → root.is (view value.now) r → ⊥) }
+{
+    read(alloc, value)
+}
+
+/// The document that a JSON text is (glTF 2.0, section 5.17, "glTF"): that of the value which
+/// `serde_json` reads from it. `Text` is answered only where the bytes are no JSON text in UTF-8;
+/// `Record` with a fault that stands in the value at its path; and `Memory` where there was not
+/// enough, in `serde_json` or here.
+pub fn from_slice(alloc: Global, bytes: &[u8]) -> Result<Root, Error>
+    ensures ok { IfOk result (λ r. (d : Data) × Reads bytes.now d × root.is d r) }
+    ensures alike { IfOk result (λ r. (d : Data) (s : Root) → Reads bytes.now d → root.is d s → root.seen s ≡ root.seen r) }
+    ensures refused { IfErr result (Refuses bytes.now) }
+    ensures exact { IfErr result (λ e. e ≢ Memory → (d : Data) → Reads bytes.now d → root.fits d → ⊥) }
+{
+    let value = Value::from_slice(alloc, bytes)?;
+    from_value(alloc, &value)
+}
