@@ -5,3 +5,4 @@ pub mod accessor;
 pub mod buffer;
 pub mod extensions;
 pub mod mesh;
+pub mod semantic;
