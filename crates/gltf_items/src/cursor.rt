@@ -80,9 +80,15 @@ pub(crate) fn item_at<T: Item>(
     requires front { front_len ≡ length (front stored.old.indices stored.old.values) }
     requires stands { Stands stored.old.indices front_len cursor position }
     requires within { position < total stored.old.base (position + 1) }
-    ensures gives { result.0 ≡ sparse_item T.zero_item stored.old.base stored.old.indices stored.old.values position }
+    ensures gives { result.0
+        ≡ sparse_item T.zero_item stored.old.base stored.old.indices stored.old.values position }
     ensures stands { Stands stored.old.indices front_len result.1 (position + 1) }
-    ensures same { stored.new ≡ record stored.old { index_reads = stored.new.index_reads; base_reads = stored.new.base_reads; value_reads = stored.new.value_reads } }
+    ensures same { stored.new
+        ≡ record stored.old {
+          index_reads = stored.new.index_reads;
+          base_reads = stored.new.base_reads;
+          value_reads = stored.new.value_reads;
+        } }
     ensures indices { stored.new.index_reads ≤ stored.old.index_reads + 1 }
     ensures base { stored.new.base_reads ≤ stored.old.base_reads + 1 }
     ensures values { stored.new.value_reads ≤ stored.old.value_reads + 1 }

@@ -17,7 +17,10 @@ pub fn nth_is_next<T: Item>()
 
 /// Item i at the steps of a stride is there exactly where its bytes are, and is what the bytes from i strides on spell.
 pub fn plain_by_position<T: Item>()
-    ensures { (bytes : List ℕ) (stride i : ℕ) → T.size ≤ stride → SomeIff (slice_get (plain T.size T.value bytes stride) i) (i * stride + T.size ≤ length bytes) (T.value (drop (i * stride) bytes)) }
+    ensures { (bytes : List ℕ) (stride i : ℕ) → T.size ≤ stride →
+        SomeIff (slice_get (plain T.size T.value bytes stride) i)
+        (i * stride + T.size ≤ length bytes)
+        (T.value (drop (i * stride) bytes)) }
 {}
 
 /// The stored indices that count are their longest strictly increasing beginning that is no longer than the values.
@@ -28,8 +31,12 @@ pub fn front_is_longest<T: Item>()
 /// The items of a sparse accessor are as many as the base's, or `n` without a base. The item at the k-th index that
 /// counts is the k-th value, and each item at no such index is the base's, or zero without a base.
 pub fn sparse_by_position<T: Item>()
-    ensures items { (base : Option (List T)) (n : ℕ) (indices : List ℕ) (values : List T) (i : ℕ) → SomeIff (slice_get (sparse T.zero_item base n indices values) i) (i < total base n) (sparse_item T.zero_item base indices values i) }
-    ensures overrides { (base : Option (List T)) (indices : List ℕ) (values : List T) → Overrides T.zero_item base indices values }
+    ensures items { (base : Option (List T)) (n : ℕ) (indices : List ℕ) (values : List T) (i : ℕ) →
+        SomeIff (slice_get (sparse T.zero_item base n indices values) i)
+        (i < total base n)
+        (sparse_item T.zero_item base indices values i) }
+    ensures overrides { (base : Option (List T)) (indices : List ℕ) (values : List T) →
+        Overrides T.zero_item base indices values }
 {}
 
 /// Two numbers of single precision are equal exactly where their four bytes are.

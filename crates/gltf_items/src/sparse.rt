@@ -32,7 +32,14 @@ impl<'a, T: Item> Model for SparseIter<'a, T> {
 
     ghost Value = { Counted T };
 
-    ghost view = { λ s. record { items = drop s.position (sparse T.zero_item s.stored.base s.end s.stored.indices s.stored.values); stored = length s.stored.indices; index_reads = s.stored.index_reads; base_reads = s.stored.base_reads; value_reads = s.stored.value_reads } };
+    ghost view = { λ s. record {
+      items = drop s.position
+          (sparse T.zero_item s.stored.base s.end s.stored.indices s.stored.values);
+      stored = length s.stored.indices;
+      index_reads = s.stored.index_reads;
+      base_reads = s.stored.base_reads;
+      value_reads = s.stored.value_reads;
+    } };
 
     ghost invariant = { λ s. Keeps s.stored s.end s.front_len s.cursor s.position };
 }
@@ -50,7 +57,9 @@ impl<'a, T: Item> SparseIter<'a, T> {
         indices: SparseIndicesIter<'a>,
         values: ItemIter<'a, T>,
     ) -> Self
-        ensures items { result.items ≡ sparse T.zero_item (option_map items_left base.entry) 0 (indices_left indices.entry) (items_left values.entry) }
+        ensures items { result.items
+            ≡ sparse T.zero_item (option_map items_left base.entry) 0
+            (indices_left indices.entry) (items_left values.entry) }
         ensures stored { result.stored ≡ length (indices_left indices.entry) }
         ensures index_reads { result.index_reads ≤ result.stored }
         ensures base_reads { result.base_reads ≡ 0 }
@@ -66,7 +75,9 @@ impl<'a, T: Item> SparseIter<'a, T> {
         indices: SparseIndicesIter<'a>,
         values: ItemIter<'a, T>,
     ) -> Self
-        ensures items { result.items ≡ sparse T.zero_item (option_map items_left base.entry) base_count (indices_left indices.entry) (items_left values.entry) }
+        ensures items { result.items
+            ≡ sparse T.zero_item (option_map items_left base.entry) base_count
+            (indices_left indices.entry) (items_left values.entry) }
         ensures stored { result.stored ≡ length (indices_left indices.entry) }
         ensures index_reads { result.index_reads ≤ result.stored }
         ensures base_reads { result.base_reads ≡ 0 }

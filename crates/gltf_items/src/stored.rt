@@ -32,7 +32,14 @@ impl<'a, T: Item> Model for Stored<'a, T> {
     ghost use Rattle.gltf_items.specs.ItemIter.{items_left};
     ghost use Rattle.gltf_items.specs.SparseIndicesIter.{indices_left};
 
-    ghost view = { λ s. record { base = option_map items_left s.base; indices = indices_left s.indices; values = items_left s.values; index_reads = s.index_reads; base_reads = s.base_reads; value_reads = s.value_reads } };
+    ghost view = { λ s. record {
+      base = option_map items_left s.base;
+      indices = indices_left s.indices;
+      values = items_left s.values;
+      index_reads = s.index_reads;
+      base_reads = s.base_reads;
+      value_reads = s.value_reads;
+    } };
 }
 
 impl<'a, T: Item> Stored<'a, T> {
@@ -45,7 +52,15 @@ impl<'a, T: Item> Stored<'a, T> {
         indices: SparseIndicesIter<'a>,
         values: ItemIter<'a, T>,
     ) -> Self
-        ensures { result ≡ record { base = option_map items_left base.entry; indices = indices_left indices.entry; values = items_left values.entry; index_reads = 0; base_reads = 0; value_reads = 0 } }
+        ensures { result
+            ≡ record {
+              base = option_map items_left base.entry;
+              indices = indices_left indices.entry;
+              values = items_left values.entry;
+              index_reads = 0;
+              base_reads = 0;
+              value_reads = 0;
+            } }
     {
         Stored {
             base,
@@ -105,7 +120,8 @@ impl<'a, T: Item> Stored<'a, T> {
     pub(crate) fn base_item(&mut self, place: usize) -> T
         requires { place < total self.old.base (place + 1) }
         ensures gives { result ≡ under T.zero_item self.old.base place }
-        ensures counts { self.new ≡ record self.old { base_reads = self.old.base_reads + reads_of self.old.base } }
+        ensures counts { self.new
+            ≡ record self.old { base_reads = self.old.base_reads + reads_of self.old.base } }
     {
         match &self.base {
             Some(base) => {
