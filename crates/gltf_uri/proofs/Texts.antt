@@ -1,5 +1,5 @@
 -- Decoded bytes that are text, and those that are not.
-use Rattle.std.proofs.Common.{ℕ, ◌≡◌, List, true, false, Bool, refl}
+use Rattle.std.proofs.Common.{ℕ, ◌≡◌, List, refl}
 use Rattle.std.specs.Str.{IsUtf8, is_utf8}
 use Rattle.std.proofs.lemmas.Bool.{false_from_ne_true}
 use Rattle.std.proofs.lemmas.Str.{IsUtf8-from_is_utf8, is_utf8-from_IsUtf8}

@@ -9,7 +9,7 @@ use std::alloc::{AllocError, Global};
 use std::borrow::CowStr;
 
 /// Where a URI leads (glTF 2.0, section 2.8).
-#[derive(Debug, Drop)]
+#[derive(Debug, PartialEq, Eq, Drop)]
 pub enum Uri<'a> {
     /// A `data:` URI, with its payload as it stands, in base64.
     ///
