@@ -5,7 +5,22 @@ use Rattle.std.proofs.lemmas.Int.Digits.{length-digits_of_step, length-digits_of
 use Rattle.std.specs.Int.Digits.{digits_of, number_from_digits}
 use Rattle.std.specs.Prelude.{slice_index}
 use Rattle.gltf_items.specs.Sparse.{digits}
-use Rattle.gltf_items.specs.Stored.{Rises, Stands}
+use Rattle.gltf_items.specs.Stored.{StoredLists}
+use Rattle.gltf_items.specs.Cursor.{Rises, Stands}
+
+-- the lists stay where only the count of index reads changes
+module _ {X : Type 0} {s : StoredLists X} (t : StoredLists X) {n : ℕ} (counts : s ≡ record t { index_reads = n }) where
+  pub same_base : s.base ≡ t.base
+  same_base = ap (λ (u : StoredLists X). u.base) counts
+
+  pub same_indices : s.indices ≡ t.indices
+  same_indices = ap (λ (u : StoredLists X). u.indices) counts
+
+  pub same_values : s.values ≡ t.values
+  same_values = ap (λ (u : StoredLists X). u.values) counts
+
+  pub count_is : s.index_reads ≡ n
+  count_is = ap (λ (u : StoredLists X). u.index_reads) counts
 
 module _ {indices : List ℕ} {front_len : ℕ} (rises : Rises indices front_len) {cursor position : ℕ} (stands : Stands indices front_len cursor position) where
   -- only the index at the cursor can be the position

@@ -5,7 +5,7 @@ use Rattle.std.proofs.lemmas.List.{get_or-take, length-take, take-take, drop_all
 use Rattle.std.specs.Prelude.{slice_index}
 use Rattle.gltf_items.specs.PlainLemmas.{le_from_below}
 use Rattle.gltf_items.specs.Sparse.{rising, front}
-use Rattle.gltf_items.specs.Stored.{Rises}
+use Rattle.gltf_items.specs.Cursor.{Rises}
 use Rattle.gltf_items.specs.Laws.{IsFront}
 
 -- a rising beginning has the list's numbers, from `least` on

@@ -9,4 +9,5 @@ pub mod SparseIndicesIter
 pub mod Sparse
 pub mod Counted
 pub mod Stored
+pub mod Cursor
 pub mod Laws

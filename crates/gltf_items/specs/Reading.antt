@@ -1,5 +1,5 @@
--- How an item is read out of bytes. Numbers stand in buffers with their lowest byte first, and the components of a
--- vector one behind the other (glTF 2.0, 3.6.2 "Accessors").
+-- How an item is read out of bytes. Numbers stand there with their lowest byte first (glTF 2.0, 3.6.1 "Buffers and
+-- Buffer Views"), and the components of a vector one behind the other (3.6.2.4 "Data Alignment").
 use Rattle.std.specs.Prelude.{◌≡◌, ℕ, zero, suc, ◌-◌, ◌*◌, ◌^◌, ◌≤◌, min, List, [], ◌∷◌, length, take, drop}
 
 -- `value` looks at the first n bytes alone

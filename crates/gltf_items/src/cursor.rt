@@ -2,7 +2,7 @@
 
 ghost use Rattle.std.specs.Prelude.{◌≡◌, ◌≢◌, ℕ, ◌+◌, ◌-◌, ◌<◌, ◌≤◌, length, slice_index, true, false};
 ghost use Rattle.gltf_items.specs.Sparse.{front, sparse_item, total, digits};
-ghost use Rattle.gltf_items.specs.Stored.{Rises, Stands};
+ghost use Rattle.gltf_items.specs.Cursor.{Rises, Stands};
 
 use crate::item::Item;
 use crate::stored::Stored;

@@ -4,8 +4,8 @@ ghost use Rattle.std.specs.Prelude.{◌≡◌, ◌+◌, ◌-◌, ◌<◌, length
 
 use crate::item_iter::ItemIter;
 
-/// The indices of the items that a sparse accessor replaces, in one of three widths (glTF 2.0, 5.3
-/// "accessor.sparse.indices"). Each is given as a `u32`.
+/// The indices of the items that a sparse accessor replaces, in one of three widths (glTF 2.0, 5.3 "Accessor Sparse
+/// Indices"). Each is given as a `u32`.
 #[derive(Clone, Debug, Drop)]
 pub enum SparseIndicesIter<'a> {
     /// Indices of one byte.

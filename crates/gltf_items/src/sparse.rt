@@ -28,7 +28,7 @@ impl<'a, T: Item> Model for SparseIter<'a, T> {
     ghost use Rattle.std.specs.Prelude.{length, drop};
     ghost use Rattle.gltf_items.specs.Sparse.{sparse};
     ghost use Rattle.gltf_items.specs.Counted.{Counted};
-    ghost use Rattle.gltf_items.specs.Stored.{Keeps};
+    ghost use Rattle.gltf_items.specs.Cursor.{Keeps};
 
     ghost Value = { Counted T };
 

@@ -1,14 +1,13 @@
-use Rattle.std.proofs.Common.{◌≡◌, ◌+◌, ◌-◌, ◌/◌, ◌<◌, ◌≤◌, ap, arith, rules}
+use Rattle.std.proofs.Common.{◌+◌, ◌-◌, ◌/◌, ◌<◌, ◌≤◌, arith, rules}
 use Rattle.std.specs.Prelude.{slice_index}
-use Rattle.gltf_items.specs.Stored.{StoredLists}
-use Rattle.gltf_items.proofs.Cursors.{digits_fall, below_middle, above_middle}
+use Rattle.gltf_items.proofs.Cursors.{same_indices, count_is, digits_fall, below_middle, above_middle}
 use Rattle.gltf_items.proofs.cursor.seek.Goals as goal
 
 pub loop-low-preserved-then-index-target : goal.loop-low-preserved-then-index-target
 loop-low-preserved-then-index-target g c =
-    let same_indices : c.loop-low.stored.indices ≡ c.args.stored.now.indices = ap (λ (s : StoredLists g.row.T.Denot). s.indices) c.loop-low.invariant.same in
-    let small : slice_index c.args.stored.now.indices (c.loop-low.low + (c.loop-low.high - c.loop-low.low) / 2) < c.args.target = rw (← same_indices, ← c.index.ensures.gives) c.if-index-target.true in
-    let reads = ap (λ (s : StoredLists g.row.T.Denot). s.index_reads) c.index.ensures.counts in
+    let same = same_indices c.args.stored.now c.loop-low.invariant.same in
+    let small : slice_index c.args.stored.now.indices (c.loop-low.low + (c.loop-low.high - c.loop-low.low) / 2) < c.args.target = rw (← same, ← c.index.ensures.gives) c.if-index-target.true in
+    let reads = count_is c.loop-low.stored c.index.ensures.counts in
     record {
       low = omega arith;
       high = c.loop-low.invariant.high;
@@ -20,9 +19,9 @@ loop-low-preserved-then-index-target g c =
 
 pub loop-low-preserved : goal.loop-low-preserved
 loop-low-preserved g c =
-    let same_indices : c.loop-low.stored.indices ≡ c.args.stored.now.indices = ap (λ (s : StoredLists g.row.T.Denot). s.indices) c.loop-low.invariant.same in
-    let large : c.args.target ≤ slice_index c.args.stored.now.indices (c.loop-low.low + (c.loop-low.high - c.loop-low.low) / 2) = rw (← same_indices, ← c.index.ensures.gives) c.if-index-target.false in
-    let reads = ap (λ (s : StoredLists g.row.T.Denot). s.index_reads) c.index.ensures.counts in
+    let same = same_indices c.args.stored.now c.loop-low.invariant.same in
+    let large : c.args.target ≤ slice_index c.args.stored.now.indices (c.loop-low.low + (c.loop-low.high - c.loop-low.low) / 2) = rw (← same, ← c.index.ensures.gives) c.if-index-target.false in
+    let reads = count_is c.loop-low.stored c.index.ensures.counts in
     record {
       low = omega arith;
       high = omega (arith, c.loop-low.invariant.high);
