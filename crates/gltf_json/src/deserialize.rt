@@ -18,6 +18,7 @@ use std::alloc::Global;
 /// the value fits the tables of the format, want of memory aside; any other document that the value is
 /// shows the same. Otherwise the answer is a `Record` with a fault that stands in the value at its
 /// path, and the value is no document; or `Memory`.
+#[tactic(auto, using(crate::proofs::Readings::read_alike, crate::proofs::Readings::refused_unread))]
 pub fn from_value(alloc: Global, value: &Value) -> Result<Root, Error>
     ensures ok { IfOk result (root.is (view value.now)) }
     ensures alike { IfOk result (λ r. (s : Root) → root.is (view value.now) s → root.seen s ≡ root.seen r) }
