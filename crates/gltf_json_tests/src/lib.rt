@@ -1,0 +1,18 @@
+//! Tests of the records of a document: what each member is read as, by the table of its record, and which
+//! fault is told at which place.
+#![tactic(auto)]
+
+#[cfg(test)]
+mod animation;
+#[cfg(test)]
+mod errors;
+#[cfg(test)]
+mod geometry;
+#[cfg(test)]
+mod material;
+#[cfg(test)]
+mod root;
+#[cfg(test)]
+mod scene;
+#[cfg(test)]
+mod shown;
