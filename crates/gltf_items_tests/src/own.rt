@@ -43,14 +43,14 @@ impl Item for Swapped {
     }
 }
 
-/// An item of more bytes than three times which fit a `usize`. Its first byte decides it.
+/// An item of so many bytes that four of them do not fit a `usize`. Its first byte decides it.
 #[derive(Clone, Copy, Debug, PartialEq, Eq)]
 pub struct Huge {
     pub first: u8,
 }
 
 impl Item for Huge {
-    ghost size = { 2 ^ 63 };
+    ghost size = { 2 ^ 62 };
 
     ghost value = { λ bytes. record { first = slice_index bytes 0 } };
 
@@ -63,7 +63,7 @@ impl Item for Huge {
     ghost reads_front = { λ _. first-reads_front (λ a. record { first = a }) };
 
     fn size() -> usize {
-        1 << 63
+        1 << 62
     }
 
     fn from_slice(slice: &[u8]) -> Huge {
