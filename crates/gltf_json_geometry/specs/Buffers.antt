@@ -10,19 +10,19 @@ use Rattle.gltf_json_geometry.specs.declared.buffer.View.{View}
 
 unfoldable pub buffer : Kind Buffer
 buffer = table
-  ( required (codes "byteLength") (λ r. r.byte_length) size
-  & optional (codes "uri") (λ r. r.uri) text
-  & optional (codes "name") (λ r. r.name) text
-  & optional (codes "extensions") (λ r. r.extensions) others_only
-  & optional (codes "extras") (λ r. r.extras) any )
+    (required (codes "byteLength") (λ r. r.byte_length) size
+    & optional (codes "uri") (λ r. r.uri) text
+    & optional (codes "name") (λ r. r.name) text
+    & optional (codes "extensions") (λ r. r.extensions) others_only
+    & optional (codes "extras") (λ r. r.extras) any)
 
 unfoldable pub buffer_view : Kind View
 buffer_view = table
-  ( required (codes "buffer") (λ r. r.buffer) index
-  & required (codes "byteLength") (λ r. r.byte_length) size
-  & optional (codes "byteOffset") (λ r. r.byte_offset) size
-  & optional (codes "byteStride") (λ r. r.byte_stride) size
-  & optional (codes "target") (λ r. r.target) (code view_target)
-  & optional (codes "name") (λ r. r.name) text
-  & optional (codes "extensions") (λ r. r.extensions) others_only
-  & optional (codes "extras") (λ r. r.extras) any )
+    (required (codes "buffer") (λ r. r.buffer) index
+    & required (codes "byteLength") (λ r. r.byte_length) size
+    & optional (codes "byteOffset") (λ r. r.byte_offset) size
+    & optional (codes "byteStride") (λ r. r.byte_stride) size
+    & optional (codes "target") (λ r. r.target) (code view_target)
+    & optional (codes "name") (λ r. r.name) text
+    & optional (codes "extensions") (λ r. r.extensions) others_only
+    & optional (codes "extras") (λ r. r.extras) any)

@@ -2,4 +2,9 @@ pub mod Codes
 pub mod Buffers
 pub mod Accessors
 pub mod Semantics
+pub mod NameLaws
+pub mod Attributes
+pub mod AttributeSteps
+pub mod AttributeLaws
+pub mod AttributeKind
 pub mod Meshes

@@ -2,7 +2,9 @@
 #![tactic(auto)]
 
 pub mod accessor;
+mod attributes;
 pub mod buffer;
 pub mod extensions;
+pub mod laws;
 pub mod mesh;
 pub mod semantic;

@@ -1,5 +1,7 @@
 //! Meshes and their primitives (glTF 2.0, section 3.7, "Geometry").
+use crate::attributes::Attributes;
 use crate::extensions;
+pub use crate::semantic::Semantic;
 use gltf_json_record::error::Error;
 use gltf_json_record::extensions::Others;
 use gltf_json_record::extras::Extras;
@@ -10,6 +12,7 @@ use gltf_json_record::read::{FromValue, object, optional, or_default, required};
 use gltf_json_record::validation::{Checked, Code};
 use serde_json::Value;
 use std::alloc::{AllocError, Global};
+use std::collections::BTreeMap;
 
 /// How vertices are joined (glTF 2.0, section 5.24.4, `mesh.primitive.mode`).
 #[derive(Clone, Copy, Debug, PartialEq, Eq)]
@@ -86,6 +89,10 @@ impl FromValue for MorphTarget {
 /// Geometry to be drawn with one material (glTF 2.0, section 5.24, "Mesh Primitive").
 #[derive(Clone, Debug, Drop)]
 pub struct Primitive {
+    /// The known members of `attributes`, in the order of `Semantic`.
+    pub attributes: BTreeMap<Semantic, Index<kinds::Accessor>>,
+    /// The names of the other members of `attributes`, in the order of their bytes. Rules refuse them.
+    pub unknown_attributes: Vec<String>,
     /// The accessor of the vertex indices: `indices`.
     pub indices: Option<Index<kinds::Accessor>>,
     /// The material: `material`.
@@ -115,7 +122,10 @@ impl FromValue for Primitive {
     #[tactic(auto, unfolding(crate::specs::Meshes::primitive))]
     fn from_value(alloc: Global, value: &Value) -> Result<Primitive, Error> {
         object(alloc, value)?;
+        let Attributes { known, unknown } = required(alloc, value, "attributes")?;
         Ok(Primitive {
+            attributes: known,
+            unknown_attributes: unknown,
             indices: optional(alloc, value, "indices")?,
             material: optional(alloc, value, "material")?,
             mode: or_default(alloc, value, "mode", Checked::Valid(Mode::Triangles))?,
