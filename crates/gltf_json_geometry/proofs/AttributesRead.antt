@@ -1,13 +1,10 @@
 -- The attributes of an object, read name after name.
-use Rattle.std.proofs.Common.{◌≡◌, ◌≢◌, ◌⊎◌, ◌∷◌, ◌++◌, ◌||◌, ℕ, List, [], Bool, true, false, Option, Some, None, MatchOption, IsSome, IsNone, IsTrue, option_and_then, string_bytes, bytes_eq, if◌then◌else◌, cond, map, is_some, refl, sym, ap, ◌∙◌, inl, inr, ⊎_elim, true≢false, String, Global}
+use Rattle.std.proofs.Common.{◌≡◌, ◌∷◌, ◌++◌, ◌||◌, ℕ, List, [], Bool, true, false, Option, Some, None, MatchOption, IsSome, IsNone, option_and_then, string_bytes, bytes_eq, if◌then◌else◌, cond, map, is_some, refl, sym, ap, ◌∙◌, inl, inr, ⊎_elim, true≢false}
 use Rattle.std.specs.Prelude.{⊤}
 use Rattle.std.specs.BTreeMap.{get, IsOrdered}
 use Rattle.std.specs.Map.{keys_of}
 use Rattle.std.specs.Cmp.{Equal-is}
-use Rattle.std.specs.Cmp.Lexicographic.{slice_cmp}
-use Rattle.std.specs.Ordering.{nat_cmp, is_eq}
-use Rattle.std.specs.declared.cmp.Ordering.{Ordering}
-use Rattle.std.specs.declared.cmp.Ordering.TheVariants.{Equal}
+use Rattle.std.specs.Ordering.{is_eq}
 use Rattle.std.proofs.lemmas.List.Folds.{list_any-append}
 use Rattle.std.proofs.lemmas.Map.Text.{is_eq-slice_cmp}
 use Rattle.std.proofs.lemmas.Slice.Eq.{bytes_eq-Decides}
@@ -22,7 +19,7 @@ use Rattle.gltf_json_record.specs.Place.{keyed}
 use Rattle.gltf_json_record.specs.Scalars.{as_n32, index}
 use Rattle.gltf_json_record.specs.declared.error.Error.{Error}
 use Rattle.gltf_json_record.specs.declared.error.Error.TheVariants.{Text, Record, Memory}
-use Rattle.gltf_json_geometry.specs.Attributes.{attribute_at, IsUnknownAt, AreUnknown, member_names, names_of, FitAttributes, AreAttributes, AttributeFault}
+use Rattle.gltf_json_geometry.specs.Attributes.{attribute_at, IsUnknownAt, AreUnknown, member_names, names_of, AreAttributes, AttributeFault}
 use Rattle.gltf_json_geometry.specs.AttributeLaws.{fit_everywhere, absent_at}
 use Rattle.gltf_json_geometry.specs.AttributeSteps.{IsKnownPut, IsUnknownPut, IsPut}
 use Rattle.gltf_json_geometry.specs.NameLaws.{same_key, same_name, same_numbered, Equal-same_key}

@@ -1,6 +1,5 @@
 -- The laws of the kind of attributes.
-use Rattle.std.specs.Prelude.{◌≡◌, ◌⊎◌, ◌∷◌, ◌||◌, ℕ, List, [], Bool, true, false, Option, Some, None, MatchOption, IsSome, IsNone, option_and_then, string_bytes, bytes_eq, map, ⊤}
-use Rattle.std.specs.BTreeMap.{get, IsOrdered}
+use Rattle.std.specs.Prelude.{◌≡◌, ◌⊎◌, ◌∷◌, ◌||◌, ℕ, List, [], Bool, true, false, Option, Some, None, MatchOption, IsSome, option_and_then, string_bytes, bytes_eq, map, ⊤}
 use Rattle.std.specs.Cmp.Lexicographic.{slice_cmp}
 use Rattle.std.specs.Ordering.{nat_cmp, is_eq, match_ordering}
 use Rattle.std.specs.declared.cmp.Ordering.{Ordering}
@@ -11,15 +10,15 @@ use Rattle.std.proofs.lemmas.Map.Text.{is_eq-slice_cmp}
 use Rattle.std.proofs.lemmas.Slice.Eq.{bytes_eq-Decides}
 use Rattle.serde_json.specs.Data.{Data, null, boolean, number, string, array, object, Members, no_members, member}
 use Rattle.serde_json.specs.Find.{as_object, get_member}
-use Rattle.gltf_json_record.specs.Kind.{IsWrongKind, Within}
+use Rattle.gltf_json_record.specs.Kind.{Within}
 use Rattle.gltf_json_record.specs.Member.{member_at, unless_null, is_one_of}
 use Rattle.gltf_json_record.specs.Place.{Place, keyed}
 use Rattle.gltf_json_record.specs.Scalars.{index}
 use Rattle.gltf_json_record.specs.declared.error.RecordFault.{RecordFault}
 use Rattle.gltf_json_record.specs.declared.error.RecordFault.TheVariants.{WrongKind}
-use Rattle.gltf_json_geometry.specs.Attributes.{IsUnknownAt, AreUnknown, member_names, names_of, FitAttributes, AreAttributes, AttributeFault}
+use Rattle.gltf_json_geometry.specs.Attributes.{AreUnknown, member_names, names_of, FitAttributes, AreAttributes, AttributeFault}
 use Rattle.gltf_json_geometry.specs.NameLaws.{same_name, Equal-same_key, order_total}
-use Rattle.gltf_json_geometry.specs.Semantics.{semantic_name, semantic_cmp}
+use Rattle.gltf_json_geometry.specs.Semantics.{semantic_name}
 use Rattle.gltf_json_geometry.specs.declared.attributes.Attributes.{Attributes}
 
 -- ---- an object has nothing but at its names

@@ -1,5 +1,5 @@
 -- One more attribute.
-use Rattle.std.specs.Prelude.{◌≡◌, ◌⊎◌, ◌++◌, ◌∷◌, ℕ, List, [], Option, Some, map, string_bytes}
+use Rattle.std.specs.Prelude.{◌≡◌, ◌⊎◌, ◌++◌, ◌∷◌, ℕ, List, [], Some, map, string_bytes}
 use Rattle.std.specs.BTreeMap.{Updates, IsOrdered}
 use Rattle.gltf_json_geometry.specs.Semantics.{Names, semantic_cmp}
 use Rattle.gltf_json_geometry.specs.declared.semantic.Semantic.{Semantic}

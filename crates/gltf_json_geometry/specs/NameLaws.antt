@@ -1,5 +1,5 @@
 -- A name is that of one attribute at most.
-use Rattle.std.specs.Prelude.{◌≡◌, ◌≢◌, ◌<◌, ◌^◌, ℕ, List, [], ◌∷◌, ◌++◌, nat_eq, nat_lt, IsTrue, Bool, true, if◌then◌else◌, codes, slice_index}
+use Rattle.std.specs.Prelude.{◌≡◌, ◌≢◌, ◌<◌, ◌^◌, ℕ, List, [], ◌∷◌, ◌++◌, nat_eq, nat_lt, IsTrue, Bool, true, if◌then◌else◌, codes}
 use Rattle.std.proofs.Common.{sym, ap, ◌∙◌, refl, drop, get_or, arith}
 use Rattle.std.proofs.lemmas.Fmt.{decimal_injective}
 use Rattle.std.proofs.lemmas.Bool.{ltb-true}

@@ -1,4 +1,4 @@
-use Rattle.std.proofs.Common.{◌≡◌, ◌≢◌, ℕ, ◌∷◌, [], get_or, Ok, Err, Some, None, Bool, true, false, sym, ◌∙◌, true≢false, arith, rules}
+use Rattle.std.proofs.Common.{◌∷◌, [], sym, ◌∙◌, true≢false, arith}
 use Rattle.std.proofs.lemmas.Slice.Eq.{bytes_eq-Decides}
 use Rattle.std.proofs.lemmas.Str.Pattern.{starts_char}
 use Rattle.gltf_json_geometry.proofs.Numbers.{zero_text, no_padding, no_sign, read_number}

@@ -7,7 +7,7 @@ use Rattle.serde_json.specs.View.{view}
 use Rattle.gltf_json_geometry.specs.AttributeKind.{attributes}
 use Rattle.gltf_json_geometry.specs.Attributes.{names_of}
 use Rattle.gltf_json_geometry.proofs.Orders.{stated}
-use Rattle.gltf_json_geometry.proofs.AttributesRead.{ReadSoFar, read_none, read_absent, read_put, read_all, names_map, no_object, no_index}
+use Rattle.gltf_json_geometry.proofs.AttributesRead.{read_none, read_absent, read_put, read_all, names_map, no_object, no_index}
 use Rattle.gltf_json_geometry.proofs.attributes.AttributesFromValue.from_value.Goals as goal
 
 pub returns-in_default-clause-err : goal.returns-in_default-clause-err
