@@ -4,7 +4,7 @@ use Rattle.std.specs.declared.alloc.Global.{Global}
 use Rattle.std.proofs.Common.{ap, sym, ◌∙◌}
 use Rattle.std.proofs.lemmas.Iterator.Adapters.{option_map_id}
 use Rattle.gltf_json_record.specs.Kind.{Kind}
-use Rattle.gltf_json_record.specs.Scalars.{text, index, any}
+use Rattle.gltf_json_record.specs.Scalars.{text, any}
 use Rattle.gltf_json_animation.specs.Animations.{animation}
 use Rattle.gltf_json_geometry.specs.Accessors.{accessor}
 use Rattle.gltf_json_geometry.specs.Buffers.{buffer, buffer_view}

@@ -25,38 +25,38 @@ use Rattle.gltf_json.specs.declared.root.Root.{Root}
 -- KHR_lights_punctual at the root
 unfoldable pub root_lights : Kind KhrLightsPunctual
 root_lights = table
-  ( required (codes "lights") (λ r. r.lights) (list light) )
+    (required (codes "lights") (λ r. r.lights) (list light))
 
 -- KHR_materials_variants at the root
 unfoldable pub root_variants : Kind KhrMaterialsVariants
 root_variants = table
-  ( required (codes "variants") (λ r. r.variants) (list variant) )
+    (required (codes "variants") (λ r. r.variants) (list variant))
 
 -- the member extensions of the root
 unfoldable pub root_extensions : Kind extensions.Root
 root_extensions = table
-  ( optional (codes "KHR_lights_punctual") (λ r. r.khr_lights_punctual) root_lights
-  & optional (codes "KHR_materials_variants") (λ r. r.khr_materials_variants) root_variants
-  & others (codes "KHR_lights_punctual" ∷ codes "KHR_materials_variants" ∷ []) (λ r. r.others) )
+    (optional (codes "KHR_lights_punctual") (λ r. r.khr_lights_punctual) root_lights
+    & optional (codes "KHR_materials_variants") (λ r. r.khr_materials_variants) root_variants
+    & others (codes "KHR_lights_punctual" ∷ codes "KHR_materials_variants" ∷ []) (λ r. r.others))
 
 unfoldable pub root : Kind Root
 root = table
-  ( required (codes "asset") (λ r. r.asset) asset
-  & listed (codes "accessors") (λ r. r.accessors) accessor
-  & listed (codes "animations") (λ r. r.animations) animation
-  & listed (codes "buffers") (λ r. r.buffers) buffer
-  & listed (codes "bufferViews") (λ r. r.buffer_views) buffer_view
-  & listed (codes "cameras") (λ r. r.cameras) camera
-  & listed (codes "images") (λ r. r.images) image
-  & listed (codes "materials") (λ r. r.materials) material
-  & listed (codes "meshes") (λ r. r.meshes) mesh
-  & listed (codes "nodes") (λ r. r.nodes) node
-  & listed (codes "samplers") (λ r. r.samplers) sampler
-  & optional (codes "scene") (λ r. r.scene) index
-  & listed (codes "scenes") (λ r. r.scenes) scene
-  & listed (codes "skins") (λ r. r.skins) skin
-  & listed (codes "textures") (λ r. r.textures) texture
-  & listed (codes "extensionsUsed") (λ r. r.extensions_used) text
-  & listed (codes "extensionsRequired") (λ r. r.extensions_required) text
-  & optional (codes "extensions") (λ r. r.extensions) root_extensions
-  & optional (codes "extras") (λ r. r.extras) any )
+    (required (codes "asset") (λ r. r.asset) asset
+    & listed (codes "accessors") (λ r. r.accessors) accessor
+    & listed (codes "animations") (λ r. r.animations) animation
+    & listed (codes "buffers") (λ r. r.buffers) buffer
+    & listed (codes "bufferViews") (λ r. r.buffer_views) buffer_view
+    & listed (codes "cameras") (λ r. r.cameras) camera
+    & listed (codes "images") (λ r. r.images) image
+    & listed (codes "materials") (λ r. r.materials) material
+    & listed (codes "meshes") (λ r. r.meshes) mesh
+    & listed (codes "nodes") (λ r. r.nodes) node
+    & listed (codes "samplers") (λ r. r.samplers) sampler
+    & optional (codes "scene") (λ r. r.scene) index
+    & listed (codes "scenes") (λ r. r.scenes) scene
+    & listed (codes "skins") (λ r. r.skins) skin
+    & listed (codes "textures") (λ r. r.textures) texture
+    & listed (codes "extensionsUsed") (λ r. r.extensions_used) text
+    & listed (codes "extensionsRequired") (λ r. r.extensions_required) text
+    & optional (codes "extensions") (λ r. r.extensions) root_extensions
+    & optional (codes "extras") (λ r. r.extras) any)
