@@ -1,0 +1,14 @@
+pub mod Broken
+pub mod Alike
+pub mod AlikeAccessors
+pub mod AlikeBuffers
+pub mod AlikeCameras
+pub mod AlikeImages
+pub mod AlikeTextures
+pub mod AlikeMaterials
+pub mod AlikeLights
+pub mod AlikeScenes
+pub mod AlikeSkins
+pub mod AlikeMeshes
+pub mod AlikeDocuments
+pub mod AlikeAnimations

@@ -1,0 +1,35 @@
+-- The rules of accessors and their sparse parts (glTF 2.0, section 3.6.2), in the order of their members.
+use Rattle.std.specs.Prelude.{codes}
+use Rattle.gltf_json_geometry.specs.declared.accessor.sparse.Indices.{Indices}
+use Rattle.gltf_json_geometry.specs.declared.accessor.sparse.Values.{Values}
+use Rattle.gltf_json_geometry.specs.declared.accessor.sparse.Sparse.{Sparse}
+use Rattle.gltf_json_geometry.specs.declared.accessor.Accessor.{Accessor}
+use Rattle.gltf_validation.specs.declared.counts.Counts.{Counts}
+use Rattle.gltf_validation.specs.Rules.{Rules, ◌&◌}
+use Rattle.gltf_validation.specs.Members.{member, code_rules, index_rules, optional_rules, size_rules}
+
+abbrev pub indices_rules : Counts → Indices → Rules
+indices_rules c r =
+    member (codes "bufferView") (index_rules c.views r.buffer_view)
+    & member (codes "byteOffset") (size_rules r.byte_offset)
+    & member (codes "componentType") (code_rules r.component_type)
+
+abbrev pub values_rules : Counts → Values → Rules
+values_rules c r =
+    member (codes "bufferView") (index_rules c.views r.buffer_view)
+    & member (codes "byteOffset") (size_rules r.byte_offset)
+
+abbrev pub sparse_rules : Counts → Sparse → Rules
+sparse_rules c r =
+    member (codes "count") (size_rules r.count)
+    & member (codes "indices") (indices_rules c r.indices)
+    & member (codes "values") (values_rules c r.values)
+
+abbrev pub accessor_rules : Counts → Accessor → Rules
+accessor_rules c r =
+    member (codes "bufferView") (optional_rules (index_rules c.views) r.buffer_view)
+    & member (codes "byteOffset") (optional_rules size_rules r.byte_offset)
+    & member (codes "componentType") (code_rules r.component_type)
+    & member (codes "count") (size_rules r.count)
+    & member (codes "type") (code_rules r.type_)
+    & member (codes "sparse") (optional_rules (sparse_rules c) r.sparse)

@@ -1,0 +1,16 @@
+pub mod Locations
+pub mod Rules
+pub mod Members
+pub mod Texts
+pub mod Accessors
+pub mod Buffers
+pub mod Cameras
+pub mod Images
+pub mod Textures
+pub mod Materials
+pub mod Lights
+pub mod Scenes
+pub mod Skins
+pub mod Animations
+pub mod Meshes
+pub mod Documents

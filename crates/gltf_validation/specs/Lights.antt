@@ -1,0 +1,27 @@
+-- The rules of lights, and of the light at a node (KHR_lights_punctual), in the order of their members.
+use Rattle.std.specs.Prelude.{Bool, codes, false, true}
+use Rattle.gltf_json_scene.specs.declared.extensions.scene.khr_lights_punctual.Light.{Light}
+use Rattle.gltf_json_scene.specs.declared.extensions.scene.KhrLightsPunctual.{KhrLightsPunctual}
+use Rattle.gltf_json_scene.specs.declared.extensions.scene.khr_lights_punctual.«Type» as light
+use Rattle.gltf_json_scene.specs.declared.extensions.scene.khr_lights_punctual.«Type».TheVariants.{Directional, Point, Spot}
+use Rattle.gltf_json_record.specs.declared.validation.Checked.{Checked}
+use Rattle.gltf_json_record.specs.declared.validation.Checked.TheVariants.{Invalid, Valid}
+use Rattle.gltf_validation.specs.declared.counts.Counts.{Counts}
+use Rattle.gltf_validation.specs.Rules.{Rules, ◌&◌}
+use Rattle.gltf_validation.specs.Members.{member, code_rules, index_rules, needed_rules}
+
+-- whether a light's type names a spot
+abbrev pub names_spot : Checked light.«Type» → Bool
+names_spot Invalid = false
+names_spot (Valid Directional) = false
+names_spot (Valid Point) = false
+names_spot (Valid Spot) = true
+
+abbrev pub light_rules : Counts → Light → Rules
+light_rules c r =
+    member (codes "type") (code_rules r.type_)
+    & member (codes "spot") (needed_rules (names_spot r.type_) r.spot)
+
+abbrev pub node_light_rules : Counts → KhrLightsPunctual → Rules
+node_light_rules c r =
+    member (codes "light") (index_rules c.lights r.light)
