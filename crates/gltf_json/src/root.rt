@@ -7,7 +7,7 @@ use gltf_json_geometry::mesh::Mesh;
 use gltf_json_material::material::Material;
 use gltf_json_record::error::Error;
 use gltf_json_record::extras::Extras;
-use gltf_json_record::index::Index;
+pub use gltf_json_record::index::Index;
 use gltf_json_record::kinds;
 use gltf_json_record::lists::list_or_empty;
 use gltf_json_record::read::{FromValue, object, optional, required};
