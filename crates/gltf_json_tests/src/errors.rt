@@ -155,6 +155,42 @@ fn faults_in_extensions(rt: HostRuntime) -> Result<(), Fail> {
 }
 
 #[test]
+fn faults_at_attributes(rt: HostRuntime) -> Result<(), Fail> {
+    let alloc = rt.alloc();
+    members_refused(
+        &rt,
+        alloc,
+        &[
+            (
+                r#""meshes":[{"primitives":[{"attributes":{"POSITION":-1}}]}]"#,
+                r#"meshes[0].primitives[0].attributes["POSITION"]: wrong kind"#,
+            ),
+            (
+                r#""meshes":[{"primitives":[{"attributes":{"a.\"b\"\\\u0041":"0"}}]}]"#,
+                r#"meshes[0].primitives[0].attributes["a."b"\A"]: wrong kind"#,
+            ),
+            (
+                r#""meshes":[{"primitives":[{"attributes":{"X":4294967296}}]}]"#,
+                r#"meshes[0].primitives[0].attributes["X"]: wrong kind"#,
+            ),
+            (
+                r#""meshes":[{"primitives":[{"attributes":[]}]}]"#,
+                "meshes[0].primitives[0].attributes: wrong kind",
+            ),
+            (
+                r#""meshes":[{"primitives":[{"attributes":null}]}]"#,
+                "meshes[0].primitives[0].attributes: missing member",
+            ),
+            (
+                r#""meshes":[{"primitives":[{"attributes":{},"targets":[{"POSITION":-1}]}]}]"#,
+                "meshes[0].primitives[0].targets[0].POSITION: wrong kind",
+            ),
+        ],
+    )?;
+    Ok(())
+}
+
+#[test]
 fn paths(rt: HostRuntime) -> Result<(), Fail> {
     let alloc = rt.alloc();
     let mut path = Path::new(alloc);

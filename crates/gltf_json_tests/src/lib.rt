@@ -11,6 +11,8 @@ mod geometry;
 #[cfg(test)]
 mod material;
 #[cfg(test)]
+mod mesh;
+#[cfg(test)]
 mod root;
 #[cfg(test)]
 mod scene;
