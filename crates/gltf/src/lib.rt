@@ -1,9 +1,12 @@
 //! glTF 2.0, loaded, checked and proved: after the Rust crate `gltf`.
-//!
-//! So far: GLB containers ([`Glb`]), and sources of the bytes that a document names
-//! ([`NamedBytes`]).
 #![tactic(auto)]
 
-pub use gltf_glb::binary;
-pub use gltf_glb::{Error, Glb, Result};
+pub mod buffer;
+mod document;
+mod import;
+
+pub use document::{Document, RawDocument};
+pub use gltf_glb::{Error, Glb, Result, binary};
+pub use gltf_json as json;
 pub use gltf_names::{Folder, Name, NamedBytes, NamedFault, Shelf};
+pub use import::import_slice;

@@ -7,3 +7,4 @@ pub mod Glb
 pub mod Steps
 pub mod Laws
 pub mod Texts
+pub mod Causes

@@ -1,0 +1,6 @@
+pub mod Answered
+pub mod Buffers
+pub mod Parts
+pub mod Layers
+pub mod Once
+pub mod Pairs

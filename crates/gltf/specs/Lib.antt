@@ -1,0 +1,5 @@
+pub mod Buffers
+pub mod BufferErrors
+pub mod RuleErrors
+pub mod Shown
+pub mod Import
