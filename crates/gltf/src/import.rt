@@ -7,7 +7,7 @@ ghost use Rattle.gltf.specs.Import.{AreParts, IsDocument, IsValidDocument, Accep
 ghost use Rattle.gltf.specs.Shown.{held, shown};
 
 use crate::buffer::{Data, read_buffers};
-use crate::document::Document;
+use crate::document::{Document, RawDocument};
 use gltf_glb::{Glb, Result};
 use gltf_json::deserialize;
 use gltf_json::laws::what_shows_the_same_is_alike_in_each_member;
@@ -46,8 +46,19 @@ pub(crate) fn document_of(alloc: Global, bytes: &[u8]) -> Result<(Document, Opti
     pair(document, owned(alloc, blob))
 }
 
+/// The records without the rules, and the blob.
+pub(crate) fn raw_document_of(alloc: Global, bytes: &[u8]) -> Result<(RawDocument, Option<Vec<u8>>)>
+    ensures document { IfOk result (λ read. IsDocument bytes.now read.0 (held read.1)) }
+    ensures only { IfOk result (λ read. IsOnlyDocument bytes.now read.0 (held read.1)) }
+    ensures refused { IfErr result (Refuses bytes.now) }
+    ensures exact { IfErr result (λ e. e ≢ Memory → IsNoDocument bytes.now) }
+{
+    let (root, blob) = root_of(alloc, bytes)?;
+    pair(Document::from_json_without_validation(root), owned(alloc, blob))
+}
+
 /// The records, and the blob.
-pub(crate) fn root_of(alloc: Global, bytes: &[u8]) -> Result<(Root, Option<CowSlice<'_, u8>>)>
+fn root_of(alloc: Global, bytes: &[u8]) -> Result<(Root, Option<CowSlice<'_, u8>>)>
     ensures document { IfOk result (λ read. IsDocument bytes.now read.0 (items_of read.1)) }
     ensures only { IfOk result (λ read. IsOnlyDocument bytes.now read.0 (items_of read.1)) }
     ensures refused { IfErr result (Refuses bytes.now) }

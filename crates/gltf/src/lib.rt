@@ -3,9 +3,11 @@
 
 pub mod buffer;
 mod document;
+mod file;
 mod import;
 
 pub use document::{Document, RawDocument};
+pub use file::{Gltf, RawGltf};
 pub use gltf_glb::{Error, Glb, Result, binary};
 pub use gltf_json as json;
 pub use gltf_names::{Folder, Name, NamedBytes, NamedFault, Shelf};
