@@ -1,10 +1,11 @@
 # The two commands of the README.
 
 FILE ?= examples/box.glb
+CALL ?= chunks
 
-# Proves and builds gltf_show where it has changed, and tells the chunks of a GLB file.
+# Proves and builds gltf_show where it has changed, and runs a call of it on a file.
 show:
-	@cd crates/gltf_show && rt run -- chunks $(abspath $(FILE))
+	@cd crates/gltf_show && rt run -- $(CALL) $(abspath $(FILE))
 
 # Proves everything from nothing, tries the wrong bodies, and runs the tests and the program.
 test:

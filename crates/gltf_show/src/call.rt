@@ -4,6 +4,8 @@
 pub(crate) enum Call<'w> {
     /// `chunks PATH`: the header and the chunks of a GLB file.
     Chunks(&'w str),
+    /// `check PATH`: whether a file is imported, and how much it has.
+    Check(&'w str),
 }
 
 impl<'w> Call<'w> {
@@ -11,6 +13,7 @@ impl<'w> Call<'w> {
     pub(crate) fn of(words: &[&'w str]) -> Option<Call<'w>> {
         match words {
             [command, path] if *command == "chunks" => Some(Call::Chunks(*path)),
+            [command, path] if *command == "check" => Some(Call::Check(*path)),
             _ => None,
         }
     }

@@ -5,10 +5,10 @@ mod call;
 mod chunks;
 mod refusal;
 mod run;
-
-pub use run::run;
+mod summary;
 
 use gltf::Folder;
+pub use run::run;
 use std::env;
 use std::process::ExitCode;
 
@@ -22,7 +22,13 @@ fn main(rt: HostRuntime) -> std::io::Result<ExitCode> {
         words.push(word.as_str())?;
     }
     let mut folder = Folder::new(&rt, base_of(words.as_slice()));
-    let status = run(alloc, &mut folder, words.as_slice(), &mut rt.stdout(), &mut rt.stderr());
+    let status = run(
+        alloc,
+        &mut folder,
+        words.as_slice(),
+        &mut rt.stdout(),
+        &mut rt.stderr(),
+    );
     Ok(ExitCode::from(status))
 }
 

@@ -1,7 +1,6 @@
 //! Why a call is not answered.
 use gltf::{Error, NamedFault};
-use std::fmt;
-use std::io;
+use std::{fmt, io};
 
 /// Why a call is not answered.
 #[derive(Debug, Drop)]

@@ -2,7 +2,8 @@
 use crate::call::Call;
 use crate::chunks::Chunks;
 use crate::refusal::Refusal;
-use gltf::{Glb, Name, NamedBytes};
+use crate::summary::Summary;
+use gltf::{Glb, Name, NamedBytes, import_slice};
 use std::alloc::Global;
 use std::io::Write;
 
@@ -40,6 +41,11 @@ fn answer<S: NamedBytes, O: Write>(
             let bytes = source.read(alloc, Name::File(path))?;
             let glb = Glb::from_slice(&bytes)?;
             write!(out, "{}", Chunks(&glb)).map_err(Refusal::Write)
+        }
+        Some(Call::Check(path)) => {
+            let bytes = source.read(alloc, Name::File(path))?;
+            let (document, _buffers) = import_slice(alloc, &bytes)?;
+            write!(out, "{}", Summary(&document)).map_err(Refusal::Write)
         }
         None => Err(Refusal::Usage),
     }

@@ -5,4 +5,6 @@
 #[cfg(test)]
 mod container;
 #[cfg(test)]
+mod import;
+#[cfg(test)]
 mod names;
