@@ -6,7 +6,7 @@ ghost use Rattle.gltf.specs.Shown.{held, shown};
 ghost use Rattle.gltf_uri.specs.Uri.{uri_of};
 
 use gltf_glb::{Error, Result};
-use gltf_json::buffer as json;
+use gltf_json::buffer::Buffer;
 use gltf_uri::Uri;
 use std::alloc::Global;
 use std::ops::Deref;
@@ -26,7 +26,7 @@ impl Deref for Data {
 /// The bytes of all buffers, by index; the first one without URI is the blob.
 pub(crate) fn read_buffers(
     alloc: Global,
-    buffers: &[json::Buffer],
+    buffers: &[Buffer],
     blob: Option<Vec<u8>>,
 ) -> Result<Vec<Data>>
     ensures ok { IfOk result (λ all. AreBytes (map source_of buffers.now) (held blob) (length (map source_of buffers.now)) (shown all.items)) }
@@ -46,7 +46,7 @@ pub(crate) fn read_buffers(
 fn read_buffer(
     alloc: Global,
     index: usize,
-    buffer: &json::Buffer,
+    buffer: &Buffer,
     blob: &mut Option<Vec<u8>>,
 ) -> Result<Data>
     ensures ok { IfOk result (λ read. bytes_of (held blob.old) index (source_of buffer.now) ≡ Ok read.0.items) }
@@ -66,7 +66,7 @@ fn read_buffer(
 }
 
 /// The bytes of one buffer before zeros are put behind them. One without URI takes the blob.
-fn raw_bytes(alloc: Global, buffer: &json::Buffer, blob: &mut Option<Vec<u8>>) -> Result<Vec<u8>>
+fn raw_bytes(alloc: Global, buffer: &Buffer, blob: &mut Option<Vec<u8>>) -> Result<Vec<u8>>
     ensures ok { IfOk result (λ bytes. raw_bytes (held blob.old) (source_of buffer.now).uri ≡ Ok bytes.items) }
     ensures err { IfErr result (NamesFault (λ f. raw_bytes (held blob.old) (source_of buffer.now).uri ≡ Err f)) }
     ensures blob { held blob.new ≡ (if is_some (source_of buffer.now).uri then held blob.old else None) }

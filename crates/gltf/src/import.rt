@@ -54,7 +54,10 @@ pub(crate) fn raw_document_of(alloc: Global, bytes: &[u8]) -> Result<(RawDocumen
     ensures exact { IfErr result (λ e. e ≢ Memory → IsNoDocument bytes.now) }
 {
     let (root, blob) = root_of(alloc, bytes)?;
-    pair(Document::from_json_without_validation(root), owned(alloc, blob))
+    pair(
+        Document::from_json_without_validation(root),
+        owned(alloc, blob),
+    )
 }
 
 /// The records, and the blob.

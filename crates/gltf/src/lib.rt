@@ -5,10 +5,10 @@ pub mod buffer;
 mod document;
 mod file;
 mod import;
+pub mod json;
 
 pub use document::{Document, RawDocument};
 pub use file::{Gltf, RawGltf};
 pub use gltf_glb::{Error, Glb, Result, binary};
-pub use gltf_json as json;
 pub use gltf_names::{Folder, Name, NamedBytes, NamedFault, Shelf};
 pub use import::import_slice;

@@ -5,7 +5,7 @@ ghost use Rattle.gltf_glb.specs.Texts.{faults_text};
 
 use crate::binary;
 use base64::{DecodeAllocError, DecodeError};
-use gltf_json_record::error as json;
+use gltf_json_record::error::Error as JsonError;
 use gltf_json_record::path::Path;
 use gltf_validation::error as validation;
 use std::alloc::{AllocError, AllocFailed};
@@ -31,7 +31,7 @@ pub enum Error {
         actual: usize,
     },
     /// The text is no JSON, or its value is no glTF document.
-    Deserialize(json::Error),
+    Deserialize(JsonError),
     /// A file, a reader or a writer failed, or a container would be longer than its header can say.
     Io(io::Error),
     /// A buffer has no URI, and there is no BIN chunk for it (glTF 2.0, section 3.6.1.2).
@@ -67,14 +67,14 @@ impl From<io::Error> for Error {
 }
 
 /// Want of memory while a document was read is want of memory.
-impl From<json::Error> for Error {
+impl From<JsonError> for Error {
     ghost use Rattle.gltf_glb.specs.Causes.{from_json};
 
     ghost from_gives = { λ cause e. e ≡ from_json cause };
 
-    fn from(cause: json::Error) -> Error {
+    fn from(cause: JsonError) -> Error {
         match cause {
-            json::Error::Memory => Error::Memory,
+            JsonError::Memory => Error::Memory,
             other => Error::Deserialize(other),
         }
     }

@@ -22,26 +22,26 @@ returns-clause-only c =
     let sources = sources_of c.in_ok-document.document in
     let blob = held c.in_ok-document.blob in
     let made : IfOk c.read_buffers-data.result (λ all. AreBytes (sources_of c.in_ok-document.document) (held c.in_ok-document.blob) (length (sources_of c.in_ok-document.document)) (shown all.items)) =
-        rw (c.deref.ensures.value, c.as_json.ensures) at c.read_buffers-data.ensures.ok in
+    rw (c.deref.ensures.value, c.as_json.ensures) at c.read_buffers-data.ensures.ok in
     ok_of_pair document c.read_buffers-data.result c.pair.result
-      (λ all. AreBytes sources blob (length sources) (shown all.items)) (λ r all. IsOnlyImport c.args.bytes.now r (shown all.items))
-      (λ all bytes. one_import c.args.bytes.now document blob (shown all.items) c.what_shows_the_same_is_alike_in_each_member.ensures c.in_ok-document.ensures.only bytes)
-      made c.pair.ensures.ok
+    (λ all. AreBytes sources blob (length sources) (shown all.items)) (λ r all. IsOnlyImport c.args.bytes.now r (shown all.items))
+    (λ all bytes. one_import c.args.bytes.now document blob (shown all.items) c.what_shows_the_same_is_alike_in_each_member.ensures c.in_ok-document.ensures.only bytes)
+    made c.pair.ensures.ok
 
 pub returns-clause-refused : goal.returns-clause-refused
 returns-clause-refused c =
     let document = c.in_ok-document.document in
     let blob = held c.in_ok-document.blob in
     let told : IfErr c.read_buffers-data.result (NamesFault (HasBufferFault (sources_of c.in_ok-document.document) (held c.in_ok-document.blob))) =
-        rw (c.deref.ensures.value, c.as_json.ensures) at c.read_buffers-data.ensures.err in
+    rw (c.deref.ensures.value, c.as_json.ensures) at c.read_buffers-data.ensures.err in
     err_of_pair document c.read_buffers-data.result c.pair.result (NamesFault (HasBufferFault (sources_of document) blob)) (Refuses c.args.bytes.now)
-      (λ e names. refuses_buffers c.args.bytes.now document blob e c.in_ok-document.ensures.valid names) told c.pair.ensures.err
+    (λ e names. refuses_buffers c.args.bytes.now document blob e c.in_ok-document.ensures.valid names) told c.pair.ensures.err
 
 pub returns-clause-exact : goal.returns-clause-exact
 returns-clause-exact c =
     let document = c.in_ok-document.document in
     let blob = held c.in_ok-document.blob in
     let told : IfErr c.read_buffers-data.result (NamesFault (HasBufferFault (sources_of c.in_ok-document.document) (held c.in_ok-document.blob))) =
-        rw (c.deref.ensures.value, c.as_json.ensures) at c.read_buffers-data.ensures.err in
+    rw (c.deref.ensures.value, c.as_json.ensures) at c.read_buffers-data.ensures.err in
     err_of_pair document c.read_buffers-data.result c.pair.result (NamesFault (HasBufferFault (sources_of document) blob)) (λ e. e ≢ Memory → IsNotAccepted c.args.bytes.now)
-      (λ e names. not_accepted c.args.bytes.now document blob e c.what_shows_the_same_is_alike_in_each_member.ensures c.in_ok-document.ensures.only names) told c.pair.ensures.err
+    (λ e names. not_accepted c.args.bytes.now document blob e c.what_shows_the_same_is_alike_in_each_member.ensures c.in_ok-document.ensures.only names) told c.pair.ensures.err
