@@ -1,0 +1,35 @@
+-- What getters give of members.
+use Rattle.std.specs.Prelude.{◌≡◌, ℕ, ◌==◌, if◌then◌else◌, ⊤, List, Option, Some, None}
+use Rattle.std.specs.Option.{option_map}
+use Rattle.std.specs.BTreeMap.{BTreeMap}
+use Rattle.std.specs.String.{string_bytes}
+use Rattle.std.specs.declared.string.String.{String}
+use Rattle.std.specs.declared.alloc.Global.{Global}
+use Rattle.serde_json.specs.declared.value.Value.{Value}
+use Rattle.gltf_json_record.specs.declared.extensions.Others.{Others}
+use Rattle.gltf_json_record.specs.declared.validation.Checked.{Checked}
+use Rattle.gltf_json_record.specs.declared.validation.Checked.TheVariants.{Valid}
+
+-- the bytes of a text, where it is there
+abbrev pub text : Option (String Global) → Option (List ℕ)
+text o = option_map string_bytes o
+
+-- the extensions of a record that knows none
+abbrev pub unknown : Option Others → Option (BTreeMap (String Global) Value)
+unknown o = option_map (λ e. e.others) o
+
+-- a number, where it is there and above 0
+abbrev pub above_zero : Option ℕ → Option ℕ
+above_zero None = None
+above_zero (Some n) = if n == 0 then None else Some n
+
+-- what `is` says of a member and of what is given for it, or neither is there
+abbrev pub Follows : {M H : Type 0} → (M → H → Type 0) → Option M → Option H → Type 0
+Follows is None None = ⊤
+Follows is None (Some h) = ⊥
+Follows is (Some m) None = ⊥
+Follows is (Some m) (Some h) = is m h
+
+-- the code is in its table, with that meaning
+abbrev pub IsCode : {C : Type 0} → Checked C → C → Type 0
+IsCode code meaning = code ≡ Valid meaning

@@ -1,0 +1,176 @@
+//! The sparse part of an accessor: items that differ from those of its view (glTF 2.0, section 3.6.2.3, "Sparse
+//! Accessors").
+
+ghost use Rattle.std.specs.Prelude.{◌≡◌, ◌≤◌};
+ghost use Rattle.std.specs.Option.{option_copied};
+ghost use Rattle.gltf_validation.specs.Accessors.{sparse_rules, indices_rules, values_rules};
+ghost use Rattle.gltf_validation.specs.Documents.{counts_of};
+ghost use Rattle.gltf_validation.specs.Rules.{Hold, Hold-prop};
+
+use crate::buffer::View;
+use gltf_json::Value;
+use gltf_json::accessor::{ComponentType, sparse};
+use gltf_json::validation::Checked;
+use gltf_rules::Valid;
+
+/// The type of stored indices (glTF 2.0, section 5.3.3, `accessor.sparse.indices.componentType`).
+#[derive(Clone, Copy, Debug, PartialEq, Eq)]
+pub enum IndexType {
+    /// One byte.
+    U8 = 5121,
+    /// Two bytes.
+    U16 = 5123,
+    /// Four bytes.
+    U32 = 5125,
+}
+
+impl IndexType {
+    ghost use Rattle.gltf_handles.specs.Sizes.{index_size};
+
+    /// The bytes of an index.
+    pub fn size(&self) -> usize
+        ensures gives { result ≡ index_size self.now }
+        ensures small { result ≤ 4 }
+    {
+        match self {
+            IndexType::U8 => 1,
+            IndexType::U16 => 2,
+            IndexType::U32 => 4,
+        }
+    }
+}
+
+/// The items of an accessor that differ (glTF 2.0, section 5.2, "Accessor Sparse").
+#[derive(Clone, Copy, Debug)]
+pub struct Sparse<'a> {
+    document: &'a Valid,
+    json: &'a sparse::Sparse,
+    ghost holds: { Hold (sparse_rules (counts_of document.now) json.now) } by { Hold-prop (sparse_rules (counts_of document.now) json.now) },
+}
+
+impl<'a> Sparse<'a> {
+    ghost use Rattle.gltf_handles.specs.Accessors.{shown_sparse, IsSparse, IsIndices, IsValues};
+
+    /// That of an accessor.
+    pub(crate) fn new(document: &'a Valid, json: &'a sparse::Sparse) -> Self
+        requires { Hold (sparse_rules (counts_of document.now) json.now) }
+        ensures { IsSparse document.now json.now result }
+    {
+        Sparse { document, json }
+    }
+
+    /// How many items are stored.
+    pub fn count(&self) -> usize
+        ensures { result ≡ (shown_sparse self.now).json.count }
+    {
+        self.json.count as usize
+    }
+
+    /// Where the positions of the stored items are.
+    pub fn indices(&self) -> Indices<'a>
+        ensures { IsIndices (shown_sparse self.now).document (shown_sparse self.now).json.indices result }
+    {
+        Indices {
+            document: self.document,
+            json: &self.json.indices,
+        }
+    }
+
+    /// Where the stored items are.
+    pub fn values(&self) -> Values<'a>
+        ensures { IsValues (shown_sparse self.now).document (shown_sparse self.now).json.values result }
+    {
+        Values {
+            document: self.document,
+            json: &self.json.values,
+        }
+    }
+
+    /// What the application stores here: `extras`.
+    pub fn extras(&self) -> Option<&'a Value>
+        ensures { option_copied result ≡ (shown_sparse self.now).json.extras }
+    {
+        self.json.extras.as_ref()
+    }
+}
+
+/// Where the positions of the stored items are (glTF 2.0, section 5.3, "Accessor Sparse Indices").
+#[derive(Clone, Copy, Debug)]
+pub struct Indices<'a> {
+    document: &'a Valid,
+    json: &'a sparse::Indices,
+    ghost holds: { Hold (indices_rules (counts_of document.now) json.now) } by { Hold-prop (indices_rules (counts_of document.now) json.now) },
+}
+
+impl<'a> Indices<'a> {
+    ghost use Rattle.gltf_handles.specs.Buffers.{IsView};
+    ghost use Rattle.gltf_handles.specs.Sizes.{index_type, Means};
+    ghost use Rattle.gltf_handles.specs.Accessors.{shown_indices};
+
+    /// The view that holds them.
+    pub fn view(&self) -> View<'a>
+        ensures { IsView (shown_indices self.now).document (shown_indices self.now).json.buffer_view result }
+    {
+        View::new(self.document, self.json.buffer_view.value())
+    }
+
+    /// The distance in bytes from the start of the view to the first index: `byteOffset`, 0 where that is absent.
+    pub fn offset(&self) -> usize
+        ensures { result ≡ (shown_indices self.now).json.byte_offset }
+    {
+        self.json.byte_offset as usize
+    }
+
+    /// The type of each index: `componentType`.
+    pub fn index_type(&self) -> IndexType
+        ensures { Means index_type (shown_indices self.now).json.component_type result }
+    {
+        match self.json.component_type {
+            Checked::Valid(ComponentType::U8) => IndexType::U8,
+            Checked::Valid(ComponentType::U16) => IndexType::U16,
+            Checked::Valid(_) => IndexType::U32,
+            Checked::Invalid => unreachable!(),
+        }
+    }
+
+    /// What the application stores here: `extras`.
+    pub fn extras(&self) -> Option<&'a Value>
+        ensures { option_copied result ≡ (shown_indices self.now).json.extras }
+    {
+        self.json.extras.as_ref()
+    }
+}
+
+/// Where the stored items are (glTF 2.0, section 5.4, "Accessor Sparse Values").
+#[derive(Clone, Copy, Debug)]
+pub struct Values<'a> {
+    document: &'a Valid,
+    json: &'a sparse::Values,
+    ghost holds: { Hold (values_rules (counts_of document.now) json.now) } by { Hold-prop (values_rules (counts_of document.now) json.now) },
+}
+
+impl<'a> Values<'a> {
+    ghost use Rattle.gltf_handles.specs.Buffers.{IsView};
+    ghost use Rattle.gltf_handles.specs.Accessors.{shown_values};
+
+    /// The view that holds them.
+    pub fn view(&self) -> View<'a>
+        ensures { IsView (shown_values self.now).document (shown_values self.now).json.buffer_view result }
+    {
+        View::new(self.document, self.json.buffer_view.value())
+    }
+
+    /// The distance in bytes from the start of the view to the first item: `byteOffset`, 0 where that is absent.
+    pub fn offset(&self) -> usize
+        ensures { result ≡ (shown_values self.now).json.byte_offset }
+    {
+        self.json.byte_offset as usize
+    }
+
+    /// What the application stores here: `extras`.
+    pub fn extras(&self) -> Option<&'a Value>
+        ensures { option_copied result ≡ (shown_values self.now).json.extras }
+    {
+        self.json.extras.as_ref()
+    }
+}

@@ -1,0 +1,215 @@
+//! Buffers and their views (glTF 2.0, section 3.6.1, "Buffers and Buffer Views").
+
+ghost use Rattle.std.specs.Prelude.{◌≡◌, ◌<◌, length, unwrap_or};
+ghost use Rattle.std.specs.BTreeMap.{get_by_text};
+ghost use Rattle.std.specs.Option.{option_copied, option_and_then};
+ghost use Rattle.gltf_handles.specs.Members.{text, unknown, Follows, IsCode, above_zero};
+ghost use Rattle.gltf_validation.specs.Buffers.{view_rules};
+ghost use Rattle.gltf_validation.specs.Documents.{counts_of};
+ghost use Rattle.gltf_validation.specs.Rules.{Hold, Hold-prop};
+
+pub use gltf_json::buffer::Target;
+use gltf_json::validation::Checked;
+use gltf_json::{Map, Value, buffer, kinds};
+use gltf_rules::Valid;
+
+/// A block of bytes (glTF 2.0, section 5.10, "Buffer").
+#[derive(Clone, Copy, Debug)]
+pub struct Buffer<'a> {
+    document: &'a Valid,
+    index: usize,
+    json: &'a buffer::Buffer,
+}
+
+/// Where the bytes of a buffer come from (glTF 2.0, section 3.6.1).
+#[derive(Clone, Copy, Debug)]
+pub enum Source<'a> {
+    /// The binary chunk of a GLB container.
+    Bin,
+    /// What this URI names, or holds.
+    Uri(&'a str),
+}
+
+impl<'a> Buffer<'a> {
+    ghost use Rattle.gltf_handles.specs.Buffers.{shown_buffer, IsBuffer, uri_of};
+
+    /// The buffer at an index below the number of buffers.
+    pub fn new(document: &'a Valid, index: usize) -> Self
+        requires { index < length document.now.buffers.items }
+        ensures { IsBuffer document.now index result }
+    {
+        Buffer {
+            document,
+            index,
+            json: document.get::<kinds::Buffer>(index),
+        }
+    }
+
+    /// The position among the buffers of the document.
+    pub fn index(&self) -> usize
+        ensures { result ≡ (shown_buffer self.now).index }
+    {
+        self.index
+    }
+
+    /// Where the bytes come from: `uri` where it is there, else the binary chunk.
+    pub fn source(&self) -> Source<'a>
+        ensures { uri_of result ≡ text (shown_buffer self.now).json.uri }
+    {
+        match &self.json.uri {
+            Some(uri) => Source::Uri(uri.as_str()),
+            None => Source::Bin,
+        }
+    }
+
+    /// The length in bytes: `byteLength`.
+    pub fn length(&self) -> usize
+        ensures { result ≡ (shown_buffer self.now).json.byte_length }
+    {
+        self.json.byte_length as usize
+    }
+
+    /// The name given by the user.
+    pub fn name(&self) -> Option<&'a str>
+        ensures { option_copied result ≡ text (shown_buffer self.now).json.name }
+    {
+        match &self.json.name {
+            Some(name) => Some(name.as_str()),
+            None => None,
+        }
+    }
+
+    /// The extensions, none of which is known at a buffer; None where there is no member `extensions`.
+    pub fn extensions(&self) -> Option<&'a Map<String, Value>>
+        ensures { option_copied result ≡ unknown (shown_buffer self.now).json.extensions }
+    {
+        match &self.json.extensions {
+            Some(extensions) => Some(&extensions.others),
+            None => None,
+        }
+    }
+
+    /// The extension of this name.
+    pub fn extension_value(&self, name: &str) -> Option<&'a Value>
+        ensures { option_copied result
+            ≡ option_and_then (λ m. get_by_text m name.now) (unknown (shown_buffer self.now).json.extensions) }
+    {
+        self.extensions()?.get(name)
+    }
+
+    /// What the application stores here: `extras`.
+    pub fn extras(&self) -> Option<&'a Value>
+        ensures { option_copied result ≡ (shown_buffer self.now).json.extras }
+    {
+        self.json.extras.as_ref()
+    }
+}
+
+/// A slice of a buffer (glTF 2.0, section 5.11, "Buffer View").
+#[derive(Clone, Copy, Debug)]
+pub struct View<'a> {
+    document: &'a Valid,
+    index: usize,
+    json: &'a buffer::View,
+    ghost holds: { Hold (view_rules (counts_of document.now) json.now) } by { Hold-prop (view_rules (counts_of document.now) json.now) },
+}
+
+impl<'a> View<'a> {
+    ghost use Rattle.gltf_handles.specs.Buffers.{shown_view, IsBuffer, IsView};
+
+    /// The view at an index below the number of views.
+    pub fn new(document: &'a Valid, index: usize) -> Self
+        requires { index < length document.now.buffer_views.items }
+        ensures { IsView document.now index result }
+    {
+        View {
+            document,
+            index,
+            json: document.get::<kinds::View>(index),
+        }
+    }
+
+    /// The position among the views of the document.
+    pub fn index(&self) -> usize
+        ensures { result ≡ (shown_view self.now).index }
+    {
+        self.index
+    }
+
+    /// The buffer that it is a slice of.
+    pub fn buffer(&self) -> Buffer<'a>
+        ensures { IsBuffer (shown_view self.now).document (shown_view self.now).json.buffer result }
+    {
+        Buffer::new(self.document, self.json.buffer.value())
+    }
+
+    /// The length in bytes: `byteLength`.
+    pub fn length(&self) -> usize
+        ensures { result ≡ (shown_view self.now).json.byte_length }
+    {
+        self.json.byte_length as usize
+    }
+
+    /// The distance in bytes from the start of the buffer: `byteOffset`, 0 where that is absent.
+    pub fn offset(&self) -> usize
+        ensures { result ≡ unwrap_or (shown_view self.now).json.byte_offset 0 }
+    {
+        self.json.byte_offset.unwrap_or(0) as usize
+    }
+
+    /// The distance in bytes from item to item: `byteStride`. None where that is absent or 0: items are packed.
+    pub fn stride(&self) -> Option<usize>
+        ensures { result ≡ above_zero (shown_view self.now).json.byte_stride }
+    {
+        match self.json.byte_stride {
+            None | Some(0) => None,
+            Some(stride) => Some(stride as usize),
+        }
+    }
+
+    /// The name given by the user.
+    pub fn name(&self) -> Option<&'a str>
+        ensures { option_copied result ≡ text (shown_view self.now).json.name }
+    {
+        match &self.json.name {
+            Some(name) => Some(name.as_str()),
+            None => None,
+        }
+    }
+
+    /// What the bytes are for: `target`.
+    pub fn target(&self) -> Option<Target>
+        ensures { Follows IsCode (shown_view self.now).json.target result }
+    {
+        match self.json.target {
+            None => None,
+            Some(Checked::Valid(target)) => Some(target),
+            Some(Checked::Invalid) => unreachable!(),
+        }
+    }
+
+    /// The extensions, none of which is known at a view; None where there is no member `extensions`.
+    pub fn extensions(&self) -> Option<&'a Map<String, Value>>
+        ensures { option_copied result ≡ unknown (shown_view self.now).json.extensions }
+    {
+        match &self.json.extensions {
+            Some(extensions) => Some(&extensions.others),
+            None => None,
+        }
+    }
+
+    /// The extension of this name.
+    pub fn extension_value(&self, name: &str) -> Option<&'a Value>
+        ensures { option_copied result
+            ≡ option_and_then (λ m. get_by_text m name.now) (unknown (shown_view self.now).json.extensions) }
+    {
+        self.extensions()?.get(name)
+    }
+
+    /// What the application stores here: `extras`.
+    pub fn extras(&self) -> Option<&'a Value>
+        ensures { option_copied result ≡ (shown_view self.now).json.extras }
+    {
+        self.json.extras.as_ref()
+    }
+}
