@@ -1,0 +1,6 @@
+mod Positions
+mod Bounds
+mod Addressed
+mod Wholes
+mod Accessors
+mod Always

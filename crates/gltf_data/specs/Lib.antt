@@ -1,0 +1,5 @@
+pub mod Iter
+pub mod Walk
+pub mod Steps
+pub mod Parts
+pub mod Answers
