@@ -1,5 +1,5 @@
 -- A walk told by the items that are left is the walk told by a position.
-use Rattle.std.proofs.Common.{◌≡◌, ℕ, zero, suc, ◌+◌, ◌-◌, ◌<◌, ◌≤◌, List, [], ◌∷◌, length, drop, refl, sym, ap, ◌∙◌, arith, inl, inr, length-drop}
+use Rattle.std.proofs.Common.{◌≡◌, ℕ, zero, suc, ◌+◌, ◌-◌, List, [], ◌∷◌, length, drop, refl, sym, ap, ◌∙◌, arith, inl, inr, length-drop}
 use Rattle.std.specs.Prelude.{min, slice_get, None, nat_lt, if◌then◌else◌}
 use Rattle.std.proofs.lemmas.List.{drop-drop, drop_min}
 use Rattle.std.proofs.lemmas.Option.{slice_get_past}
