@@ -1,0 +1,5 @@
+//! Tests of handles, lists and the items of accessors.
+#![tactic(auto)]
+
+#[cfg(test)]
+mod tests;
