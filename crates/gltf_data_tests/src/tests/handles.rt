@@ -4,6 +4,8 @@ use crate::tests::document;
 use gltf_data::accessor::sparse::IndexType;
 use gltf_data::accessor::{DataType, Dimensions};
 use gltf_data::iter::{buffers, views};
+use gltf_rules::Valid;
+use std::alloc::{AllocError, Global};
 use std::test::Fail;
 
 const VIEWS: &str =
@@ -21,14 +23,25 @@ fn a_stride_of_zero_is_none(rt: HostRuntime) -> Result<(), Fail> {
     Ok(())
 }
 
+/// The lengths of all buffers, in order.
+fn lengths(alloc: Global, document: &Valid) -> Result<Vec<usize>, AllocError> {
+    let mut lengths = Vec::new(alloc);
+    let mut buffers = buffers(document);
+    for _ in 0..buffers.len() {
+        if let Some(buffer) = buffers.next() {
+            lengths.push(buffer.length())?;
+        }
+    }
+    Ok(lengths)
+}
+
 #[test]
 fn a_list_gives_each_handle_once_in_order(rt: HostRuntime) -> Result<(), Fail> {
     let document = document(rt.alloc(), VIEWS)?;
-    let mut lengths = Vec::new(rt.alloc());
-    for buffer in buffers(&document) {
-        lengths.push(buffer.length())?;
-    }
-    assert_eq!(rt; lengths.as_slice(), [8, 4].as_slice());
+    assert_eq!(rt;
+        lengths(rt.alloc(), &document)?.as_slice(),
+        [8, 4].as_slice()
+    );
     let last = views(&document).last().ok_or("no view")?;
     assert_eq!(rt; last.index(), 1);
     assert_eq!(rt; last.buffer().index(), 1);
