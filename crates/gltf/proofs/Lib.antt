@@ -4,3 +4,4 @@ pub mod Parts
 pub mod Layers
 pub mod Once
 pub mod Pairs
+mod Imported

@@ -3,3 +3,4 @@ pub mod BufferErrors
 pub mod RuleErrors
 pub mod Shown
 pub mod Import
+pub mod Items

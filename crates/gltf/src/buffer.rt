@@ -1,32 +1,44 @@
-//! The bytes of buffers (glTF 2.0, section 3.6.1).
+//! Buffers, their views and their bytes (glTF 2.0, section 3.6.1, "Buffers and Buffer Views").
 ghost use Rattle.std.specs.Prelude.{◌≡◌, Ok, Err, IfOk, IfErr, is_some, if◌then◌else◌, None, map, length};
 ghost use Rattle.gltf.specs.Buffers.{bytes_of, raw_bytes, meant_bytes, source_of, AreBytes, HasBufferFault};
 ghost use Rattle.gltf.specs.BufferErrors.{NamesFault};
 ghost use Rattle.gltf.specs.Shown.{held, shown};
 ghost use Rattle.gltf_uri.specs.Uri.{uri_of};
 
+pub use gltf_data::buffer::{Buffer, Source, Target, View};
 use gltf_glb::{Error, Result};
-use gltf_json::buffer::Buffer;
+use gltf_json::buffer;
 use gltf_uri::Uri;
-use std::alloc::Global;
-use std::ops::Deref;
+use std::alloc::{AllocError, Global};
+use std::ops::DerefSlice;
 
 /// The bytes of one buffer, followed by zeros up to a multiple of four.
 #[derive(Debug, Drop)]
 pub struct Data(pub Vec<u8>);
 
-impl Deref for Data {
-    type Target = Vec<u8>;
+impl Data {
+    /// A copy of the bytes.
+    pub fn clone(&self, alloc: Global) -> Result<Data, AllocError>
+        ensures { IfOk result (λ copy. copy.0.items ≡ self.now.0.items) }
+    {
+        Ok(Data(Vec::from_slice(alloc, &self.0)?))
+    }
+}
 
-    fn deref(&self) -> &Vec<u8> {
-        &self.0
+impl DerefSlice for Data {
+    type Elem = u8;
+
+    ghost deref_gives = { λ buffer bytes. bytes ≡ buffer.0.items };
+
+    fn deref(&self) -> &[u8] {
+        self.0.as_slice()
     }
 }
 
 /// The bytes of all buffers, by index; the first one without URI is the blob.
 pub(crate) fn read_buffers(
     alloc: Global,
-    buffers: &[Buffer],
+    buffers: &[buffer::Buffer],
     blob: Option<Vec<u8>>,
 ) -> Result<Vec<Data>>
     ensures ok { IfOk result (λ all. AreBytes (map source_of buffers.now) (held blob) (length (map source_of buffers.now)) (shown all.items)) }
@@ -46,7 +58,7 @@ pub(crate) fn read_buffers(
 fn read_buffer(
     alloc: Global,
     index: usize,
-    buffer: &Buffer,
+    buffer: &buffer::Buffer,
     blob: &mut Option<Vec<u8>>,
 ) -> Result<Data>
     ensures ok { IfOk result (λ read. bytes_of (held blob.old) index (source_of buffer.now) ≡ Ok read.0.items) }
@@ -66,7 +78,7 @@ fn read_buffer(
 }
 
 /// The bytes of one buffer before zeros are put behind them. One without URI takes the blob.
-fn raw_bytes(alloc: Global, buffer: &Buffer, blob: &mut Option<Vec<u8>>) -> Result<Vec<u8>>
+fn raw_bytes(alloc: Global, buffer: &buffer::Buffer, blob: &mut Option<Vec<u8>>) -> Result<Vec<u8>>
     ensures ok { IfOk result (λ bytes. raw_bytes (held blob.old) (source_of buffer.now).uri ≡ Ok bytes.items) }
     ensures err { IfErr result (NamesFault (λ f. raw_bytes (held blob.old) (source_of buffer.now).uri ≡ Err f)) }
     ensures blob { held blob.new ≡ (if is_some (source_of buffer.now).uri then held blob.old else None) }

@@ -2,11 +2,20 @@
 ghost use Rattle.std.specs.Prelude.{◌≡◌, [], IfOk, IfErr, OnOk};
 ghost use Rattle.gltf_validation.specs.Documents.{Faults};
 ghost use Rattle.gltf.specs.RuleErrors.{TellsRules};
+ghost use Rattle.gltf.specs.Shown.{unknown};
+ghost use Rattle.gltf_handles.specs.Documents.{AreBuffers, AreViews, AreAccessors, AreTexts};
+ghost use Rattle.gltf_handles.specs.Lists.{position};
+ghost use Rattle.std.specs.BTreeMap.{get_by_text};
+ghost use Rattle.std.specs.Option.{option_copied, option_and_then};
 
+use gltf_data::iter::{
+    self, Accessors, Buffers, ExtensionsRequired, ExtensionsUsed, Views,
+};
 use gltf_glb::{Error, Result};
 use gltf_json::root::Root;
+use gltf_json::{Map, Value};
 use gltf_rules::{Refused, Valid, validate};
-use std::alloc::Global;
+use std::alloc::{AllocError, Global};
 use std::marker::Model;
 
 /// A document that breaks no rule. Contracts see its root.
@@ -76,6 +85,65 @@ impl Document {
     {
         &self.valid
     }
+
+    /// A copy of the document.
+    pub fn clone(&self, alloc: Global) -> Result<Document, AllocError> {
+        let valid = self.valid.clone(alloc)?;
+        Ok(Document { valid })
+    }
+
+    /// The buffers, in index order (glTF 2.0, section 3.6.1, "Buffers and Buffer Views").
+    pub fn buffers(&self) -> Buffers<'_>
+        ensures { AreBuffers self.now (position result) }
+    {
+        iter::buffers(&self.valid)
+    }
+
+    /// The buffer views, in index order (glTF 2.0, section 3.6.1, "Buffers and Buffer Views").
+    pub fn views(&self) -> Views<'_>
+        ensures { AreViews self.now (position result) }
+    {
+        iter::views(&self.valid)
+    }
+
+    /// The accessors, in index order (glTF 2.0, section 3.6.2, "Accessors").
+    pub fn accessors(&self) -> Accessors<'_>
+        ensures { AreAccessors self.now (position result) }
+    {
+        iter::accessors(&self.valid)
+    }
+
+    /// The names of the extensions that the document uses, in stored order: `extensionsUsed` (glTF 2.0, section 3.12).
+    pub fn extensions_used(&self) -> ExtensionsUsed<'_>
+        ensures { AreTexts self.now.extensions_used.items (position result) }
+    {
+        iter::extensions_used(&self.valid)
+    }
+
+    /// The names of the extensions without which the document cannot be shown, in stored order: `extensionsRequired`
+    /// (glTF 2.0, section 3.12).
+    pub fn extensions_required(&self) -> ExtensionsRequired<'_>
+        ensures { AreTexts self.now.extensions_required.items (position result) }
+    {
+        iter::extensions_required(&self.valid)
+    }
+
+    /// The extensions that are not known at the document; None where there is no member `extensions`.
+    pub fn extensions(&self) -> Option<&Map<String, Value>>
+        ensures { option_copied result ≡ unknown self.now.extensions }
+    {
+        match &self.as_json().extensions {
+            Some(extensions) => Some(&extensions.others),
+            None => None,
+        }
+    }
+
+    /// The extension of this name, where it is not known.
+    pub fn extension_value(&self, name: &str) -> Option<&Value>
+        ensures { option_copied result ≡ option_and_then (λ m. get_by_text m name.now) (unknown self.now.extensions) }
+    {
+        self.extensions()?.get(name)
+    }
 }
 
 /// A document whose rules nobody has checked. Contracts see its root.
@@ -96,6 +164,12 @@ impl Model for RawDocument {
 }
 
 impl RawDocument {
+    /// A copy of the document.
+    pub fn clone(&self, alloc: Global) -> Result<RawDocument, AllocError> {
+        let json = self.json.clone(alloc)?;
+        Ok(RawDocument { json })
+    }
+
     /// The records.
     pub fn as_json(&self) -> &Root
         ensures { result.now ≡ self.now }

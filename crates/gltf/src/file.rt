@@ -1,5 +1,5 @@
 //! A document and its blob, from the bytes of a file.
-ghost use Rattle.std.specs.Prelude.{◌≢◌, IfOk, IfErr};
+ghost use Rattle.std.specs.Prelude.{◌≡◌, ◌≢◌, IfOk, IfErr};
 ghost use Rattle.gltf_glb.specs.declared.error.Error.TheVariants.{Memory};
 ghost use Rattle.gltf.specs.Import.{IsDocument, IsValidDocument, Refuses, IsOnlyDocument, IsNoDocument, IsNoValidDocument};
 ghost use Rattle.gltf.specs.Shown.{held};
@@ -7,8 +7,8 @@ ghost use Rattle.gltf.specs.Shown.{held};
 use crate::document::{Document, RawDocument};
 use crate::import::{document_of, raw_document_of};
 use gltf_glb::Result;
-use std::alloc::Global;
-use std::ops::Deref;
+use std::alloc::{AllocError, Global};
+use std::ops::{Deref, DerefMut};
 
 /// A document that breaks no rule, and its binary buffer.
 #[derive(Debug, Drop)]
@@ -29,7 +29,37 @@ pub struct RawGltf {
     pub blob: Option<Vec<u8>>,
 }
 
+/// A copy of a blob.
+fn copied(alloc: Global, blob: &Option<Vec<u8>>) -> Result<Option<Vec<u8>>, AllocError>
+    ensures { IfOk result (λ copy. held copy ≡ held blob.now) }
+{
+    match blob {
+        Some(bytes) => Ok(Some(Vec::from_slice(alloc, bytes)?)),
+        None => Ok(None),
+    }
+}
+
+impl RawGltf {
+    /// A copy of the file.
+    pub fn clone(&self, alloc: Global) -> Result<RawGltf, AllocError>
+        ensures { IfOk result (λ copy. held copy.blob ≡ held self.now.blob) }
+    {
+        let document = self.document.clone(alloc)?;
+        let blob = copied(alloc, &self.blob)?;
+        Ok(RawGltf { document, blob })
+    }
+}
+
 impl Gltf {
+    /// A copy of the file.
+    pub fn clone(&self, alloc: Global) -> Result<Gltf, AllocError>
+        ensures { IfOk result (λ copy. held copy.blob ≡ held self.now.blob) }
+    {
+        let document = self.document.clone(alloc)?;
+        let blob = copied(alloc, &self.blob)?;
+        Ok(Gltf { document, blob })
+    }
+
     /// The document of a file, and its blob: of a GLB container where the bytes begin with `glTF`,
     /// else of JSON text. No buffer is looked at.
     ///
@@ -60,7 +90,17 @@ impl Gltf {
 impl Deref for Gltf {
     type Target = Document;
 
+    ghost deref_gives = { λ file document. document ≡ file.document };
+
     fn deref(&self) -> &Document {
         &self.document
+    }
+}
+
+impl DerefMut for Gltf {
+    ghost deref_mut_gives = { λ file document. document ≡ file.document };
+
+    fn deref_mut(&mut self) -> &mut Document {
+        &mut self.document
     }
 }

@@ -5,10 +5,15 @@ pub mod buffer;
 mod document;
 mod file;
 mod import;
+mod items;
 pub mod json;
 
+pub use accessor::Accessor;
+pub use buffer::Buffer;
 pub use document::{Document, RawDocument};
 pub use file::{Gltf, RawGltf};
+pub use gltf_data::{accessor, iter};
 pub use gltf_glb::{Error, Glb, Result, binary};
 pub use gltf_names::{Folder, Name, NamedBytes, NamedFault, Shelf};
 pub use import::import_slice;
+pub use items::{imported_items, read_items};

@@ -48,7 +48,7 @@ module _ {Gives : Results} {r : Root} {answer : ℕ → Option (List ℕ)} (alwa
       ∙ ap (λ x. sparse t.zero_item (base_items t.value (base_part t.size r a) (answer_for answer (base_part t.size r a))) a.count x (part_items t.value (value_part t.size r s) o.values)) (part_same _ (index_part r s) o.indices (asked.indices h.base))
       ∙ ap (λ x. sparse t.zero_item (base_items t.value (base_part t.size r a) (answer_for answer (base_part t.size r a))) a.count (index_items r s (answer_for answer (index_part r s))) x) (part_same t.value (value_part t.size r s) o.values (asked.values h.base h.indices))
 
-same_where : {X P Q : Type 0} (v w : X) (out : Option X) → (P → Q) → (Q → P) → (P → v ≡ w) → SomeIff out P v → SomeIff out Q w
+pub same_where : {X P Q : Type 0} (v w : X) (out : Option X) → (P → Q) → (Q → P) → (P → v ≡ w) → SomeIff out P v → SomeIff out Q w
 same_where v w None to from is h = λ q. h (from q)
 same_where v w (Some x) to from is h = (to h.0, h.1 ∙ is h.0)
 

@@ -4,3 +4,4 @@ mod Addressed
 mod Wholes
 mod Accessors
 mod Always
+mod Alike

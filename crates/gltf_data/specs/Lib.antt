@@ -3,3 +3,4 @@ pub mod Walk
 pub mod Steps
 pub mod Parts
 pub mod Answers
+pub mod Documents

@@ -4,6 +4,7 @@
 pub mod accessor;
 mod accessor_iter;
 mod items;
+pub mod laws;
 mod part;
 mod walk;
 

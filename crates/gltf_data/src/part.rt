@@ -8,6 +8,7 @@ ghost use Rattle.gltf_data.specs.Answers.{Answered, ReadsPart};
 ghost use Rattle.gltf_data.specs.Parts.{Fits, part_of, stride, view_offset};
 
 use gltf_handles::buffer::{Buffer, View};
+use gltf_items::laws::items_of_a_cut;
 use gltf_items::{Item, ItemIter};
 
 /// What the closure gives for a view's buffer.
@@ -75,6 +76,8 @@ pub(crate) fn items<'s, T: Item, F: Fn(Buffer) -> Option<&'s [u8]>>(
     ensures { ReadsPart (λ b o. F.post get_buffer_data.now b o) (shown_view view.entry).document T.value
         (part_of (shown_view view.entry).json offset count T.size) (option_map items_left result) }
 {
+    // A law that the proof stands on; the call does nothing.
+    items_of_a_cut::<T>();
     let bytes = ask(view, get_buffer_data)?;
     let size = T::size();
     let items = cut(bytes, view, offset, count, size)?;

@@ -1,9 +1,9 @@
-//! The lists of a document: each handle of a kind once, in index order.
+//! The lists of a document: each handle of a kind once, in index order; and the names of extensions, as they stand.
 
-ghost use Rattle.std.specs.Prelude.{length};
+ghost use Rattle.std.specs.Prelude.{◌≡◌, length, slice_get, Some, map, string_bytes};
 ghost use Rattle.gltf_handles.specs.Accessors.{IsAccessor};
 ghost use Rattle.gltf_handles.specs.Buffers.{IsBuffer, IsView};
-ghost use Rattle.gltf_handles.specs.Documents.{AreBuffers, AreViews, AreAccessors};
+ghost use Rattle.gltf_handles.specs.Documents.{AreBuffers, AreViews, AreAccessors, AreTexts};
 ghost use Rattle.gltf_handles.specs.Lists.{position};
 
 use crate::accessor::Accessor;
@@ -19,6 +19,13 @@ pub type Views<'a> = List<AllViews<'a>>;
 
 /// The accessors of a document (glTF 2.0, section 3.6.2, "Accessors").
 pub type Accessors<'a> = List<AllAccessors<'a>>;
+
+/// The names of the extensions that a document uses: `extensionsUsed` (glTF 2.0, section 3.12, "Specifying Extensions").
+pub type ExtensionsUsed<'a> = List<Texts<'a>>;
+
+/// The names of the extensions without which a document cannot be shown: `extensionsRequired` (glTF 2.0, section 3.12,
+/// "Specifying Extensions").
+pub type ExtensionsRequired<'a> = List<Texts<'a>>;
 
 /// All buffers of a document.
 pub fn buffers<'a>(document: &'a Valid) -> Buffers<'a>
@@ -39,6 +46,22 @@ pub fn accessors<'a>(document: &'a Valid) -> Accessors<'a>
     ensures { AreAccessors document.now (position result) }
 {
     List::new(AllAccessors { document })
+}
+
+/// The names of the extensions that a document uses, in stored order.
+pub fn extensions_used<'a>(document: &'a Valid) -> ExtensionsUsed<'a>
+    ensures { AreTexts document.now.extensions_used.items (position result) }
+{
+    let texts = &document.as_root().extensions_used;
+    List::new(Texts { texts })
+}
+
+/// The names of the extensions without which a document cannot be shown, in stored order.
+pub fn extensions_required<'a>(document: &'a Valid) -> ExtensionsRequired<'a>
+    ensures { AreTexts document.now.extensions_required.items (position result) }
+{
+    let texts = &document.as_root().extensions_required;
+    List::new(Texts { texts })
 }
 
 /// What `Buffers` goes over.
@@ -107,5 +130,28 @@ impl<'a> Indexed for AllAccessors<'a> {
 
     fn get(&self, index: usize) -> Accessor<'a> {
         Accessor::new(self.document, index)
+    }
+}
+
+/// What `ExtensionsUsed` and `ExtensionsRequired` go over.
+#[derive(Clone, Copy, Debug)]
+pub struct Texts<'a> {
+    /// The texts, in stored order.
+    pub texts: &'a [String],
+}
+
+impl<'a> Indexed for Texts<'a> {
+    type Item = &'a str;
+
+    ghost count = { λ s. length s.texts.now };
+
+    ghost gives = { λ s i t. slice_get (map string_bytes s.texts.now) i ≡ Some t.now };
+
+    fn len(&self) -> usize {
+        self.texts.len()
+    }
+
+    fn get(&self, index: usize) -> &'a str {
+        self.texts[index].as_str()
     }
 }

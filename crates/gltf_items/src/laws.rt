@@ -1,7 +1,8 @@
 //! Laws of the definitions that the contracts of this crate name. Each function's contract is the law. It needs no
 //! body, but for the equality, which is asked there.
 
-ghost use Rattle.std.specs.Prelude.{◌≡◌, ℕ, ◌+◌, ◌*◌, ◌<◌, ◌≤◌, ◌↔◌, IsTrue, List, Option, length, drop, slice_get, SomeIff};
+ghost use Rattle.std.specs.Prelude.{◌≡◌, ℕ, ◌+◌, ◌-◌, ◌*◌, ◌<◌, ◌≤◌, ◌↔◌, IsTrue, List, Option, length, map, take, drop, slice_get, SomeIff};
+ghost use Rattle.std.specs.List.{range_with_len};
 ghost use Rattle.gltf_items.specs.Plain.{plain};
 ghost use Rattle.gltf_items.specs.Sparse.{front, total, sparse, sparse_item};
 ghost use Rattle.gltf_items.specs.Laws.{NthIsNext, IsFront, Overrides};
@@ -21,6 +22,16 @@ pub fn plain_by_position<T: Item>()
         SomeIff (slice_get (plain T.size T.value bytes stride) i)
         (i * stride + T.size ≤ length bytes)
         (T.value (drop (i * stride) bytes)) }
+{}
+
+/// Where bytes begin with the first of some items and end with the last one, these are all items there, and each is what
+/// stands so many strides behind the start.
+pub fn items_of_a_cut<T: Item>()
+    requires fits { T.size < usize.MAX }
+    ensures { (bytes : List ℕ) (stride start count : ℕ) → T.size ≤ stride → 0 < count
+        → start + (stride * (count - 1) + T.size) ≤ length bytes
+        → plain T.size T.value (take (stride * (count - 1) + T.size) (drop start bytes)) stride
+        ≡ map (λ i. T.value (drop (start + i * stride) bytes)) (range_with_len 0 count) }
 {}
 
 /// The stored indices that count are their longest strictly increasing beginning that is no longer than the values.

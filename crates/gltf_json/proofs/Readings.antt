@@ -2,7 +2,6 @@
 use Rattle.std.proofs.Common.{◌≡◌, ◌≢◌, ℕ, List, Result, Ok, Err, IfOk, IfErr, subst}
 use Rattle.serde_json.specs.Data.{Data}
 use Rattle.serde_json.specs.Read.{read}
-use Rattle.gltf_json_record.specs.PlainLaws.{plain_alike}
 use Rattle.gltf_json_record.specs.declared.error.Error.{Error}
 use Rattle.gltf_json_record.specs.declared.error.Error.TheVariants.{Memory}
 use Rattle.gltf_json.specs.Documents.{root}
@@ -22,4 +21,5 @@ refused_unread d (Err e) refused = λ other r is. refused other (root.needs d r 
 pub texts_alike : (bytes : List ℕ) (d e : Data) (r s : Root) → Reads bytes d → Reads bytes e → root.is d r → root.is e s → root.seen r ≡ root.seen s
 texts_alike bytes d e r s first second is other =
     let IsReading : Data → Type 0 = λ v. root.is v s in
-    root.alike d r s is (subst IsReading (plain_alike (read bytes) e d second.1 first.1) other)
+    let one : e ≡ d = cc (first.1, second.1) in
+    root.alike d r s is (subst IsReading one other)

@@ -1,11 +1,8 @@
-//! Tests of the records of a document: what each member is read as, by the table of its record, and which
-//! fault is told at which place.
+//! Tests of the records of a document: what each member is read as, by the table of its record.
 #![tactic(auto)]
 
 #[cfg(test)]
 mod animation;
-#[cfg(test)]
-mod errors;
 #[cfg(test)]
 mod geometry;
 #[cfg(test)]

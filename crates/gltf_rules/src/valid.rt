@@ -86,6 +86,15 @@ impl Valid {
         }
     }
 
+    /// A copy of the document. It is held to the rules anew, since no contract says that a copied record shows the same.
+    pub fn clone(&self, alloc: Global) -> Result<Valid, AllocError> {
+        let root = self.root.clone(alloc)?;
+        match Valid::new(alloc, root) {
+            Ok(valid) => Ok(valid),
+            Err(_) => Err(AllocError),
+        }
+    }
+
     /// The document.
     pub fn as_root(&self) -> &Root
         ensures same { result.now ≡ self.now }

@@ -68,7 +68,7 @@ impl<'a> Glb<'a> {
     }
 
     /// The same parts again: what is lent stays lent, what is owned is copied.
-    pub fn clone(&self, alloc: Global) -> std::result::Result<Glb<'a>, AllocError>
+    pub fn clone(&self, alloc: Global) -> Result<Glb<'a>, AllocError>
         ensures { IfOk result (IsCopy self.now) }
     {
         let bin = match &self.bin {
@@ -105,7 +105,7 @@ fn items<'p>(part: &'p Option<CowSlice<'_, u8>>) -> Option<&'p [u8]>
 fn copy_of<'a>(
     alloc: Global,
     part: &CowSlice<'a, u8>,
-) -> std::result::Result<CowSlice<'a, u8>, AllocError>
+) -> Result<CowSlice<'a, u8>, AllocError>
     ensures { IfOk result (λ copy. cow_slice_items copy ≡ cow_slice_items part.now) }
 {
     match part {
