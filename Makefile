@@ -7,8 +7,11 @@ CALL ?= chunks
 show:
 	@cd crates/gltf_show && rt run -- $(CALL) $(abspath $(FILE))
 
-# Proves everything from nothing, tries the wrong bodies, and runs the tests and the program.
+# Proves everything from nothing, tries the wrong bodies, and runs the tests and the programs. A program sees the files of
+# its own folder alone, so the examples stand there too.
 test:
+	@cmp examples/box.glb crates/gltf_examples/data/box.glb
+	@cmp examples/triangle.gltf crates/gltf_examples/data/triangle.gltf
 	@rt ci
 
 .PHONY: show test

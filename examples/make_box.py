@@ -35,7 +35,8 @@ def faces():
             yield normal, corners
 
 
-def main():
+def vertices():
+    """The positions, normals and texture coordinates of all corners, and the corners of all triangles."""
     positions, normals, tex_coords, indices = [], [], [], []
     for normal, corners in faces():
         first = len(positions)
@@ -43,7 +44,11 @@ def main():
         normals += [normal] * 4
         tex_coords += [(0.0, 1.0), (1.0, 1.0), (1.0, 0.0), (0.0, 0.0)]
         indices += [first + i for i in (0, 1, 2, 0, 2, 3)]
+    return positions, normals, tex_coords, indices
 
+
+def main():
+    positions, normals, tex_coords, indices = vertices()
     parts = [
         b"".join(struct.pack("<3f", *p) for p in positions),
         b"".join(struct.pack("<3f", *n) for n in normals),

@@ -17,6 +17,13 @@ use std::ops::DerefSlice;
 pub struct Data(pub Vec<u8>);
 
 impl Data {
+    /// How many bytes there are, with the zeros behind them.
+    pub fn len(&self) -> usize
+        ensures { result ≡ length self.now.0.items }
+    {
+        self.0.len()
+    }
+
     /// A copy of the bytes.
     pub fn clone(&self, alloc: Global) -> Result<Data, AllocError>
         ensures { IfOk result (λ copy. copy.0.items ≡ self.now.0.items) }

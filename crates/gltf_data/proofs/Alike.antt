@@ -215,9 +215,9 @@ module _ (r s : Root) (views : map buffer_view.seen r.buffer_views.items ≡ map
 
   readable_alike : (answer : ℕ → Option (List ℕ)) (size : ℕ) (a b : Accessor) → SameAccessor a b → Readable size r a (answers_by answer size r a) → Readable size s b (answers_by answer size s b)
   readable_alike answer size a b same ready = record {
-      same_size = ready.same_size ∙ size_alike a b same;
-      parts = parts_alike answer size a b same a.sparse b.sparse same.sparse ready.parts;
-    }
+    same_size = ready.same_size ∙ size_alike a b same;
+    parts = parts_alike answer size a b same a.sparse b.sparse same.sparse ready.parts;
+  }
 
   items_alike : {X : Type 0} (t : Ghosts X) (answer : ℕ → Option (List ℕ)) (a b : Accessor) → SameAccessor a b → (x y : Option Sparse) → option_map sparse_kind.seen x ≡ option_map sparse_kind.seen y
       → items_with t r a x (answers_with answer t.size r a x) ≡ items_with t s b y (answers_with answer t.size s b y)

@@ -63,7 +63,7 @@ multiplicity Mat4 = 16
 abbrev pub item_size : Accessor → ℕ
 item_size a = coded (λ c. component_size (data_type c)) a.component_type * coded (λ c. multiplicity (dimensions c)) a.type_
 
--- the type of stored indices: every code but the first two is the third, since no other is in the table
+-- the type of stored indices: every code but the first two is the third, since rules let no other stand
 abbrev pub index_type : code.ComponentType → IndexType
 index_type code.TheVariants.U8 = stored.U8
 index_type code.TheVariants.U16 = stored.U16

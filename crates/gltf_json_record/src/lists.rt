@@ -19,7 +19,7 @@ impl<T: FromValue> FromValue for Vec<T> {
         let Some(items) = value.as_array() else {
             return Err(wrong_kind(alloc));
         };
-        let mut list = Vec::new(alloc);
+        let mut list = Vec::with_capacity(alloc, items.len())?;
         for (i, item) in items.iter().enumerate() {
             match T::from_value(alloc, item) {
                 Ok(read) => list.push(read)?,
@@ -31,6 +31,7 @@ impl<T: FromValue> FromValue for Vec<T> {
 }
 
 /// An array that is empty where its member is absent.
+#[inline]
 pub fn list_or_empty<T: FromValue>(
     alloc: Global,
     value: &Value,

@@ -44,6 +44,7 @@ pub fn read<T: FromValue>(alloc: Global, value: &Value) -> Result<T, Error>
 }
 
 /// The fault of a value that is of another kind.
+#[cold]
 pub fn wrong_kind(alloc: Global) -> Error
     ensures { Tells IsWrongKind result }
 {
@@ -54,6 +55,8 @@ pub fn wrong_kind(alloc: Global) -> Error
 }
 
 /// The same error, seen from one step further out; or want of memory for that step.
+#[cold]
+#[inline(never)]
 pub fn under(step: Step, error: Error) -> Error
     ensures { IsUnder (place_of step) error result }
 {
@@ -76,7 +79,8 @@ pub fn member<'v>(value: &'v Value, name: &str) -> Option<&'v Value>
     }
 }
 
-/// A member that may be absent.
+/// A member that may be absent. It is inlined, so that an absent one costs the look-up alone.
+#[inline(always)]
 pub fn optional<T: FromValue>(
     alloc: Global,
     value: &Value,
@@ -95,6 +99,7 @@ pub fn optional<T: FromValue>(
 }
 
 /// A member that has to be there.
+#[inline(always)]
 pub fn required<T: FromValue>(alloc: Global, value: &Value, name: &'static str) -> Result<T, Error>
     ensures ok { IfOk result ((required name.now (λ x. x) T.kind).is (view value.now)) }
     ensures err { IfErr result (Tells ((required name.now (λ (x : T). x) T.kind).fault (view value.now))) }
@@ -106,6 +111,8 @@ pub fn required<T: FromValue>(alloc: Global, value: &Value, name: &'static str) 
 }
 
 // The fault of a member that is not there.
+#[cold]
+#[inline(never)]
 fn missing_member(alloc: Global, name: &'static str) -> Error
     ensures { Tells (IsMissing name.now) result }
 {
@@ -119,6 +126,7 @@ fn missing_member(alloc: Global, name: &'static str) -> Error
 }
 
 /// A member that stands for `default` where it is absent.
+#[inline(always)]
 pub fn or_default<T: FromValue>(
     alloc: Global,
     value: &Value,
@@ -132,6 +140,7 @@ pub fn or_default<T: FromValue>(
 }
 
 /// Tests that a value is an object: a record can be read from nothing else.
+#[inline]
 pub fn object(alloc: Global, value: &Value) -> Result<(), Error>
     ensures ok { IfOk result (λ _. IsSome (as_object (view value.now))) }
     ensures err { IfErr result (λ e. IsNone (as_object (view value.now)) × Tells IsWrongKind e) }

@@ -3,8 +3,18 @@
 #![tactic(auto)]
 
 #[cfg(test)]
+mod calls;
+#[cfg(test)]
 mod container;
+#[cfg(test)]
+mod copies;
 #[cfg(test)]
 mod import;
 #[cfg(test)]
+mod items;
+#[cfg(test)]
+mod lists;
+#[cfg(test)]
 mod names;
+#[cfg(test)]
+mod texts;

@@ -8,7 +8,7 @@ use Rattle.gltf_json_geometry.specs.declared.accessor.sparse.Sparse.{Sparse}
 use Rattle.gltf_json_geometry.specs.declared.accessor.Accessor.{Accessor}
 use Rattle.gltf_validation.specs.declared.counts.Counts.{Counts}
 use Rattle.gltf_validation.specs.Members.{code_rules, index_rules, size_rules}
-use Rattle.gltf_validation.specs.Accessors.{accessor_rules, indices_rules, sparse_rules, values_rules}
+use Rattle.gltf_validation.specs.Accessors.{accessor_rules, index_type_rules, indices_rules, sparse_rules, values_rules}
 use Rattle.gltf_validation.proofs.Alike.{at, both, optional_alike}
 
 pub indices_rules-alike : (c : Counts) (x y : Indices) → indices.seen x ≡ indices.seen y → indices_rules c x ≡ indices_rules c y
@@ -16,7 +16,7 @@ unfolding indices
 indices_rules-alike c x y e =
     both (at (codes "bufferView") (ap (index_rules c.views) (ap (λ s. s.0) e)))
     (both (at (codes "byteOffset") (ap size_rules (ap (λ s. s.1.0) e)))
-    (at (codes "componentType") (ap code_rules (ap (λ s. s.1.1.0) e))))
+    (at (codes "componentType") (ap index_type_rules (ap (λ s. s.1.1.0) e))))
 
 pub values_rules-alike : (c : Counts) (x y : Values) → values.seen x ≡ values.seen y → values_rules c x ≡ values_rules c y
 unfolding values

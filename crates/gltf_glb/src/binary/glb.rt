@@ -102,10 +102,7 @@ fn items<'p>(part: &'p Option<CowSlice<'_, u8>>) -> Option<&'p [u8]>
     }
 }
 
-fn copy_of<'a>(
-    alloc: Global,
-    part: &CowSlice<'a, u8>,
-) -> Result<CowSlice<'a, u8>, AllocError>
+fn copy_of<'a>(alloc: Global, part: &CowSlice<'a, u8>) -> Result<CowSlice<'a, u8>, AllocError>
     ensures { IfOk result (λ copy. cow_slice_items copy ≡ cow_slice_items part.now) }
 {
     match part {

@@ -128,8 +128,8 @@ impl<'a> Indices<'a> {
         match self.json.component_type {
             Checked::Valid(ComponentType::U8) => IndexType::U8,
             Checked::Valid(ComponentType::U16) => IndexType::U16,
-            Checked::Valid(_) => IndexType::U32,
-            Checked::Invalid => unreachable!(),
+            Checked::Valid(ComponentType::U32) => IndexType::U32,
+            _ => unreachable!(),
         }
     }
 
