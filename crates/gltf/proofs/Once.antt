@@ -1,6 +1,6 @@
 -- That bytes are imported in one way, and not refused as well.
-use Rattle.std.proofs.Common.{ℕ, ◌≡◌, ◌≢◌, ◌<◌, List, [], ◌∷◌, length, map, get_or, refl, sym, ◌∙◌, ap, arith, inl, inr, Result, Ok, Err}
-use Rattle.std.specs.Prelude.{Option, Some, None, slice_get}
+use Rattle.std.proofs.Common.{ℕ, ◌≡◌, ◌≢◌, ◌<◌, List, [], ◌∷◌, length, map, get_or, refl, sym, ◌∙◌, ap, arith, inl, inr, Result, Ok}
+use Rattle.std.specs.Prelude.{Option}
 use Rattle.std.proofs.lemmas.Option.{slice_get_cases}
 use Rattle.std.proofs.lemmas.List.{ext_get_or}
 use Rattle.gltf_glb.specs.declared.error.Error.{Error}
@@ -12,7 +12,7 @@ use Rattle.gltf_json.specs.Documents.{root}
 use Rattle.gltf_json.specs.declared.root.Root.{Root}
 use Rattle.gltf.specs.Buffers.{Source, BufferFault, source_of, sources_of, bytes_of, blob_for, AreBytes, HasBufferFault}
 use Rattle.gltf.specs.BufferErrors.{NamesFault}
-use Rattle.gltf.specs.Import.{Accepts, IsOnlyDocument, IsOnlyImport, IsNotAccepted}
+use Rattle.gltf.specs.Import.{IsOnlyDocument, IsOnlyImport, IsNotAccepted}
 use Rattle.gltf.proofs.Buffers.{inside}
 
 -- ---- what documents that show the same say of their buffers

@@ -14,7 +14,7 @@ use Rattle.gltf_json.specs.declared.root.Root.{Root}
 use Rattle.gltf_handles.specs.Sizes.{item_size, stored_size}
 use Rattle.gltf_items.specs.declared.item.Item.{Ghosts}
 use Rattle.gltf_items.specs.Sparse.{sparse}
-use Rattle.gltf_data.specs.Parts.{Part, part_of, Fits, FitsIn, addressed, items_in, view_at, base_part, index_part, value_part, BaseReadable, PartReadable, PartsReadable, Readable, part_items, base_items, items_with, items}
+use Rattle.gltf_data.specs.Parts.{Part, part_of, FitsIn, addressed, items_in, view_at, base_part, index_part, value_part, BaseReadable, PartReadable, PartsReadable, Readable, part_items, base_items, items_with, items}
 use Rattle.gltf_data.specs.Answers.{answer_for, answers_with, answers_by}
 use Rattle.gltf_data.specs.Documents.{IsReadable, items_of, accessor_at, ReadsAt}
 use Rattle.gltf_data.proofs.Always.{same_where}

@@ -1,12 +1,11 @@
 -- The laws.
-use Rattle.std.proofs.Common.{◌≡◌, ℕ, zero, suc, ◌+◌, ◌-◌, ◌<◌, ◌≤◌, ◌^◌, List, [], ◌∷◌, ◌++◌, length, take, drop, Option, option_map, Some, None, Result, Ok, Err, Bool, true, false, nat_lt, ◌||◌, refl, sym, ap, subst, inl, inr, ◌⊎◌, ◌∙◌, arith, append_assoc, length-append, le-ltb}
+use Rattle.std.proofs.Common.{◌≡◌, ℕ, ◌+◌, ◌<◌, ◌^◌, List, [], ◌++◌, length, take, drop, Option, option_map, Some, None, Ok, Err, refl, sym, ap, subst, inl, inr, ◌∙◌, arith, length-append}
 use Rattle.std.proofs.lemmas.List.{append-nil}
 use Rattle.std.proofs.Math.Seq.{take-append_seam, take-append-add}
-use Rattle.gltf_glb.specs.Bytes.{magic, json_tag, bin_tag, word, word_at, tag_at, chunk, padded}
+use Rattle.gltf_glb.specs.Bytes.{magic, json_tag, bin_tag, word, word_at, chunk, padded}
 use Rattle.gltf_glb.specs.Faults.{Fault, type_of, header_fault, json_fault}
-use Rattle.gltf_glb.specs.Container.{Later, IsBody, IsContainer, HasBodyFault, HasFault, body_of, behind_json}
-use Rattle.gltf_glb.specs.Written.{written, total_of, bin_chunk}
-use Rattle.gltf_glb.specs.Reading.{HasReading}
+use Rattle.gltf_glb.specs.Container.{Later, IsBody, IsContainer, HasFault, body_of, behind_json}
+use Rattle.gltf_glb.specs.Written.{total_of, bin_chunk}
 use Rattle.gltf_glb.specs.Laws.{OneReading, ReadsBack}
 use Rattle.gltf_glb.proofs.Rows.{json_ok, header_ok}
 use Rattle.gltf_glb.proofs.Seen.{Reads, chunk_read, word_read}

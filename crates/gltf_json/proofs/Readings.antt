@@ -1,7 +1,6 @@
 -- What the reading of a document says of other readings.
 use Rattle.std.proofs.Common.{◌≡◌, ◌≢◌, ℕ, List, Result, Ok, Err, IfOk, IfErr, subst}
 use Rattle.serde_json.specs.Data.{Data}
-use Rattle.serde_json.specs.Read.{read}
 use Rattle.gltf_json_record.specs.declared.error.Error.{Error}
 use Rattle.gltf_json_record.specs.declared.error.Error.TheVariants.{Memory}
 use Rattle.gltf_json.specs.Documents.{root}

@@ -1,5 +1,5 @@
 -- Names as contracts see them.
-use Rattle.std.specs.Prelude.{◌≡◌, ℕ, List, Bool, true, false, ◌⊎◌}
+use Rattle.std.specs.Prelude.{◌≡◌, ℕ, List, Bool, false, ◌⊎◌}
 use Rattle.std.specs.Coded.{Coded, coded_list, coded⊎, coded_ℕ, code_by}
 use Rattle.std.specs.Str.{bytes_eq}
 use Rattle.std.proofs.Common.{refl, inl, inr}

@@ -1,6 +1,8 @@
 //! Documents that break no rule.
-use crate::told::{ONE_OF_EACH, document, tells};
+use crate::told::{ONE_OF_EACH, document, tells, text_of};
+use gltf_json::accessor::ComponentType;
 use gltf_json::kinds;
+use gltf_json::validation::Checked;
 use gltf_rules::Valid;
 use std::alloc::Global;
 use std::process::Abort;
@@ -51,6 +53,25 @@ fn records_are_lent_at_their_indices(rt: HostRuntime) -> Result<(), Fail> {
             assert_eq!(rt; node.name.as_deref(), Some("b"));
         }
         Err(refused) => assert!(rt; false, "refused: {refused:?}"),
+    }
+    Ok(())
+}
+
+#[test]
+fn stored_indices_of_another_type_break_a_rule(rt: HostRuntime) -> Result<(), Fail> {
+    let alloc = rt.alloc();
+    for code in [ComponentType::I8, ComponentType::I16, ComponentType::F32] {
+        let mut root = document(alloc, ONE_OF_EACH)?;
+        for accessor in root.accessors.iter_mut() {
+            if let Some(sparse) = &mut accessor.sparse {
+                sparse.indices.component_type = Checked::Valid(code);
+            }
+        }
+        let told = text_of(alloc, gltf_rules::validate(alloc, &root)?)?;
+        assert_eq!(rt;
+            told.as_str(),
+            "invalid glTF: accessors[0].sparse.indices.componentType: Invalid value;"
+        );
     }
     Ok(())
 }

@@ -1,10 +1,10 @@
 -- Values that show the same have the same rules: what every record's proof is made of.
-use Rattle.std.proofs.Common.{◌≡◌, ℕ, ◌+◌, Bool, true, List, [], ◌∷◌, map, length, Option, Some, None, is_some, option_map, refl, sym, ap, ◌∙◌}
+use Rattle.std.proofs.Common.{◌≡◌, ℕ, ◌+◌, Bool, List, [], ◌∷◌, map, length, Option, Some, None, is_some, option_map, refl, sym, ap, ◌∙◌}
 use Rattle.std.specs.Prelude.{is_none, not, ◌||◌}
 use Rattle.std.proofs.lemmas.List.{length-map}
-use Rattle.gltf_json_record.specs.Place.{Place, named, numbered}
+use Rattle.gltf_json_record.specs.Place.{numbered}
 use Rattle.gltf_validation.specs.declared.error.Error.TheVariants.{Missing}
-use Rattle.gltf_validation.specs.Rules.{Rules, Nothing, Condition, At, Both}
+use Rattle.gltf_validation.specs.Rules.{Rules, Condition, At, Both}
 use Rattle.gltf_validation.specs.Members.{member, optional_rules, elements_rules, list_rules, needed_rules}
 
 pub at : (name : List ℕ) {a b : Rules} → a ≡ b → member name a ≡ member name b

@@ -1,7 +1,7 @@
 -- Documents that show the same have the same rules.
-use Rattle.std.proofs.Common.{◌≡◌, ℕ, Option, Some, None, option_map, string_bytes, refl, ap, ◌∙◌}
-use Rattle.std.specs.Prelude.{codes, length, []}
-use Rattle.gltf_json_record.specs.Scalars.{text, index}
+use Rattle.std.proofs.Common.{◌≡◌, Option, Some, None, option_map, refl, ap, ◌∙◌}
+use Rattle.std.specs.Prelude.{codes, []}
+use Rattle.gltf_json_record.specs.Scalars.{text}
 use Rattle.gltf_json_animation.specs.Animations.{animation}
 use Rattle.gltf_json_geometry.specs.Accessors.{accessor}
 use Rattle.gltf_json_geometry.specs.Buffers.{buffer, buffer_view}

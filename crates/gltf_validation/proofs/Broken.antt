@@ -1,5 +1,5 @@
 -- What a walk reports is what is broken, and nothing is broken exactly where every condition is true.
-use Rattle.std.proofs.Common.{◌≡◌, Bool, true, false, if◌then◌else◌, List, [], ◌∷◌, ◌++◌, refl, sym, ◌∙◌, ap, append_assoc, arith}
+use Rattle.std.proofs.Common.{◌≡◌, true, false, if◌then◌else◌, List, [], ◌∷◌, ◌++◌, refl, sym, ◌∙◌, ap, append_assoc, arith}
 use Rattle.std.proofs.lemmas.Grind.{common_steps}
 use Rattle.gltf_json_record.specs.Place.{Place}
 use Rattle.gltf_validation.specs.declared.error.Error.{Error}

@@ -1,7 +1,6 @@
-use Rattle.std.proofs.Common.{◌≡◌, ◌++◌, ◌∷◌, [], map, refl, ◌∙◌, sym, ap, arith, rules}
-use Rattle.std.specs.Prelude.{Some, slice_get}
+use Rattle.std.proofs.Common.{◌≡◌, ◌++◌, ◌∷◌, [], map, ◌∙◌, rules}
 use Rattle.std.proofs.lemmas.List.{map-append}
-use Rattle.gltf.specs.Buffers.{source_of, blob_for, AreBytes, HasBufferFault}
+use Rattle.gltf.specs.Buffers.{source_of, HasBufferFault}
 use Rattle.gltf.specs.BufferErrors.{NamesFault}
 use Rattle.gltf.specs.Shown.{held, shown}
 use Rattle.gltf.proofs.Buffers.{none_yet, blob_first, one_more, blob_next, first_fault, source_at}

@@ -1,4 +1,4 @@
-use Rattle.std.proofs.Common.{◌≡◌, map, length}
+use Rattle.std.proofs.Common.{◌≡◌, map}
 use Rattle.gltf.specs.Buffers.{source_of, blob_for, AreBytes}
 use Rattle.gltf.specs.Shown.{held, shown}
 use Rattle.gltf.proofs.buffer.read_buffers.Given as goal

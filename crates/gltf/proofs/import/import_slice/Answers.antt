@@ -1,4 +1,4 @@
-use Rattle.std.proofs.Common.{◌≡◌, ◌≢◌, map, length}
+use Rattle.std.proofs.Common.{◌≢◌, length}
 use Rattle.std.specs.Prelude.{IfOk, IfErr}
 use Rattle.gltf_glb.specs.declared.error.Error.TheVariants.{Memory}
 use Rattle.gltf.specs.Buffers.{sources_of, AreBytes, HasBufferFault}

@@ -1,4 +1,3 @@
-use Rattle.std.proofs.Common.{◌≡◌}
 use Rattle.gltf_validation.proofs.material.MaterialValidate.validate.Goals as goal
 
 pub returns : goal.returns
