@@ -3,7 +3,7 @@ use crate::texts::{TWO_NUMBERS, TWO_REPLACED, container, document};
 use gltf::buffer::Data;
 use gltf::json::{Value, deserialize};
 use gltf::{Document, Gltf, import_slice};
-use std::alloc::Global;
+use std::alloc::{AllocError, Global};
 use std::ops::DerefMut;
 use std::process::Abort;
 use std::test::Fail;
@@ -25,24 +25,35 @@ fn same<T: std::fmt::Debug>(
 fn documents_and_data_equal_their_copies(rt: HostRuntime) -> Result<(), Fail> {
     let alloc = rt.alloc();
     let (document, buffers) = import_slice(alloc, TWO_REPLACED.as_bytes())?;
-    same(&rt, alloc, &document.clone(alloc)?, &document)?;
+    copied(&rt, alloc, document.clone(alloc), &document)?;
+    copied_data(&rt, alloc, &buffers)?;
+    let raw = Document::from_json_without_validation(document.into_json());
+    copied(&rt, alloc, raw.clone(alloc), &raw)
+}
+
+/// A copy that was made and prints as its source.
+fn copied<T: std::fmt::Debug + Drop>(
+    rt: &impl Abort,
+    alloc: Global,
+    copy: Result<T, AllocError>,
+    source: &T,
+) -> Result<(), Fail> {
+    same(rt, alloc, &copy?, source)
+}
+
+/// The bytes of the first of these buffers, and a copy of them.
+fn copied_data(rt: &impl Abort, alloc: Global, buffers: &[Data]) -> Result<(), Fail> {
     let data = buffers.first().ok_or("a buffer")?;
     let bytes: &[u8] = data;
-    assert_eq!(rt; bytes.len(), 8);
+    assert_eq!(rt; (bytes.len(), data.len()), (8, 8));
     let copy = data.clone(alloc)?;
     assert_eq!(rt;
         copy.0.as_slice(),
         [10u8, 20, 30, 40, 1, 3, 7, 9].as_slice()
     );
-    same(&rt, alloc, &copy, data)?;
-    same(
-        &rt,
-        alloc,
-        &Data(Vec::new(alloc)).clone(alloc)?,
-        &Data(Vec::new(alloc)),
-    )?;
-    let raw = Document::from_json_without_validation(document.into_json());
-    same(&rt, alloc, &raw.clone(alloc)?, &raw)
+    same(rt, alloc, &copy, data)?;
+    let none = Data(Vec::new(alloc));
+    same(rt, alloc, &none.clone(alloc)?, &none)
 }
 
 #[test]
@@ -55,9 +66,9 @@ fn files_equal_their_copies(rt: HostRuntime) -> Result<(), Fail> {
     let bytes = container(alloc, &text, &[1, 2, 3, 4])?;
     for bytes in [bytes.as_slice(), text.as_bytes()] {
         let file = Gltf::from_slice(alloc, bytes)?;
-        same(&rt, alloc, &file.clone(alloc)?, &file)?;
+        copied(&rt, alloc, file.clone(alloc), &file)?;
         let raw = Gltf::from_slice_without_validation(alloc, bytes)?;
-        same(&rt, alloc, &raw.clone(alloc)?, &raw)?;
+        copied(&rt, alloc, raw.clone(alloc), &raw)?;
     }
     Ok(())
 }

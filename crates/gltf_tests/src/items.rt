@@ -1,6 +1,6 @@
 //! The items of accessors, from the bytes of a file and over imported buffers.
 use crate::texts::{ONE_REPLACED, TWO_NUMBERS, TWO_REPLACED};
-use gltf::accessor::{End, F32, Item, Step, walk};
+use gltf::accessor::{End, F32, Item, Iter, Step, walk};
 use gltf::{import_slice, imported_items, read_items};
 use std::alloc::Global;
 use std::test::Fail;
@@ -164,7 +164,6 @@ fn a_jump_past_the_end_leaves_no_item(rt: HostRuntime) -> Result<(), Fail> {
 #[test]
 fn imported_items_are_walked(rt: HostRuntime) -> Result<(), Fail> {
     let alloc = rt.alloc();
-    let (document, buffers) = import_slice(alloc, TWO_REPLACED.as_bytes())?;
     let each = [Step::Next; 5];
     let mixed = [
         Step::Len,
@@ -199,20 +198,43 @@ fn imported_items_are_walked(rt: HostRuntime) -> Result<(), Fail> {
         ),
     ];
     for (steps, end, wanted) in rows {
-        let items = imported_items::<u8>(&document, &buffers, 0).ok_or("items")?;
-        let walked = walk(alloc, items, steps, end)?;
-        let got = format!(in alloc; "{:?} {:?}", walked.answers, walked.ended)?;
+        let got = walked::<u8>(alloc, TWO_REPLACED, steps, end)?;
         assert_eq!(rt; got.as_str(), wanted);
     }
-    let (document, buffers) = import_slice(alloc, ONE_REPLACED.as_bytes())?;
-    let items = imported_items::<u32>(&document, &buffers, 0).ok_or("items")?;
-    let walked = walk(alloc, items, &[Step::Len, Step::Next, Step::Len], End::Last)?;
-    let got = format!(in alloc; "{:?} {:?}", walked.answers, walked.ended)?;
+    let steps = [Step::Len, Step::Next, Step::Len];
+    let got = walked::<u32>(alloc, ONE_REPLACED, &steps, End::Last)?;
     assert_eq!(rt;
         got.as_str(),
         "[Length(2), Item(Some(0)), Length(1)] Last(Some(1065353216))"
     );
     Ok(())
+}
+
+/// What a walk over the items of the first accessor of a file answers, as it prints.
+fn walked<T: Item + std::fmt::Debug>(
+    alloc: Global,
+    text: &str,
+    steps: &[Step],
+    end: End,
+) -> Result<String, Fail> {
+    let (document, buffers) = import_slice(alloc, text.as_bytes())?;
+    told(
+        alloc,
+        imported_items::<T>(&document, &buffers, 0),
+        steps,
+        end,
+    )
+}
+
+/// What a walk over these items answers.
+fn told<T: Item + std::fmt::Debug>(
+    alloc: Global,
+    items: Option<Iter<'_, T>>,
+    steps: &[Step],
+    end: End,
+) -> Result<String, Fail> {
+    let walked = walk(alloc, items.ok_or("items")?, steps, end)?;
+    Ok(format!(in alloc; "{:?} {:?}", walked.answers, walked.ended)?)
 }
 
 #[test]

@@ -5,8 +5,9 @@ use gltf::accessor::{DataType, Dimensions};
 use gltf::buffer::{Source, Target};
 use gltf::iter::{self, ExtensionsUsed};
 use gltf::json::Value;
-use gltf::{Gltf, import_slice};
+use gltf::{Document, Gltf, import_slice};
 use std::alloc::Global;
+use std::process::Abort;
 use std::test::Fail;
 
 /// A value as a whole number.
@@ -22,6 +23,11 @@ const RECORDS: &str =
 fn buffers_come_in_order_with_their_members(rt: HostRuntime) -> Result<(), Fail> {
     let text = document(rt.alloc(), RECORDS)?;
     let file = Gltf::from_slice(rt.alloc(), text.as_bytes())?;
+    compare_buffers(&rt, &file)
+}
+
+/// The buffers of the records.
+fn compare_buffers(rt: &impl Abort, file: &Gltf) -> Result<(), Fail> {
     assert_eq!(rt; file.buffers().len(), 2);
     assert_eq!(rt; file.buffers().count(), 2);
     let mut buffers = file.buffers();
@@ -47,6 +53,11 @@ fn buffers_come_in_order_with_their_members(rt: HostRuntime) -> Result<(), Fail>
 fn views_come_in_order_with_their_members(rt: HostRuntime) -> Result<(), Fail> {
     let text = document(rt.alloc(), RECORDS)?;
     let file = Gltf::from_slice(rt.alloc(), text.as_bytes())?;
+    compare_views(&rt, &file)
+}
+
+/// The views of the records.
+fn compare_views(rt: &impl Abort, file: &Gltf) -> Result<(), Fail> {
     assert_eq!(rt; file.views().count(), 3);
     let mut views = file.views();
     let second = views.nth(1).ok_or("a view")?;
@@ -75,6 +86,11 @@ fn views_come_in_order_with_their_members(rt: HostRuntime) -> Result<(), Fail> {
 fn accessors_come_in_order_with_their_members(rt: HostRuntime) -> Result<(), Fail> {
     let text = document(rt.alloc(), RECORDS)?;
     let file = Gltf::from_slice(rt.alloc(), text.as_bytes())?;
+    compare_accessors(&rt, &file)
+}
+
+/// The accessors of the records.
+fn compare_accessors(rt: &impl Abort, file: &Gltf) -> Result<(), Fail> {
     assert_eq!(rt; file.accessors().count(), 2);
     let first = file.accessors().next().ok_or("an accessor")?;
     assert_eq!(rt; first.index(), 0);
@@ -110,6 +126,11 @@ fn accessors_come_in_order_with_their_members(rt: HostRuntime) -> Result<(), Fai
 #[test]
 fn the_sparse_part_of_an_accessor_names_its_views(rt: HostRuntime) -> Result<(), Fail> {
     let file = Gltf::from_slice(rt.alloc(), TWO_REPLACED.as_bytes())?;
+    compare_sparse(&rt, &file)
+}
+
+/// The sparse part of the first accessor.
+fn compare_sparse(rt: &impl Abort, file: &Gltf) -> Result<(), Fail> {
     let accessor = file.accessors().next().ok_or("an accessor")?;
     let sparse = accessor.sparse().ok_or("its sparse part")?;
     assert_eq!(rt; sparse.count(), 2);
@@ -178,6 +199,11 @@ fn extensions_are_those_that_are_not_known(rt: HostRuntime) -> Result<(), Fail> 
         r#","extensions":{"X":null,"KHR_lights_punctual":{"lights":[]},"Y":{"n":7}}"#,
     )?;
     let (document, _) = import_slice(rt.alloc(), text.as_bytes())?;
+    compare_extensions(&rt, &document)
+}
+
+/// The extensions of that document.
+fn compare_extensions(rt: &impl Abort, document: &Document) -> Result<(), Fail> {
     let others = document.extensions().ok_or("extensions")?;
     assert_eq!(rt; others.len(), 2);
     assert!(rt; others.contains_key("X"));
