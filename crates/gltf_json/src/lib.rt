@@ -5,6 +5,7 @@
 pub mod deserialize;
 pub mod extensions;
 pub mod laws;
+mod lent;
 pub mod root;
 pub mod texture;
 

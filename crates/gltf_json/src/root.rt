@@ -1,16 +1,20 @@
 //! The whole document (glTF 2.0, section 5.17, "glTF").
+ghost use Rattle.std.specs.Prelude.{IfOk};
+ghost use Rattle.gltf_json_record.specs.Copy.{IsCopy};
+
 use crate::extensions;
+use crate::lent::{Lent, copy_record};
 use gltf_json_animation::animation::Animation;
 use gltf_json_geometry::accessor::Accessor;
 use gltf_json_geometry::buffer::{Buffer, View};
 use gltf_json_geometry::mesh::Mesh;
 use gltf_json_material::material::Material;
+use gltf_json_record::copy::Copies;
 use gltf_json_record::error::Error;
 use gltf_json_record::extras::Extras;
 pub use gltf_json_record::index::Index;
-use gltf_json_record::kinds;
-use gltf_json_record::lists::list_or_empty;
-use gltf_json_record::read::{FromValue, object, optional, required};
+use gltf_json_record::read::FromValue;
+use gltf_json_record::{kinds, read_record, record};
 use gltf_json_scene::asset::Asset;
 use gltf_json_scene::camera::Camera;
 use gltf_json_scene::image::Image;
@@ -21,7 +25,7 @@ use serde_json::Value;
 use std::alloc::{AllocError, Global};
 
 /// The whole document (glTF 2.0, section 5.17, "glTF"). A list is empty where its member is absent.
-#[derive(Clone, Debug, Drop)]
+#[derive(Debug, Drop)]
 pub struct Root {
     /// What the document says of itself: `asset`.
     pub asset: Asset,
@@ -64,9 +68,39 @@ pub struct Root {
 }
 
 impl Root {
-    /// A copy of the record.
-    pub fn clone(&self, _alloc: Global) -> Result<Root, AllocError> {
-        Clone::clone(self)
+    ghost use Rattle.gltf_json.specs.Documents.{root};
+
+    /// A copy of the record, which shows what this one shows.
+    #[tactic(auto, unfolding(crate::specs::Documents::root))]
+    pub fn clone(&self, alloc: Global) -> Result<Root, AllocError>
+        ensures { IfOk result (IsCopy root self.now) }
+    {
+        copy_record!(self, alloc; Root { scene, } with {
+            asset: member,
+            accessors: member,
+            animations: member,
+            buffers: member,
+            buffer_views: member,
+            cameras: member,
+            images: member,
+            materials: member,
+            meshes: member,
+            nodes: member,
+            samplers: member,
+            scenes: member,
+            skins: member,
+            textures: member,
+            extensions_used: member,
+            extensions_required: member,
+            extensions: maybe,
+            extras: maybe,
+        })
+    }
+}
+
+impl Copies for Root {
+    fn copy(&self, alloc: Global) -> Result<Root, AllocError> {
+        self.clone(alloc)
     }
 }
 
@@ -77,27 +111,26 @@ impl FromValue for Root {
 
     #[tactic(auto, unfolding(crate::specs::Documents::root))]
     fn from_value(alloc: Global, value: &Value) -> Result<Root, Error> {
-        object(alloc, value)?;
-        Ok(Root {
-            asset: required(alloc, value, "asset")?,
-            accessors: list_or_empty(alloc, value, "accessors")?,
-            animations: list_or_empty(alloc, value, "animations")?,
-            buffers: list_or_empty(alloc, value, "buffers")?,
-            buffer_views: list_or_empty(alloc, value, "bufferViews")?,
-            cameras: list_or_empty(alloc, value, "cameras")?,
-            images: list_or_empty(alloc, value, "images")?,
-            materials: list_or_empty(alloc, value, "materials")?,
-            meshes: list_or_empty(alloc, value, "meshes")?,
-            nodes: list_or_empty(alloc, value, "nodes")?,
-            samplers: list_or_empty(alloc, value, "samplers")?,
-            scene: optional(alloc, value, "scene")?,
-            scenes: list_or_empty(alloc, value, "scenes")?,
-            skins: list_or_empty(alloc, value, "skins")?,
-            textures: list_or_empty(alloc, value, "textures")?,
-            extensions_used: list_or_empty(alloc, value, "extensionsUsed")?,
-            extensions_required: list_or_empty(alloc, value, "extensionsRequired")?,
-            extensions: optional(alloc, value, "extensions")?,
-            extras: optional(alloc, value, "extras")?,
+        read_record!(alloc, value; Root {
+            asset: required("asset"),
+            accessors: list_or_empty("accessors"),
+            animations: list_or_empty("animations"),
+            buffers: list_or_empty("buffers"),
+            buffer_views: list_or_empty("bufferViews"),
+            cameras: list_or_empty("cameras"),
+            images: list_or_empty("images"),
+            materials: list_or_empty("materials"),
+            meshes: list_or_empty("meshes"),
+            nodes: list_or_empty("nodes"),
+            samplers: list_or_empty("samplers"),
+            scene: optional("scene"),
+            scenes: list_or_empty("scenes"),
+            skins: list_or_empty("skins"),
+            textures: list_or_empty("textures"),
+            extensions_used: list_or_empty("extensionsUsed"),
+            extensions_required: list_or_empty("extensionsRequired"),
+            extensions: optional("extensions"),
+            extras: optional("extras"),
         })
     }
 }

@@ -1,11 +1,15 @@
 //! Animations (glTF 2.0, section 3.11, "Animations").
+ghost use Rattle.std.specs.Prelude.{IfOk};
+ghost use Rattle.gltf_json_record.specs.Copy.{IsCopy};
+
+use gltf_json_record::copy::{Copies, option_copy};
 use gltf_json_record::error::Error;
 use gltf_json_record::extensions::Others;
 use gltf_json_record::extras::Extras;
 use gltf_json_record::index::Index;
-use gltf_json_record::kinds;
-use gltf_json_record::read::{FromValue, object, optional, or_default, required};
+use gltf_json_record::read::FromValue;
 use gltf_json_record::validation::{Checked, Code};
+use gltf_json_record::{kinds, read_record, record};
 use serde_json::Value;
 use std::alloc::{AllocError, Global};
 
@@ -65,7 +69,7 @@ impl Code for Property {
 }
 
 /// What a channel animates (glTF 2.0, section 5.7, "Animation Channel Target").
-#[derive(Clone, Debug, Drop)]
+#[derive(Debug, Drop)]
 pub struct Target {
     /// The node: `node`. A target without it is refused.
     pub node: Index<kinds::Node>,
@@ -76,9 +80,25 @@ pub struct Target {
 }
 
 impl Target {
-    /// A copy of the record.
-    pub fn clone(&self, _alloc: Global) -> Result<Target, AllocError> {
-        Clone::clone(self)
+    ghost use Rattle.gltf_json_animation.specs.Animations.{target};
+
+    /// A copy of the record, which shows what this one shows.
+    #[tactic(auto, unfolding(crate::specs::Animations::target))]
+    pub fn clone(&self, alloc: Global) -> Result<Target, AllocError>
+        ensures { IfOk result (IsCopy target self.now) }
+    {
+        record!(Target {
+            node: self.node,
+            path: self.path,
+        } and {
+            extras: option_copy(alloc, &self.extras),
+        })
+    }
+}
+
+impl Copies for Target {
+    fn copy(&self, alloc: Global) -> Result<Target, AllocError> {
+        self.clone(alloc)
     }
 }
 
@@ -89,17 +109,16 @@ impl FromValue for Target {
 
     #[tactic(auto, unfolding(crate::specs::Animations::target))]
     fn from_value(alloc: Global, value: &Value) -> Result<Target, Error> {
-        object(alloc, value)?;
-        Ok(Target {
-            node: required(alloc, value, "node")?,
-            path: required(alloc, value, "path")?,
-            extras: optional(alloc, value, "extras")?,
+        read_record!(alloc, value; Target {
+            node: required("node"),
+            path: required("path"),
+            extras: optional("extras"),
         })
     }
 }
 
 /// A sampler beside what it animates (glTF 2.0, section 5.6, "Animation Channel").
-#[derive(Clone, Debug, Drop)]
+#[derive(Debug, Drop)]
 pub struct Channel {
     /// The sampler, of the same animation: `sampler`.
     pub sampler: Index<kinds::AnimationSampler>,
@@ -110,9 +129,25 @@ pub struct Channel {
 }
 
 impl Channel {
-    /// A copy of the record.
-    pub fn clone(&self, _alloc: Global) -> Result<Channel, AllocError> {
-        Clone::clone(self)
+    ghost use Rattle.gltf_json_animation.specs.Animations.{channel};
+
+    /// A copy of the record, which shows what this one shows.
+    #[tactic(auto, unfolding(crate::specs::Animations::channel))]
+    pub fn clone(&self, alloc: Global) -> Result<Channel, AllocError>
+        ensures { IfOk result (IsCopy channel self.now) }
+    {
+        record!(Channel {
+            sampler: self.sampler,
+        } and {
+            target: self.target.copy(alloc),
+            extras: option_copy(alloc, &self.extras),
+        })
+    }
+}
+
+impl Copies for Channel {
+    fn copy(&self, alloc: Global) -> Result<Channel, AllocError> {
+        self.clone(alloc)
     }
 }
 
@@ -123,17 +158,16 @@ impl FromValue for Channel {
 
     #[tactic(auto, unfolding(crate::specs::Animations::channel))]
     fn from_value(alloc: Global, value: &Value) -> Result<Channel, Error> {
-        object(alloc, value)?;
-        Ok(Channel {
-            sampler: required(alloc, value, "sampler")?,
-            target: required(alloc, value, "target")?,
-            extras: optional(alloc, value, "extras")?,
+        read_record!(alloc, value; Channel {
+            sampler: required("sampler"),
+            target: required("target"),
+            extras: optional("extras"),
         })
     }
 }
 
 /// Keyframes, and how values between them are made (glTF 2.0, section 5.8, "Animation Sampler").
-#[derive(Clone, Debug, Drop)]
+#[derive(Debug, Drop)]
 pub struct Sampler {
     /// The accessor of the keyframes' times, in seconds: `input`.
     pub input: Index<kinds::Accessor>,
@@ -146,9 +180,26 @@ pub struct Sampler {
 }
 
 impl Sampler {
-    /// A copy of the record.
-    pub fn clone(&self, _alloc: Global) -> Result<Sampler, AllocError> {
-        Clone::clone(self)
+    ghost use Rattle.gltf_json_animation.specs.Animations.{sampler};
+
+    /// A copy of the record, which shows what this one shows.
+    #[tactic(auto, unfolding(crate::specs::Animations::sampler))]
+    pub fn clone(&self, alloc: Global) -> Result<Sampler, AllocError>
+        ensures { IfOk result (IsCopy sampler self.now) }
+    {
+        record!(Sampler {
+            input: self.input,
+            interpolation: self.interpolation,
+            output: self.output,
+        } and {
+            extras: option_copy(alloc, &self.extras),
+        })
+    }
+}
+
+impl Copies for Sampler {
+    fn copy(&self, alloc: Global) -> Result<Sampler, AllocError> {
+        self.clone(alloc)
     }
 }
 
@@ -160,18 +211,17 @@ impl FromValue for Sampler {
     #[tactic(auto, unfolding(crate::specs::Animations::sampler))]
     fn from_value(alloc: Global, value: &Value) -> Result<Sampler, Error> {
         let linear = Checked::Valid(Interpolation::Linear);
-        object(alloc, value)?;
-        Ok(Sampler {
-            input: required(alloc, value, "input")?,
-            interpolation: or_default(alloc, value, "interpolation", linear)?,
-            output: required(alloc, value, "output")?,
-            extras: optional(alloc, value, "extras")?,
+        read_record!(alloc, value; Sampler {
+            input: required("input"),
+            interpolation: or_default("interpolation", linear),
+            output: required("output"),
+            extras: optional("extras"),
         })
     }
 }
 
 /// An animation of nodes (glTF 2.0, section 5.5, "Animation").
-#[derive(Clone, Debug, Drop)]
+#[derive(Debug, Drop)]
 pub struct Animation {
     /// What is animated, and by which sampler: `channels`.
     pub channels: Vec<Channel>,
@@ -186,9 +236,26 @@ pub struct Animation {
 }
 
 impl Animation {
-    /// A copy of the record.
-    pub fn clone(&self, _alloc: Global) -> Result<Animation, AllocError> {
-        Clone::clone(self)
+    ghost use Rattle.gltf_json_animation.specs.Animations.{animation};
+
+    /// A copy of the record, which shows what this one shows.
+    #[tactic(auto, unfolding(crate::specs::Animations::animation))]
+    pub fn clone(&self, alloc: Global) -> Result<Animation, AllocError>
+        ensures { IfOk result (IsCopy animation self.now) }
+    {
+        record!(Animation {
+            channels: self.channels.copy(alloc),
+            samplers: self.samplers.copy(alloc),
+            name: option_copy(alloc, &self.name),
+            extensions: option_copy(alloc, &self.extensions),
+            extras: option_copy(alloc, &self.extras),
+        })
+    }
+}
+
+impl Copies for Animation {
+    fn copy(&self, alloc: Global) -> Result<Animation, AllocError> {
+        self.clone(alloc)
     }
 }
 
@@ -199,13 +266,12 @@ impl FromValue for Animation {
 
     #[tactic(auto, unfolding(crate::specs::Animations::animation))]
     fn from_value(alloc: Global, value: &Value) -> Result<Animation, Error> {
-        object(alloc, value)?;
-        Ok(Animation {
-            channels: required(alloc, value, "channels")?,
-            samplers: required(alloc, value, "samplers")?,
-            name: optional(alloc, value, "name")?,
-            extensions: optional(alloc, value, "extensions")?,
-            extras: optional(alloc, value, "extras")?,
+        read_record!(alloc, value; Animation {
+            channels: required("channels"),
+            samplers: required("samplers"),
+            name: optional("name"),
+            extensions: optional("extensions"),
+            extras: optional("extras"),
         })
     }
 }

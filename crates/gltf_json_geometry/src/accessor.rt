@@ -1,14 +1,18 @@
 //! Accessors: typed items in the bytes of a view (glTF 2.0, section 3.6.2, "Accessors").
 pub mod sparse;
 
+ghost use Rattle.std.specs.Prelude.{IfOk};
+ghost use Rattle.gltf_json_record.specs.Copy.{IsCopy};
+
 use crate::accessor::sparse::Sparse;
+use gltf_json_record::copy::{Copies, option_copy};
 use gltf_json_record::error::Error;
 use gltf_json_record::extensions::Others;
 use gltf_json_record::extras::Extras;
 use gltf_json_record::index::Index;
-use gltf_json_record::kinds;
-use gltf_json_record::read::{FromValue, object, optional, or_default, required};
+use gltf_json_record::read::FromValue;
 use gltf_json_record::validation::{Checked, Code};
+use gltf_json_record::{kinds, read_record, record};
 use serde_json::Value;
 use std::alloc::{AllocError, Global};
 
@@ -86,7 +90,7 @@ impl Code for Type {
 }
 
 /// A typed view into the bytes of a buffer view (glTF 2.0, section 5.1, "Accessor").
-#[derive(Clone, Debug, Drop)]
+#[derive(Debug, Drop)]
 pub struct Accessor {
     /// The view that the items stand in: `bufferView`.
     pub buffer_view: Option<Index<kinds::View>>,
@@ -116,9 +120,34 @@ pub struct Accessor {
 }
 
 impl Accessor {
-    /// A copy of the record.
-    pub fn clone(&self, _alloc: Global) -> Result<Accessor, AllocError> {
-        Clone::clone(self)
+    ghost use Rattle.gltf_json_geometry.specs.Accessors.{accessor};
+
+    /// A copy of the record, which shows what this one shows.
+    #[tactic(auto, unfolding(crate::specs::Accessors::accessor))]
+    pub fn clone(&self, alloc: Global) -> Result<Accessor, AllocError>
+        ensures { IfOk result (IsCopy accessor self.now) }
+    {
+        record!(Accessor {
+            buffer_view: self.buffer_view,
+            byte_offset: self.byte_offset,
+            component_type: self.component_type,
+            normalized: self.normalized,
+            count: self.count,
+            type_: self.type_,
+        } and {
+            max: option_copy(alloc, &self.max),
+            min: option_copy(alloc, &self.min),
+            sparse: option_copy(alloc, &self.sparse),
+            name: option_copy(alloc, &self.name),
+            extensions: option_copy(alloc, &self.extensions),
+            extras: option_copy(alloc, &self.extras),
+        })
+    }
+}
+
+impl Copies for Accessor {
+    fn copy(&self, alloc: Global) -> Result<Accessor, AllocError> {
+        self.clone(alloc)
     }
 }
 
@@ -129,20 +158,19 @@ impl FromValue for Accessor {
 
     #[tactic(auto, unfolding(crate::specs::Accessors::accessor))]
     fn from_value(alloc: Global, value: &Value) -> Result<Accessor, Error> {
-        object(alloc, value)?;
-        Ok(Accessor {
-            buffer_view: optional(alloc, value, "bufferView")?,
-            byte_offset: optional(alloc, value, "byteOffset")?,
-            component_type: required(alloc, value, "componentType")?,
-            normalized: or_default(alloc, value, "normalized", false)?,
-            count: required(alloc, value, "count")?,
-            type_: required(alloc, value, "type")?,
-            max: optional(alloc, value, "max")?,
-            min: optional(alloc, value, "min")?,
-            sparse: optional(alloc, value, "sparse")?,
-            name: optional(alloc, value, "name")?,
-            extensions: optional(alloc, value, "extensions")?,
-            extras: optional(alloc, value, "extras")?,
+        read_record!(alloc, value; Accessor {
+            buffer_view: optional("bufferView"),
+            byte_offset: optional("byteOffset"),
+            component_type: required("componentType"),
+            normalized: or_default("normalized", false),
+            count: required("count"),
+            type_: required("type"),
+            max: optional("max"),
+            min: optional("min"),
+            sparse: optional("sparse"),
+            name: optional("name"),
+            extensions: optional("extensions"),
+            extras: optional("extras"),
         })
     }
 }

@@ -1,6 +1,8 @@
 //! The attributes of a primitive, as they are read.
-ghost use Rattle.std.specs.Prelude.{OnOk};
+ghost use Rattle.std.specs.Prelude.{◌≡◌, IfOk, OnOk};
+ghost use Rattle.std.proofs.lemmas.Map.Lookups.{map_keys};
 ghost use Rattle.gltf_json_geometry.specs.AttributeSteps.{IsPut};
+ghost use Rattle.gltf_json_geometry.specs.Semantics.{semantic_name};
 
 use crate::semantic::Semantic;
 use gltf_json_record::error::Error;
@@ -62,4 +64,14 @@ impl FromValue for Attributes {
         }
         Ok(attributes)
     }
+}
+
+/// A copy of the known attributes, with the same names.
+pub(crate) fn attributes_copy(
+    attributes: &BTreeMap<Semantic, Index<kinds::Accessor>>,
+) -> Result<BTreeMap<Semantic, Index<kinds::Accessor>>, AllocError>
+    ensures { IfOk result (λ copy. map_keys semantic_name copy.entries
+        ≡ map_keys semantic_name attributes.now.entries) }
+{
+    attributes.clone()
 }

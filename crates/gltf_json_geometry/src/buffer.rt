@@ -1,11 +1,15 @@
 //! Buffers and their views (glTF 2.0, section 3.6.1, "Buffers and Buffer Views").
+ghost use Rattle.std.specs.Prelude.{IfOk};
+ghost use Rattle.gltf_json_record.specs.Copy.{IsCopy};
+
+use gltf_json_record::copy::{Copies, option_copy};
 use gltf_json_record::error::Error;
 use gltf_json_record::extensions::Others;
 use gltf_json_record::extras::Extras;
 use gltf_json_record::index::Index;
-use gltf_json_record::kinds;
-use gltf_json_record::read::{FromValue, object, optional, required};
+use gltf_json_record::read::FromValue;
 use gltf_json_record::validation::{Checked, Code};
+use gltf_json_record::{kinds, read_record, record};
 use serde_json::Value;
 use std::alloc::{AllocError, Global};
 
@@ -33,7 +37,7 @@ impl Code for Target {
 }
 
 /// A block of bytes (glTF 2.0, section 5.10, "Buffer").
-#[derive(Clone, Debug, Drop)]
+#[derive(Debug, Drop)]
 pub struct Buffer {
     /// The length in bytes: `byteLength`.
     pub byte_length: u64,
@@ -48,9 +52,27 @@ pub struct Buffer {
 }
 
 impl Buffer {
-    /// A copy of the record.
-    pub fn clone(&self, _alloc: Global) -> Result<Buffer, AllocError> {
-        Clone::clone(self)
+    ghost use Rattle.gltf_json_geometry.specs.Buffers.{buffer};
+
+    /// A copy of the record, which shows what this one shows.
+    #[tactic(auto, unfolding(crate::specs::Buffers::buffer))]
+    pub fn clone(&self, alloc: Global) -> Result<Buffer, AllocError>
+        ensures { IfOk result (IsCopy buffer self.now) }
+    {
+        record!(Buffer {
+            byte_length: self.byte_length,
+        } and {
+            uri: option_copy(alloc, &self.uri),
+            name: option_copy(alloc, &self.name),
+            extensions: option_copy(alloc, &self.extensions),
+            extras: option_copy(alloc, &self.extras),
+        })
+    }
+}
+
+impl Copies for Buffer {
+    fn copy(&self, alloc: Global) -> Result<Buffer, AllocError> {
+        self.clone(alloc)
     }
 }
 
@@ -61,19 +83,18 @@ impl FromValue for Buffer {
 
     #[tactic(auto, unfolding(crate::specs::Buffers::buffer))]
     fn from_value(alloc: Global, value: &Value) -> Result<Buffer, Error> {
-        object(alloc, value)?;
-        Ok(Buffer {
-            byte_length: required(alloc, value, "byteLength")?,
-            uri: optional(alloc, value, "uri")?,
-            name: optional(alloc, value, "name")?,
-            extensions: optional(alloc, value, "extensions")?,
-            extras: optional(alloc, value, "extras")?,
+        read_record!(alloc, value; Buffer {
+            byte_length: required("byteLength"),
+            uri: optional("uri"),
+            name: optional("name"),
+            extensions: optional("extensions"),
+            extras: optional("extras"),
         })
     }
 }
 
 /// A slice of a buffer (glTF 2.0, section 5.11, "Buffer View").
-#[derive(Clone, Debug, Drop)]
+#[derive(Debug, Drop)]
 pub struct View {
     /// The buffer: `buffer`.
     pub buffer: Index<kinds::Buffer>,
@@ -94,9 +115,30 @@ pub struct View {
 }
 
 impl View {
-    /// A copy of the record.
-    pub fn clone(&self, _alloc: Global) -> Result<View, AllocError> {
-        Clone::clone(self)
+    ghost use Rattle.gltf_json_geometry.specs.Buffers.{buffer_view};
+
+    /// A copy of the record, which shows what this one shows.
+    #[tactic(auto, unfolding(crate::specs::Buffers::buffer_view))]
+    pub fn clone(&self, alloc: Global) -> Result<View, AllocError>
+        ensures { IfOk result (IsCopy buffer_view self.now) }
+    {
+        record!(View {
+            buffer: self.buffer,
+            byte_length: self.byte_length,
+            byte_offset: self.byte_offset,
+            byte_stride: self.byte_stride,
+            target: self.target,
+        } and {
+            name: option_copy(alloc, &self.name),
+            extensions: option_copy(alloc, &self.extensions),
+            extras: option_copy(alloc, &self.extras),
+        })
+    }
+}
+
+impl Copies for View {
+    fn copy(&self, alloc: Global) -> Result<View, AllocError> {
+        self.clone(alloc)
     }
 }
 
@@ -107,16 +149,15 @@ impl FromValue for View {
 
     #[tactic(auto, unfolding(crate::specs::Buffers::buffer_view))]
     fn from_value(alloc: Global, value: &Value) -> Result<View, Error> {
-        object(alloc, value)?;
-        Ok(View {
-            buffer: required(alloc, value, "buffer")?,
-            byte_length: required(alloc, value, "byteLength")?,
-            byte_offset: optional(alloc, value, "byteOffset")?,
-            byte_stride: optional(alloc, value, "byteStride")?,
-            target: optional(alloc, value, "target")?,
-            name: optional(alloc, value, "name")?,
-            extensions: optional(alloc, value, "extensions")?,
-            extras: optional(alloc, value, "extras")?,
+        read_record!(alloc, value; View {
+            buffer: required("buffer"),
+            byte_length: required("byteLength"),
+            byte_offset: optional("byteOffset"),
+            byte_stride: optional("byteStride"),
+            target: optional("target"),
+            name: optional("name"),
+            extensions: optional("extensions"),
+            extras: optional("extras"),
         })
     }
 }

@@ -1,15 +1,19 @@
 //! Meshes and their primitives (glTF 2.0, section 3.7, "Geometry").
-use crate::attributes::Attributes;
+ghost use Rattle.std.specs.Prelude.{IfOk};
+ghost use Rattle.gltf_json_record.specs.Copy.{IsCopy};
+
+use crate::attributes::{Attributes, attributes_copy};
 use crate::extensions;
 pub use crate::semantic::Semantic;
+use gltf_json_record::copy::{Copies, option_copy};
 use gltf_json_record::error::Error;
 use gltf_json_record::extensions::Others;
 use gltf_json_record::extras::Extras;
 use gltf_json_record::index::Index;
-use gltf_json_record::kinds;
 use gltf_json_record::lists::list_or_empty;
 use gltf_json_record::read::{FromValue, object, optional, or_default, required};
 use gltf_json_record::validation::{Checked, Code};
+use gltf_json_record::{kinds, read_record, record};
 use serde_json::Value;
 use std::alloc::{AllocError, Global};
 use std::collections::BTreeMap;
@@ -53,7 +57,7 @@ impl Code for Mode {
 }
 
 /// What a morph target adds to the vertices of a primitive (glTF 2.0, section 3.7.2.2, "Morph Targets").
-#[derive(Clone, Debug, Drop)]
+#[derive(Debug, Drop)]
 pub struct MorphTarget {
     /// What is added to positions: `POSITION`.
     pub positions: Option<Index<kinds::Accessor>>,
@@ -64,9 +68,24 @@ pub struct MorphTarget {
 }
 
 impl MorphTarget {
-    /// A copy of the record.
-    pub fn clone(&self, _alloc: Global) -> Result<MorphTarget, AllocError> {
-        Clone::clone(self)
+    ghost use Rattle.gltf_json_geometry.specs.Meshes.{morph_target};
+
+    /// A copy of the record, which shows what this one shows.
+    #[tactic(auto, unfolding(crate::specs::Meshes::morph_target))]
+    pub fn clone(&self, _alloc: Global) -> Result<MorphTarget, AllocError>
+        ensures { IfOk result (IsCopy morph_target self.now) }
+    {
+        Ok(MorphTarget {
+            positions: self.positions,
+            normals: self.normals,
+            tangents: self.tangents,
+        })
+    }
+}
+
+impl Copies for MorphTarget {
+    fn copy(&self, alloc: Global) -> Result<MorphTarget, AllocError> {
+        self.clone(alloc)
     }
 }
 
@@ -77,17 +96,16 @@ impl FromValue for MorphTarget {
 
     #[tactic(auto, unfolding(crate::specs::Meshes::morph_target))]
     fn from_value(alloc: Global, value: &Value) -> Result<MorphTarget, Error> {
-        object(alloc, value)?;
-        Ok(MorphTarget {
-            positions: optional(alloc, value, "POSITION")?,
-            normals: optional(alloc, value, "NORMAL")?,
-            tangents: optional(alloc, value, "TANGENT")?,
+        read_record!(alloc, value; MorphTarget {
+            positions: optional("POSITION"),
+            normals: optional("NORMAL"),
+            tangents: optional("TANGENT"),
         })
     }
 }
 
 /// Geometry to be drawn with one material (glTF 2.0, section 5.24, "Mesh Primitive").
-#[derive(Clone, Debug, Drop)]
+#[derive(Debug, Drop)]
 pub struct Primitive {
     /// The known members of `attributes`, in the order of `Semantic`.
     pub attributes: BTreeMap<Semantic, Index<kinds::Accessor>>,
@@ -108,9 +126,30 @@ pub struct Primitive {
 }
 
 impl Primitive {
-    /// A copy of the record.
-    pub fn clone(&self, _alloc: Global) -> Result<Primitive, AllocError> {
-        Clone::clone(self)
+    ghost use Rattle.gltf_json_geometry.specs.Meshes.{primitive};
+
+    /// A copy of the record, which shows what this one shows.
+    #[tactic(auto, unfolding(crate::specs::Meshes::primitive, crate::specs::AttributeKind::attributes))]
+    pub fn clone(&self, alloc: Global) -> Result<Primitive, AllocError>
+        ensures { IfOk result (IsCopy primitive self.now) }
+    {
+        record!(Primitive {
+            indices: self.indices,
+            material: self.material,
+            mode: self.mode,
+        } and {
+            attributes: attributes_copy(&self.attributes),
+            unknown_attributes: self.unknown_attributes.copy(alloc),
+            targets: self.targets.copy(alloc),
+            extensions: option_copy(alloc, &self.extensions),
+            extras: option_copy(alloc, &self.extras),
+        })
+    }
+}
+
+impl Copies for Primitive {
+    fn copy(&self, alloc: Global) -> Result<Primitive, AllocError> {
+        self.clone(alloc)
     }
 }
 
@@ -137,7 +176,7 @@ impl FromValue for Primitive {
 }
 
 /// A set of primitives (glTF 2.0, section 5.23, "Mesh").
-#[derive(Clone, Debug, Drop)]
+#[derive(Debug, Drop)]
 pub struct Mesh {
     /// The primitives: `primitives`.
     pub primitives: Vec<Primitive>,
@@ -152,9 +191,26 @@ pub struct Mesh {
 }
 
 impl Mesh {
-    /// A copy of the record.
-    pub fn clone(&self, _alloc: Global) -> Result<Mesh, AllocError> {
-        Clone::clone(self)
+    ghost use Rattle.gltf_json_geometry.specs.Meshes.{mesh};
+
+    /// A copy of the record, which shows what this one shows.
+    #[tactic(auto, unfolding(crate::specs::Meshes::mesh))]
+    pub fn clone(&self, alloc: Global) -> Result<Mesh, AllocError>
+        ensures { IfOk result (IsCopy mesh self.now) }
+    {
+        record!(Mesh {
+            primitives: self.primitives.copy(alloc),
+            weights: option_copy(alloc, &self.weights),
+            name: option_copy(alloc, &self.name),
+            extensions: option_copy(alloc, &self.extensions),
+            extras: option_copy(alloc, &self.extras),
+        })
+    }
+}
+
+impl Copies for Mesh {
+    fn copy(&self, alloc: Global) -> Result<Mesh, AllocError> {
+        self.clone(alloc)
     }
 }
 
@@ -165,13 +221,12 @@ impl FromValue for Mesh {
 
     #[tactic(auto, unfolding(crate::specs::Meshes::mesh))]
     fn from_value(alloc: Global, value: &Value) -> Result<Mesh, Error> {
-        object(alloc, value)?;
-        Ok(Mesh {
-            primitives: required(alloc, value, "primitives")?,
-            weights: optional(alloc, value, "weights")?,
-            name: optional(alloc, value, "name")?,
-            extensions: optional(alloc, value, "extensions")?,
-            extras: optional(alloc, value, "extras")?,
+        read_record!(alloc, value; Mesh {
+            primitives: required("primitives"),
+            weights: optional("weights"),
+            name: optional("name"),
+            extensions: optional("extensions"),
+            extras: optional("extras"),
         })
     }
 }

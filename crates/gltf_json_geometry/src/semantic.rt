@@ -10,7 +10,7 @@ use std::fmt;
 
 /// What an attribute means. Attributes are ordered as they stand here, those of one kind by their text or
 /// the number of their set.
-#[derive(Clone, Debug, Drop, PartialEq, Eq, PartialOrd, Ord)]
+#[derive(Debug, Drop, PartialEq, Eq, PartialOrd, Ord)]
 pub enum Semantic {
     /// An attribute of the application: the text behind the underscore of its name.
     Extras(String),
@@ -48,6 +48,26 @@ impl fmt::Display for Semantic {
             Semantic::Joints(set) => write!(f, "JOINTS_{set}"),
             Semantic::Weights(set) => write!(f, "WEIGHTS_{set}"),
         }
+    }
+}
+
+impl Clone for Semantic {
+    ghost use Rattle.std.specs.Prelude.{◌≡◌};
+    ghost use Rattle.gltf_json_geometry.specs.Semantics.{order_key, semantic_name};
+
+    ghost is_clone = { λ s t. (order_key t ≡ order_key s) × (semantic_name t ≡ semantic_name s) };
+
+    fn clone(&self) -> Result<Semantic, AllocError> {
+        Ok(match self {
+            Semantic::Extras(name) => Semantic::Extras(Clone::clone(name)?),
+            Semantic::Positions => Semantic::Positions,
+            Semantic::Normals => Semantic::Normals,
+            Semantic::Tangents => Semantic::Tangents,
+            Semantic::Colors(set) => Semantic::Colors(*set),
+            Semantic::TexCoords(set) => Semantic::TexCoords(*set),
+            Semantic::Joints(set) => Semantic::Joints(*set),
+            Semantic::Weights(set) => Semantic::Weights(*set),
+        })
     }
 }
 

@@ -1,13 +1,17 @@
 //! Materials (glTF 2.0, section 5.19, "Material").
+ghost use Rattle.std.specs.Prelude.{IfOk};
+ghost use Rattle.gltf_json_record.specs.Copy.{IsCopy};
+
 use crate::extensions;
 use crate::texture::Info;
+use gltf_json_record::copy::{Copies, option_copy};
 use gltf_json_record::error::Error;
 use gltf_json_record::extensions::Others;
 use gltf_json_record::extras::Extras;
 use gltf_json_record::index::Index;
-use gltf_json_record::read::{FromValue, object, optional, or_default, required};
+use gltf_json_record::read::FromValue;
 use gltf_json_record::validation::{Checked, Code};
-use gltf_json_record::{kinds, record};
+use gltf_json_record::{kinds, read_record, record};
 use serde_json::Value;
 use std::alloc::{AllocError, Global};
 
@@ -39,7 +43,7 @@ impl Code for AlphaMode {
 
 /// The colour, metalness and roughness of a material (glTF 2.0, section 5.22, "Material PBR Metallic
 /// Roughness").
-#[derive(Clone, Debug, Drop)]
+#[derive(Debug, Drop)]
 pub struct PbrMetallicRoughness {
     /// The factors of the base colour, as they stand: `baseColorFactor`.
     pub base_color_factor: Option<Value>,
@@ -58,9 +62,28 @@ pub struct PbrMetallicRoughness {
 }
 
 impl PbrMetallicRoughness {
-    /// A copy of the record.
-    pub fn clone(&self, _alloc: Global) -> Result<PbrMetallicRoughness, AllocError> {
-        Clone::clone(self)
+    ghost use Rattle.gltf_json_material.specs.Materials.{pbr_metallic_roughness};
+
+    /// A copy of the record, which shows what this one shows.
+    #[tactic(auto, unfolding(crate::specs::Materials::pbr_metallic_roughness))]
+    pub fn clone(&self, alloc: Global) -> Result<PbrMetallicRoughness, AllocError>
+        ensures { IfOk result (IsCopy pbr_metallic_roughness self.now) }
+    {
+        record!(PbrMetallicRoughness {
+            base_color_factor: option_copy(alloc, &self.base_color_factor),
+            base_color_texture: option_copy(alloc, &self.base_color_texture),
+            metallic_factor: option_copy(alloc, &self.metallic_factor),
+            roughness_factor: option_copy(alloc, &self.roughness_factor),
+            metallic_roughness_texture: option_copy(alloc, &self.metallic_roughness_texture),
+            extensions: option_copy(alloc, &self.extensions),
+            extras: option_copy(alloc, &self.extras),
+        })
+    }
+}
+
+impl Copies for PbrMetallicRoughness {
+    fn copy(&self, alloc: Global) -> Result<PbrMetallicRoughness, AllocError> {
+        self.clone(alloc)
     }
 }
 
@@ -71,21 +94,20 @@ impl FromValue for PbrMetallicRoughness {
 
     #[tactic(auto, unfolding(crate::specs::Materials::pbr_metallic_roughness))]
     fn from_value(alloc: Global, value: &Value) -> Result<PbrMetallicRoughness, Error> {
-        object(alloc, value)?;
-        record!(PbrMetallicRoughness {
-            base_color_factor: optional(alloc, value, "baseColorFactor"),
-            base_color_texture: optional(alloc, value, "baseColorTexture"),
-            metallic_factor: optional(alloc, value, "metallicFactor"),
-            roughness_factor: optional(alloc, value, "roughnessFactor"),
-            metallic_roughness_texture: optional(alloc, value, "metallicRoughnessTexture"),
-            extensions: optional(alloc, value, "extensions"),
-            extras: optional(alloc, value, "extras"),
+        read_record!(alloc, value; PbrMetallicRoughness {
+            base_color_factor: optional("baseColorFactor"),
+            base_color_texture: optional("baseColorTexture"),
+            metallic_factor: optional("metallicFactor"),
+            roughness_factor: optional("roughnessFactor"),
+            metallic_roughness_texture: optional("metallicRoughnessTexture"),
+            extensions: optional("extensions"),
+            extras: optional("extras"),
         })
     }
 }
 
 /// The use of a normal texture (glTF 2.0, section 5.20, "Material Normal Texture Info").
-#[derive(Clone, Debug, Drop)]
+#[derive(Debug, Drop)]
 pub struct NormalTexture {
     /// The texture: `index`.
     pub index: Index<kinds::Texture>,
@@ -100,9 +122,27 @@ pub struct NormalTexture {
 }
 
 impl NormalTexture {
-    /// A copy of the record.
-    pub fn clone(&self, _alloc: Global) -> Result<NormalTexture, AllocError> {
-        Clone::clone(self)
+    ghost use Rattle.gltf_json_material.specs.Materials.{normal_texture};
+
+    /// A copy of the record, which shows what this one shows.
+    #[tactic(auto, unfolding(crate::specs::Materials::normal_texture))]
+    pub fn clone(&self, alloc: Global) -> Result<NormalTexture, AllocError>
+        ensures { IfOk result (IsCopy normal_texture self.now) }
+    {
+        record!(NormalTexture {
+            index: self.index,
+            tex_coord: self.tex_coord,
+        } and {
+            scale: option_copy(alloc, &self.scale),
+            extensions: option_copy(alloc, &self.extensions),
+            extras: option_copy(alloc, &self.extras),
+        })
+    }
+}
+
+impl Copies for NormalTexture {
+    fn copy(&self, alloc: Global) -> Result<NormalTexture, AllocError> {
+        self.clone(alloc)
     }
 }
 
@@ -113,19 +153,18 @@ impl FromValue for NormalTexture {
 
     #[tactic(auto, unfolding(crate::specs::Materials::normal_texture))]
     fn from_value(alloc: Global, value: &Value) -> Result<NormalTexture, Error> {
-        object(alloc, value)?;
-        Ok(NormalTexture {
-            index: required(alloc, value, "index")?,
-            scale: optional(alloc, value, "scale")?,
-            tex_coord: or_default(alloc, value, "texCoord", 0)?,
-            extensions: optional(alloc, value, "extensions")?,
-            extras: optional(alloc, value, "extras")?,
+        read_record!(alloc, value; NormalTexture {
+            index: required("index"),
+            scale: optional("scale"),
+            tex_coord: or_default("texCoord", 0),
+            extensions: optional("extensions"),
+            extras: optional("extras"),
         })
     }
 }
 
 /// The use of an occlusion texture (glTF 2.0, section 5.21, "Material Occlusion Texture Info").
-#[derive(Clone, Debug, Drop)]
+#[derive(Debug, Drop)]
 pub struct OcclusionTexture {
     /// The texture: `index`.
     pub index: Index<kinds::Texture>,
@@ -140,9 +179,27 @@ pub struct OcclusionTexture {
 }
 
 impl OcclusionTexture {
-    /// A copy of the record.
-    pub fn clone(&self, _alloc: Global) -> Result<OcclusionTexture, AllocError> {
-        Clone::clone(self)
+    ghost use Rattle.gltf_json_material.specs.Materials.{occlusion_texture};
+
+    /// A copy of the record, which shows what this one shows.
+    #[tactic(auto, unfolding(crate::specs::Materials::occlusion_texture))]
+    pub fn clone(&self, alloc: Global) -> Result<OcclusionTexture, AllocError>
+        ensures { IfOk result (IsCopy occlusion_texture self.now) }
+    {
+        record!(OcclusionTexture {
+            index: self.index,
+            tex_coord: self.tex_coord,
+        } and {
+            strength: option_copy(alloc, &self.strength),
+            extensions: option_copy(alloc, &self.extensions),
+            extras: option_copy(alloc, &self.extras),
+        })
+    }
+}
+
+impl Copies for OcclusionTexture {
+    fn copy(&self, alloc: Global) -> Result<OcclusionTexture, AllocError> {
+        self.clone(alloc)
     }
 }
 
@@ -153,19 +210,18 @@ impl FromValue for OcclusionTexture {
 
     #[tactic(auto, unfolding(crate::specs::Materials::occlusion_texture))]
     fn from_value(alloc: Global, value: &Value) -> Result<OcclusionTexture, Error> {
-        object(alloc, value)?;
-        Ok(OcclusionTexture {
-            index: required(alloc, value, "index")?,
-            strength: optional(alloc, value, "strength")?,
-            tex_coord: or_default(alloc, value, "texCoord", 0)?,
-            extensions: optional(alloc, value, "extensions")?,
-            extras: optional(alloc, value, "extras")?,
+        read_record!(alloc, value; OcclusionTexture {
+            index: required("index"),
+            strength: optional("strength"),
+            tex_coord: or_default("texCoord", 0),
+            extensions: optional("extensions"),
+            extras: optional("extras"),
         })
     }
 }
 
 /// How a surface looks (glTF 2.0, section 5.19, "Material").
-#[derive(Clone, Debug, Drop)]
+#[derive(Debug, Drop)]
 pub struct Material {
     /// The least alpha that is shown in the mode `MASK`, as it stands: `alphaCutoff`.
     pub alpha_cutoff: Option<Value>,
@@ -192,9 +248,33 @@ pub struct Material {
 }
 
 impl Material {
-    /// A copy of the record.
-    pub fn clone(&self, _alloc: Global) -> Result<Material, AllocError> {
-        Clone::clone(self)
+    ghost use Rattle.gltf_json_material.specs.Materials.{material};
+
+    /// A copy of the record, which shows what this one shows.
+    #[tactic(auto, unfolding(crate::specs::Materials::material))]
+    pub fn clone(&self, alloc: Global) -> Result<Material, AllocError>
+        ensures { IfOk result (IsCopy material self.now) }
+    {
+        record!(Material {
+            alpha_mode: self.alpha_mode,
+            double_sided: self.double_sided,
+        } and {
+            alpha_cutoff: option_copy(alloc, &self.alpha_cutoff),
+            pbr_metallic_roughness: option_copy(alloc, &self.pbr_metallic_roughness),
+            normal_texture: option_copy(alloc, &self.normal_texture),
+            occlusion_texture: option_copy(alloc, &self.occlusion_texture),
+            emissive_texture: option_copy(alloc, &self.emissive_texture),
+            emissive_factor: option_copy(alloc, &self.emissive_factor),
+            name: option_copy(alloc, &self.name),
+            extensions: option_copy(alloc, &self.extensions),
+            extras: option_copy(alloc, &self.extras),
+        })
+    }
+}
+
+impl Copies for Material {
+    fn copy(&self, alloc: Global) -> Result<Material, AllocError> {
+        self.clone(alloc)
     }
 }
 
@@ -205,20 +285,18 @@ impl FromValue for Material {
 
     #[tactic(auto, unfolding(crate::specs::Materials::material))]
     fn from_value(alloc: Global, value: &Value) -> Result<Material, Error> {
-        object(alloc, value)?;
-        record!(Material {
-            alpha_cutoff: optional(alloc, value, "alphaCutoff")?,
-            alpha_mode: or_default(alloc, value, "alphaMode", Checked::Valid(AlphaMode::Opaque))?,
-            double_sided: or_default(alloc, value, "doubleSided", false)?,
-            emissive_factor: optional(alloc, value, "emissiveFactor")?,
-            name: optional(alloc, value, "name")?,
-            extras: optional(alloc, value, "extras")?,
-        } and {
-            pbr_metallic_roughness: optional(alloc, value, "pbrMetallicRoughness"),
-            normal_texture: optional(alloc, value, "normalTexture"),
-            occlusion_texture: optional(alloc, value, "occlusionTexture"),
-            emissive_texture: optional(alloc, value, "emissiveTexture"),
-            extensions: optional(alloc, value, "extensions"),
+        read_record!(alloc, value; Material {
+            alpha_cutoff: optional("alphaCutoff"),
+            alpha_mode: or_default("alphaMode", Checked::Valid(AlphaMode::Opaque)),
+            double_sided: or_default("doubleSided", false),
+            pbr_metallic_roughness: optional("pbrMetallicRoughness"),
+            normal_texture: optional("normalTexture"),
+            occlusion_texture: optional("occlusionTexture"),
+            emissive_texture: optional("emissiveTexture"),
+            emissive_factor: optional("emissiveFactor"),
+            name: optional("name"),
+            extensions: optional("extensions"),
+            extras: optional("extras"),
         })
     }
 }

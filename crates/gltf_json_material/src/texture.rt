@@ -1,15 +1,19 @@
 //! Uses of textures (glTF 2.0, section 5.30, "Texture Info").
+ghost use Rattle.std.specs.Prelude.{IfOk};
+ghost use Rattle.gltf_json_record.specs.Copy.{IsCopy};
+
 use crate::extensions;
+use gltf_json_record::copy::{Copies, option_copy};
 use gltf_json_record::error::Error;
 use gltf_json_record::extras::Extras;
 use gltf_json_record::index::Index;
-use gltf_json_record::kinds;
-use gltf_json_record::read::{FromValue, object, optional, or_default, required};
+use gltf_json_record::read::FromValue;
+use gltf_json_record::{kinds, read_record, record};
 use serde_json::Value;
 use std::alloc::{AllocError, Global};
 
 /// The use of a texture (glTF 2.0, section 5.30, "Texture Info").
-#[derive(Clone, Debug, Drop)]
+#[derive(Debug, Drop)]
 pub struct Info {
     /// The texture: `index`.
     pub index: Index<kinds::Texture>,
@@ -22,9 +26,26 @@ pub struct Info {
 }
 
 impl Info {
-    /// A copy of the record.
-    pub fn clone(&self, _alloc: Global) -> Result<Info, AllocError> {
-        Clone::clone(self)
+    ghost use Rattle.gltf_json_material.specs.Textures.{texture_info};
+
+    /// A copy of the record, which shows what this one shows.
+    #[tactic(auto, unfolding(crate::specs::Textures::texture_info))]
+    pub fn clone(&self, alloc: Global) -> Result<Info, AllocError>
+        ensures { IfOk result (IsCopy texture_info self.now) }
+    {
+        record!(Info {
+            index: self.index,
+            tex_coord: self.tex_coord,
+        } and {
+            extensions: option_copy(alloc, &self.extensions),
+            extras: option_copy(alloc, &self.extras),
+        })
+    }
+}
+
+impl Copies for Info {
+    fn copy(&self, alloc: Global) -> Result<Info, AllocError> {
+        self.clone(alloc)
     }
 }
 
@@ -35,12 +56,11 @@ impl FromValue for Info {
 
     #[tactic(auto, unfolding(crate::specs::Textures::texture_info))]
     fn from_value(alloc: Global, value: &Value) -> Result<Info, Error> {
-        object(alloc, value)?;
-        Ok(Info {
-            index: required(alloc, value, "index")?,
-            tex_coord: or_default(alloc, value, "texCoord", 0)?,
-            extensions: optional(alloc, value, "extensions")?,
-            extras: optional(alloc, value, "extras")?,
+        read_record!(alloc, value; Info {
+            index: required("index"),
+            tex_coord: or_default("texCoord", 0),
+            extensions: optional("extensions"),
+            extras: optional("extras"),
         })
     }
 }

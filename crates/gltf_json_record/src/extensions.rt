@@ -1,21 +1,38 @@
 //! The member `extensions` of a record at which no extension is known.
+ghost use Rattle.std.specs.Prelude.{IfOk};
+ghost use Rattle.gltf_json_record.specs.Copy.{IsCopy};
+
+use crate::copy::{Copies, map_copy};
 use crate::error::Error;
-use crate::others::others;
-use crate::read::{FromValue, object};
+use crate::read::FromValue;
+use crate::{read_record, record};
 use serde_json::{Map, Value};
 use std::alloc::{AllocError, Global};
 
 /// The extensions of a record at which none is known (glTF 2.0, section 3.12, "Specifying Extensions").
-#[derive(Clone, Debug, Drop)]
+#[derive(Debug, Drop)]
 pub struct Others {
     /// Every member of `extensions`, as it stands.
     pub others: Map<String, Value>,
 }
 
 impl Others {
-    /// A copy of the record.
-    pub fn clone(&self, _alloc: Global) -> Result<Others, AllocError> {
-        Clone::clone(self)
+    ghost use Rattle.gltf_json_record.specs.Extensions.{others_only};
+
+    /// A copy of the record, which shows what this one shows.
+    #[tactic(auto, unfolding(crate::specs::Extensions::others_only))]
+    pub fn clone(&self, _alloc: Global) -> Result<Others, AllocError>
+        ensures { IfOk result (IsCopy others_only self.now) }
+    {
+        record!(Others {
+            others: map_copy(&self.others),
+        })
+    }
+}
+
+impl Copies for Others {
+    fn copy(&self, alloc: Global) -> Result<Others, AllocError> {
+        self.clone(alloc)
     }
 }
 
@@ -26,9 +43,8 @@ impl FromValue for Others {
 
     #[tactic(auto, unfolding(crate::specs::Extensions::others_only))]
     fn from_value(alloc: Global, value: &Value) -> Result<Others, Error> {
-        object(alloc, value)?;
-        Ok(Others {
-            others: others(value, &[])?,
+        read_record!(alloc, value; Others {
+            others: others(),
         })
     }
 }

@@ -1,11 +1,12 @@
 //! Positions in the lists of a document.
 ghost use Rattle.std.specs.Prelude.{◌≡◌};
 
+use crate::copy::Copies;
 use crate::error::Error;
 use crate::read::FromValue;
 use crate::scalars::n32;
 use serde_json::Value;
-use std::alloc::Global;
+use std::alloc::{AllocError, Global};
 use std::marker::{Model, PhantomData};
 
 /// A position in the list that the marker T of `kinds` names, counted from 0. Contracts see its number.
@@ -52,5 +53,14 @@ impl<T> FromValue for Index<T> {
 
     fn from_value(alloc: Global, value: &Value) -> Result<Index<T>, Error> {
         Ok(Index::new(n32(alloc, value)?))
+    }
+}
+
+impl<T> Copies for Index<T> {
+    fn copy(&self, _alloc: Global) -> Result<Index<T>, AllocError> {
+        Ok(Index {
+            value: self.value,
+            of: PhantomData,
+        })
     }
 }

@@ -1,13 +1,18 @@
 //! What a document says of itself (glTF 2.0, section 3.2, "Asset").
+ghost use Rattle.std.specs.Prelude.{IfOk};
+ghost use Rattle.gltf_json_record.specs.Copy.{IsCopy};
+
+use gltf_json_record::copy::{Copies, option_copy};
 use gltf_json_record::error::Error;
 use gltf_json_record::extensions::Others;
 use gltf_json_record::extras::Extras;
-use gltf_json_record::read::{FromValue, object, optional, required};
+use gltf_json_record::read::FromValue;
+use gltf_json_record::{read_record, record};
 use serde_json::Value;
 use std::alloc::{AllocError, Global};
 
 /// What a document says of itself (glTF 2.0, section 5.9, "Asset").
-#[derive(Clone, Debug, Drop)]
+#[derive(Debug, Drop)]
 pub struct Asset {
     /// The version of glTF that the document is written for, as `2.0`: `version`. Its text is not looked at.
     pub version: String,
@@ -24,9 +29,27 @@ pub struct Asset {
 }
 
 impl Asset {
-    /// A copy of the record.
-    pub fn clone(&self, _alloc: Global) -> Result<Asset, AllocError> {
-        Clone::clone(self)
+    ghost use Rattle.gltf_json_scene.specs.Assets.{asset};
+
+    /// A copy of the record, which shows what this one shows.
+    #[tactic(auto, unfolding(crate::specs::Assets::asset))]
+    pub fn clone(&self, alloc: Global) -> Result<Asset, AllocError>
+        ensures { IfOk result (IsCopy asset self.now) }
+    {
+        record!(Asset {
+            version: self.version.copy(alloc),
+            generator: option_copy(alloc, &self.generator),
+            copyright: option_copy(alloc, &self.copyright),
+            min_version: option_copy(alloc, &self.min_version),
+            extensions: option_copy(alloc, &self.extensions),
+            extras: option_copy(alloc, &self.extras),
+        })
+    }
+}
+
+impl Copies for Asset {
+    fn copy(&self, alloc: Global) -> Result<Asset, AllocError> {
+        self.clone(alloc)
     }
 }
 
@@ -37,14 +60,13 @@ impl FromValue for Asset {
 
     #[tactic(auto, unfolding(crate::specs::Assets::asset))]
     fn from_value(alloc: Global, value: &Value) -> Result<Asset, Error> {
-        object(alloc, value)?;
-        Ok(Asset {
-            version: required(alloc, value, "version")?,
-            generator: optional(alloc, value, "generator")?,
-            copyright: optional(alloc, value, "copyright")?,
-            min_version: optional(alloc, value, "minVersion")?,
-            extensions: optional(alloc, value, "extensions")?,
-            extras: optional(alloc, value, "extras")?,
+        read_record!(alloc, value; Asset {
+            version: required("version"),
+            generator: optional("generator"),
+            copyright: optional("copyright"),
+            min_version: optional("minVersion"),
+            extensions: optional("extensions"),
+            extras: optional("extras"),
         })
     }
 }

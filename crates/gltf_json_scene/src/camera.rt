@@ -1,10 +1,14 @@
 //! Cameras (glTF 2.0, section 3.10, "Cameras").
+ghost use Rattle.std.specs.Prelude.{IfOk};
+ghost use Rattle.gltf_json_record.specs.Copy.{IsCopy};
+
+use gltf_json_record::copy::{Copies, option_copy};
 use gltf_json_record::error::Error;
 use gltf_json_record::extensions::Others;
 use gltf_json_record::extras::Extras;
-use gltf_json_record::read::{FromValue, object, optional, required};
-use gltf_json_record::record;
+use gltf_json_record::read::FromValue;
 use gltf_json_record::validation::{Checked, Code};
+use gltf_json_record::{read_record, record};
 use serde_json::Value;
 use std::alloc::{AllocError, Global};
 
@@ -33,7 +37,7 @@ impl Code for Type {
 
 /// An orthographic projection (glTF 2.0, section 5.13, "Camera Orthographic"). Its numbers are kept as
 /// they stand, of any kind.
-#[derive(Clone, Debug, Drop)]
+#[derive(Debug, Drop)]
 pub struct Orthographic {
     /// Half the width of what is seen: `xmag`.
     pub xmag: Option<Value>,
@@ -50,9 +54,27 @@ pub struct Orthographic {
 }
 
 impl Orthographic {
-    /// A copy of the record.
-    pub fn clone(&self, _alloc: Global) -> Result<Orthographic, AllocError> {
-        Clone::clone(self)
+    ghost use Rattle.gltf_json_scene.specs.Cameras.{orthographic};
+
+    /// A copy of the record, which shows what this one shows.
+    #[tactic(auto, unfolding(crate::specs::Cameras::orthographic))]
+    pub fn clone(&self, alloc: Global) -> Result<Orthographic, AllocError>
+        ensures { IfOk result (IsCopy orthographic self.now) }
+    {
+        record!(Orthographic {
+            xmag: option_copy(alloc, &self.xmag),
+            ymag: option_copy(alloc, &self.ymag),
+            zfar: option_copy(alloc, &self.zfar),
+            znear: option_copy(alloc, &self.znear),
+            extensions: option_copy(alloc, &self.extensions),
+            extras: option_copy(alloc, &self.extras),
+        })
+    }
+}
+
+impl Copies for Orthographic {
+    fn copy(&self, alloc: Global) -> Result<Orthographic, AllocError> {
+        self.clone(alloc)
     }
 }
 
@@ -63,21 +85,20 @@ impl FromValue for Orthographic {
 
     #[tactic(auto, unfolding(crate::specs::Cameras::orthographic))]
     fn from_value(alloc: Global, value: &Value) -> Result<Orthographic, Error> {
-        object(alloc, value)?;
-        Ok(Orthographic {
-            xmag: optional(alloc, value, "xmag")?,
-            ymag: optional(alloc, value, "ymag")?,
-            zfar: optional(alloc, value, "zfar")?,
-            znear: optional(alloc, value, "znear")?,
-            extensions: optional(alloc, value, "extensions")?,
-            extras: optional(alloc, value, "extras")?,
+        read_record!(alloc, value; Orthographic {
+            xmag: optional("xmag"),
+            ymag: optional("ymag"),
+            zfar: optional("zfar"),
+            znear: optional("znear"),
+            extensions: optional("extensions"),
+            extras: optional("extras"),
         })
     }
 }
 
 /// A perspective projection (glTF 2.0, section 5.14, "Camera Perspective"). Its numbers are kept as they
 /// stand, of any kind.
-#[derive(Clone, Debug, Drop)]
+#[derive(Debug, Drop)]
 pub struct Perspective {
     /// The width of the view by its height: `aspectRatio`.
     pub aspect_ratio: Option<Value>,
@@ -94,9 +115,27 @@ pub struct Perspective {
 }
 
 impl Perspective {
-    /// A copy of the record.
-    pub fn clone(&self, _alloc: Global) -> Result<Perspective, AllocError> {
-        Clone::clone(self)
+    ghost use Rattle.gltf_json_scene.specs.Cameras.{perspective};
+
+    /// A copy of the record, which shows what this one shows.
+    #[tactic(auto, unfolding(crate::specs::Cameras::perspective))]
+    pub fn clone(&self, alloc: Global) -> Result<Perspective, AllocError>
+        ensures { IfOk result (IsCopy perspective self.now) }
+    {
+        record!(Perspective {
+            aspect_ratio: option_copy(alloc, &self.aspect_ratio),
+            yfov: option_copy(alloc, &self.yfov),
+            zfar: option_copy(alloc, &self.zfar),
+            znear: option_copy(alloc, &self.znear),
+            extensions: option_copy(alloc, &self.extensions),
+            extras: option_copy(alloc, &self.extras),
+        })
+    }
+}
+
+impl Copies for Perspective {
+    fn copy(&self, alloc: Global) -> Result<Perspective, AllocError> {
+        self.clone(alloc)
     }
 }
 
@@ -107,20 +146,19 @@ impl FromValue for Perspective {
 
     #[tactic(auto, unfolding(crate::specs::Cameras::perspective))]
     fn from_value(alloc: Global, value: &Value) -> Result<Perspective, Error> {
-        object(alloc, value)?;
-        Ok(Perspective {
-            aspect_ratio: optional(alloc, value, "aspectRatio")?,
-            yfov: optional(alloc, value, "yfov")?,
-            zfar: optional(alloc, value, "zfar")?,
-            znear: optional(alloc, value, "znear")?,
-            extensions: optional(alloc, value, "extensions")?,
-            extras: optional(alloc, value, "extras")?,
+        read_record!(alloc, value; Perspective {
+            aspect_ratio: optional("aspectRatio"),
+            yfov: optional("yfov"),
+            zfar: optional("zfar"),
+            znear: optional("znear"),
+            extensions: optional("extensions"),
+            extras: optional("extras"),
         })
     }
 }
 
 /// A camera (glTF 2.0, section 5.12, "Camera").
-#[derive(Clone, Debug, Drop)]
+#[derive(Debug, Drop)]
 pub struct Camera {
     /// How the camera projects: `type`.
     pub type_: Checked<Type>,
@@ -137,9 +175,28 @@ pub struct Camera {
 }
 
 impl Camera {
-    /// A copy of the record.
-    pub fn clone(&self, _alloc: Global) -> Result<Camera, AllocError> {
-        Clone::clone(self)
+    ghost use Rattle.gltf_json_scene.specs.Cameras.{camera};
+
+    /// A copy of the record, which shows what this one shows.
+    #[tactic(auto, unfolding(crate::specs::Cameras::camera))]
+    pub fn clone(&self, alloc: Global) -> Result<Camera, AllocError>
+        ensures { IfOk result (IsCopy camera self.now) }
+    {
+        record!(Camera {
+            type_: self.type_,
+        } and {
+            orthographic: option_copy(alloc, &self.orthographic),
+            perspective: option_copy(alloc, &self.perspective),
+            name: option_copy(alloc, &self.name),
+            extensions: option_copy(alloc, &self.extensions),
+            extras: option_copy(alloc, &self.extras),
+        })
+    }
+}
+
+impl Copies for Camera {
+    fn copy(&self, alloc: Global) -> Result<Camera, AllocError> {
+        self.clone(alloc)
     }
 }
 
@@ -150,14 +207,13 @@ impl FromValue for Camera {
 
     #[tactic(auto, unfolding(crate::specs::Cameras::camera))]
     fn from_value(alloc: Global, value: &Value) -> Result<Camera, Error> {
-        object(alloc, value)?;
-        record!(Camera {
-            type_: required(alloc, value, "type"),
-            orthographic: optional(alloc, value, "orthographic"),
-            perspective: optional(alloc, value, "perspective"),
-            name: optional(alloc, value, "name"),
-            extensions: optional(alloc, value, "extensions"),
-            extras: optional(alloc, value, "extras"),
+        read_record!(alloc, value; Camera {
+            type_: required("type"),
+            orthographic: optional("orthographic"),
+            perspective: optional("perspective"),
+            name: optional("name"),
+            extensions: optional("extensions"),
+            extras: optional("extras"),
         })
     }
 }

@@ -1,15 +1,19 @@
 //! Images (glTF 2.0, section 3.8.4, "Images").
+ghost use Rattle.std.specs.Prelude.{IfOk};
+ghost use Rattle.gltf_json_record.specs.Copy.{IsCopy};
+
+use gltf_json_record::copy::{Copies, option_copy};
 use gltf_json_record::error::Error;
 use gltf_json_record::extensions::Others;
 use gltf_json_record::extras::Extras;
 use gltf_json_record::index::Index;
-use gltf_json_record::kinds;
-use gltf_json_record::read::{FromValue, object, optional};
+use gltf_json_record::read::FromValue;
+use gltf_json_record::{kinds, read_record, record};
 use serde_json::Value;
 use std::alloc::{AllocError, Global};
 
 /// Where the bytes of an image are (glTF 2.0, section 5.18, "Image").
-#[derive(Clone, Debug, Drop)]
+#[derive(Debug, Drop)]
 pub struct Image {
     /// The view that holds the bytes of the image: `bufferView`.
     pub buffer_view: Option<Index<kinds::View>>,
@@ -26,9 +30,28 @@ pub struct Image {
 }
 
 impl Image {
-    /// A copy of the record.
-    pub fn clone(&self, _alloc: Global) -> Result<Image, AllocError> {
-        Clone::clone(self)
+    ghost use Rattle.gltf_json_scene.specs.Images.{image};
+
+    /// A copy of the record, which shows what this one shows.
+    #[tactic(auto, unfolding(crate::specs::Images::image))]
+    pub fn clone(&self, alloc: Global) -> Result<Image, AllocError>
+        ensures { IfOk result (IsCopy image self.now) }
+    {
+        record!(Image {
+            buffer_view: self.buffer_view,
+        } and {
+            mime_type: option_copy(alloc, &self.mime_type),
+            uri: option_copy(alloc, &self.uri),
+            name: option_copy(alloc, &self.name),
+            extensions: option_copy(alloc, &self.extensions),
+            extras: option_copy(alloc, &self.extras),
+        })
+    }
+}
+
+impl Copies for Image {
+    fn copy(&self, alloc: Global) -> Result<Image, AllocError> {
+        self.clone(alloc)
     }
 }
 
@@ -39,14 +62,13 @@ impl FromValue for Image {
 
     #[tactic(auto, unfolding(crate::specs::Images::image))]
     fn from_value(alloc: Global, value: &Value) -> Result<Image, Error> {
-        object(alloc, value)?;
-        Ok(Image {
-            buffer_view: optional(alloc, value, "bufferView")?,
-            mime_type: optional(alloc, value, "mimeType")?,
-            uri: optional(alloc, value, "uri")?,
-            name: optional(alloc, value, "name")?,
-            extensions: optional(alloc, value, "extensions")?,
-            extras: optional(alloc, value, "extras")?,
+        read_record!(alloc, value; Image {
+            buffer_view: optional("bufferView"),
+            mime_type: optional("mimeType"),
+            uri: optional("uri"),
+            name: optional("name"),
+            extensions: optional("extensions"),
+            extras: optional("extras"),
         })
     }
 }

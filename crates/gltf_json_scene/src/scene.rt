@@ -1,18 +1,21 @@
 //! Nodes, and the scenes that they make up (glTF 2.0, section 3.5, "Scenes").
+ghost use Rattle.std.specs.Prelude.{IfOk};
+ghost use Rattle.gltf_json_record.specs.Copy.{IsCopy};
+
 use crate::extensions;
+use gltf_json_record::copy::{Copies, option_copy};
 use gltf_json_record::error::Error;
 use gltf_json_record::extensions::Others;
 use gltf_json_record::extras::Extras;
 use gltf_json_record::index::Index;
-use gltf_json_record::kinds;
-use gltf_json_record::lists::list_or_empty;
-use gltf_json_record::read::{FromValue, object, optional};
+use gltf_json_record::read::FromValue;
+use gltf_json_record::{kinds, read_record, record};
 use serde_json::Value;
 use std::alloc::{AllocError, Global};
 
 /// A node of the node hierarchy (glTF 2.0, section 5.25, "Node"). The numbers of its transform and its
 /// weights are kept as they stand, of any kind.
-#[derive(Clone, Debug, Drop)]
+#[derive(Debug, Drop)]
 pub struct Node {
     /// The camera at this node: `camera`.
     pub camera: Option<Index<kinds::Camera>>,
@@ -41,9 +44,34 @@ pub struct Node {
 }
 
 impl Node {
-    /// A copy of the record.
-    pub fn clone(&self, _alloc: Global) -> Result<Node, AllocError> {
-        Clone::clone(self)
+    ghost use Rattle.gltf_json_scene.specs.Scenes.{node};
+
+    /// A copy of the record, which shows what this one shows.
+    #[tactic(auto, unfolding(crate::specs::Scenes::node))]
+    pub fn clone(&self, alloc: Global) -> Result<Node, AllocError>
+        ensures { IfOk result (IsCopy node self.now) }
+    {
+        record!(Node {
+            camera: self.camera,
+            mesh: self.mesh,
+            skin: self.skin,
+        } and {
+            children: self.children.copy(alloc),
+            matrix: option_copy(alloc, &self.matrix),
+            translation: option_copy(alloc, &self.translation),
+            rotation: option_copy(alloc, &self.rotation),
+            scale: option_copy(alloc, &self.scale),
+            weights: option_copy(alloc, &self.weights),
+            name: option_copy(alloc, &self.name),
+            extensions: option_copy(alloc, &self.extensions),
+            extras: option_copy(alloc, &self.extras),
+        })
+    }
+}
+
+impl Copies for Node {
+    fn copy(&self, alloc: Global) -> Result<Node, AllocError> {
+        self.clone(alloc)
     }
 }
 
@@ -54,26 +82,25 @@ impl FromValue for Node {
 
     #[tactic(auto, unfolding(crate::specs::Scenes::node))]
     fn from_value(alloc: Global, value: &Value) -> Result<Node, Error> {
-        object(alloc, value)?;
-        Ok(Node {
-            camera: optional(alloc, value, "camera")?,
-            children: list_or_empty(alloc, value, "children")?,
-            mesh: optional(alloc, value, "mesh")?,
-            skin: optional(alloc, value, "skin")?,
-            matrix: optional(alloc, value, "matrix")?,
-            translation: optional(alloc, value, "translation")?,
-            rotation: optional(alloc, value, "rotation")?,
-            scale: optional(alloc, value, "scale")?,
-            weights: optional(alloc, value, "weights")?,
-            name: optional(alloc, value, "name")?,
-            extensions: optional(alloc, value, "extensions")?,
-            extras: optional(alloc, value, "extras")?,
+        read_record!(alloc, value; Node {
+            camera: optional("camera"),
+            children: list_or_empty("children"),
+            mesh: optional("mesh"),
+            skin: optional("skin"),
+            matrix: optional("matrix"),
+            translation: optional("translation"),
+            rotation: optional("rotation"),
+            scale: optional("scale"),
+            weights: optional("weights"),
+            name: optional("name"),
+            extensions: optional("extensions"),
+            extras: optional("extras"),
         })
     }
 }
 
 /// The nodes that are shown together (glTF 2.0, section 5.27, "Scene").
-#[derive(Clone, Debug, Drop)]
+#[derive(Debug, Drop)]
 pub struct Scene {
     /// The root nodes of the scene: `nodes`. Empty where absent.
     pub nodes: Vec<Index<kinds::Node>>,
@@ -86,9 +113,25 @@ pub struct Scene {
 }
 
 impl Scene {
-    /// A copy of the record.
-    pub fn clone(&self, _alloc: Global) -> Result<Scene, AllocError> {
-        Clone::clone(self)
+    ghost use Rattle.gltf_json_scene.specs.Scenes.{scene};
+
+    /// A copy of the record, which shows what this one shows.
+    #[tactic(auto, unfolding(crate::specs::Scenes::scene))]
+    pub fn clone(&self, alloc: Global) -> Result<Scene, AllocError>
+        ensures { IfOk result (IsCopy scene self.now) }
+    {
+        record!(Scene {
+            nodes: self.nodes.copy(alloc),
+            name: option_copy(alloc, &self.name),
+            extensions: option_copy(alloc, &self.extensions),
+            extras: option_copy(alloc, &self.extras),
+        })
+    }
+}
+
+impl Copies for Scene {
+    fn copy(&self, alloc: Global) -> Result<Scene, AllocError> {
+        self.clone(alloc)
     }
 }
 
@@ -99,12 +142,11 @@ impl FromValue for Scene {
 
     #[tactic(auto, unfolding(crate::specs::Scenes::scene))]
     fn from_value(alloc: Global, value: &Value) -> Result<Scene, Error> {
-        object(alloc, value)?;
-        Ok(Scene {
-            nodes: list_or_empty(alloc, value, "nodes")?,
-            name: optional(alloc, value, "name")?,
-            extensions: optional(alloc, value, "extensions")?,
-            extras: optional(alloc, value, "extras")?,
+        read_record!(alloc, value; Scene {
+            nodes: list_or_empty("nodes"),
+            name: optional("name"),
+            extensions: optional("extensions"),
+            extras: optional("extras"),
         })
     }
 }

@@ -1,15 +1,19 @@
 //! Skins (glTF 2.0, section 3.7.3, "Skins").
+ghost use Rattle.std.specs.Prelude.{IfOk};
+ghost use Rattle.gltf_json_record.specs.Copy.{IsCopy};
+
+use gltf_json_record::copy::{Copies, option_copy};
 use gltf_json_record::error::Error;
 use gltf_json_record::extensions::Others;
 use gltf_json_record::extras::Extras;
 use gltf_json_record::index::Index;
-use gltf_json_record::kinds;
-use gltf_json_record::read::{FromValue, object, optional, required};
+use gltf_json_record::read::FromValue;
+use gltf_json_record::{kinds, read_record, record};
 use serde_json::Value;
 use std::alloc::{AllocError, Global};
 
 /// The joints that a mesh is bound to (glTF 2.0, section 5.28, "Skin").
-#[derive(Clone, Debug, Drop)]
+#[derive(Debug, Drop)]
 pub struct Skin {
     /// The accessor of the matrices, one a joint, that bring a vertex into the joint's space:
     /// `inverseBindMatrices`. Identities where absent.
@@ -27,9 +31,28 @@ pub struct Skin {
 }
 
 impl Skin {
-    /// A copy of the record.
-    pub fn clone(&self, _alloc: Global) -> Result<Skin, AllocError> {
-        Clone::clone(self)
+    ghost use Rattle.gltf_json_scene.specs.Skins.{skin};
+
+    /// A copy of the record, which shows what this one shows.
+    #[tactic(auto, unfolding(crate::specs::Skins::skin))]
+    pub fn clone(&self, alloc: Global) -> Result<Skin, AllocError>
+        ensures { IfOk result (IsCopy skin self.now) }
+    {
+        record!(Skin {
+            inverse_bind_matrices: self.inverse_bind_matrices,
+            skeleton: self.skeleton,
+        } and {
+            joints: self.joints.copy(alloc),
+            name: option_copy(alloc, &self.name),
+            extensions: option_copy(alloc, &self.extensions),
+            extras: option_copy(alloc, &self.extras),
+        })
+    }
+}
+
+impl Copies for Skin {
+    fn copy(&self, alloc: Global) -> Result<Skin, AllocError> {
+        self.clone(alloc)
     }
 }
 
@@ -40,14 +63,13 @@ impl FromValue for Skin {
 
     #[tactic(auto, unfolding(crate::specs::Skins::skin))]
     fn from_value(alloc: Global, value: &Value) -> Result<Skin, Error> {
-        object(alloc, value)?;
-        Ok(Skin {
-            inverse_bind_matrices: optional(alloc, value, "inverseBindMatrices")?,
-            joints: required(alloc, value, "joints")?,
-            skeleton: optional(alloc, value, "skeleton")?,
-            name: optional(alloc, value, "name")?,
-            extensions: optional(alloc, value, "extensions")?,
-            extras: optional(alloc, value, "extras")?,
+        read_record!(alloc, value; Skin {
+            inverse_bind_matrices: optional("inverseBindMatrices"),
+            joints: required("joints"),
+            skeleton: optional("skeleton"),
+            name: optional("name"),
+            extensions: optional("extensions"),
+            extras: optional("extras"),
         })
     }
 }

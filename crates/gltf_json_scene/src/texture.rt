@@ -1,11 +1,15 @@
 //! Textures, and how they are sampled (glTF 2.0, section 3.8, "Texture Data").
+ghost use Rattle.std.specs.Prelude.{IfOk};
+ghost use Rattle.gltf_json_record.specs.Copy.{IsCopy};
+
+use gltf_json_record::copy::{Copies, option_copy};
 use gltf_json_record::error::Error;
 use gltf_json_record::extensions::Others;
 use gltf_json_record::extras::Extras;
 use gltf_json_record::index::Index;
-use gltf_json_record::kinds;
-use gltf_json_record::read::{FromValue, object, optional, or_default, required};
+use gltf_json_record::read::FromValue;
 use gltf_json_record::validation::{Checked, Code};
+use gltf_json_record::{kinds, read_record, record};
 use serde_json::Value;
 use std::alloc::{AllocError, Global};
 
@@ -95,7 +99,7 @@ impl Code for WrappingMode {
 }
 
 /// How a texture is sampled (glTF 2.0, section 5.26, "Sampler").
-#[derive(Clone, Debug, Drop)]
+#[derive(Debug, Drop)]
 pub struct Sampler {
     /// How a texture is enlarged: `magFilter`.
     pub mag_filter: Option<Checked<MagFilter>>,
@@ -114,9 +118,29 @@ pub struct Sampler {
 }
 
 impl Sampler {
-    /// A copy of the record.
-    pub fn clone(&self, _alloc: Global) -> Result<Sampler, AllocError> {
-        Clone::clone(self)
+    ghost use Rattle.gltf_json_scene.specs.Textures.{sampler};
+
+    /// A copy of the record, which shows what this one shows.
+    #[tactic(auto, unfolding(crate::specs::Textures::sampler))]
+    pub fn clone(&self, alloc: Global) -> Result<Sampler, AllocError>
+        ensures { IfOk result (IsCopy sampler self.now) }
+    {
+        record!(Sampler {
+            mag_filter: self.mag_filter,
+            min_filter: self.min_filter,
+            wrap_s: self.wrap_s,
+            wrap_t: self.wrap_t,
+        } and {
+            name: option_copy(alloc, &self.name),
+            extensions: option_copy(alloc, &self.extensions),
+            extras: option_copy(alloc, &self.extras),
+        })
+    }
+}
+
+impl Copies for Sampler {
+    fn copy(&self, alloc: Global) -> Result<Sampler, AllocError> {
+        self.clone(alloc)
     }
 }
 
@@ -128,21 +152,20 @@ impl FromValue for Sampler {
     #[tactic(auto, unfolding(crate::specs::Textures::sampler))]
     fn from_value(alloc: Global, value: &Value) -> Result<Sampler, Error> {
         let repeat = Checked::Valid(WrappingMode::Repeat);
-        object(alloc, value)?;
-        Ok(Sampler {
-            mag_filter: optional(alloc, value, "magFilter")?,
-            min_filter: optional(alloc, value, "minFilter")?,
-            wrap_s: or_default(alloc, value, "wrapS", repeat)?,
-            wrap_t: or_default(alloc, value, "wrapT", repeat)?,
-            name: optional(alloc, value, "name")?,
-            extensions: optional(alloc, value, "extensions")?,
-            extras: optional(alloc, value, "extras")?,
+        read_record!(alloc, value; Sampler {
+            mag_filter: optional("magFilter"),
+            min_filter: optional("minFilter"),
+            wrap_s: or_default("wrapS", repeat),
+            wrap_t: or_default("wrapT", repeat),
+            name: optional("name"),
+            extensions: optional("extensions"),
+            extras: optional("extras"),
         })
     }
 }
 
 /// An image, and how it is sampled (glTF 2.0, section 5.29, "Texture").
-#[derive(Clone, Debug, Drop)]
+#[derive(Debug, Drop)]
 pub struct Texture {
     /// How the texture is sampled: `sampler`. A sampler with no members stands for it where absent.
     pub sampler: Option<Index<kinds::Sampler>>,
@@ -157,9 +180,27 @@ pub struct Texture {
 }
 
 impl Texture {
-    /// A copy of the record.
-    pub fn clone(&self, _alloc: Global) -> Result<Texture, AllocError> {
-        Clone::clone(self)
+    ghost use Rattle.gltf_json_scene.specs.Textures.{texture};
+
+    /// A copy of the record, which shows what this one shows.
+    #[tactic(auto, unfolding(crate::specs::Textures::texture))]
+    pub fn clone(&self, alloc: Global) -> Result<Texture, AllocError>
+        ensures { IfOk result (IsCopy texture self.now) }
+    {
+        record!(Texture {
+            sampler: self.sampler,
+            source: self.source,
+        } and {
+            name: option_copy(alloc, &self.name),
+            extensions: option_copy(alloc, &self.extensions),
+            extras: option_copy(alloc, &self.extras),
+        })
+    }
+}
+
+impl Copies for Texture {
+    fn copy(&self, alloc: Global) -> Result<Texture, AllocError> {
+        self.clone(alloc)
     }
 }
 
@@ -170,13 +211,12 @@ impl FromValue for Texture {
 
     #[tactic(auto, unfolding(crate::specs::Textures::texture))]
     fn from_value(alloc: Global, value: &Value) -> Result<Texture, Error> {
-        object(alloc, value)?;
-        Ok(Texture {
-            sampler: optional(alloc, value, "sampler")?,
-            source: required(alloc, value, "source")?,
-            name: optional(alloc, value, "name")?,
-            extensions: optional(alloc, value, "extensions")?,
-            extras: optional(alloc, value, "extras")?,
+        read_record!(alloc, value; Texture {
+            sampler: optional("sampler"),
+            source: required("source"),
+            name: optional("name"),
+            extensions: optional("extensions"),
+            extras: optional("extras"),
         })
     }
 }

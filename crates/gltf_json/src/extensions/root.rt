@@ -1,23 +1,40 @@
 //! What the extensions add to the whole document.
+ghost use Rattle.std.specs.Prelude.{IfOk};
+ghost use Rattle.gltf_json_record.specs.Copy.{IsCopy};
+
+use gltf_json_record::copy::{Copies, map_copy, option_copy};
 use gltf_json_record::error::Error;
-use gltf_json_record::others::others;
-use gltf_json_record::read::{FromValue, object, optional, required};
+use gltf_json_record::read::FromValue;
+use gltf_json_record::{read_record, record};
 use gltf_json_scene::extensions::scene::khr_lights_punctual::Light;
 use gltf_json_scene::extensions::scene::khr_materials_variants::Variant;
 use serde_json::{Map, Value};
 use std::alloc::{AllocError, Global};
 
 /// The lights of the document (`KHR_lights_punctual`, "Adding Light Instances to Nodes").
-#[derive(Clone, Debug, Drop)]
+#[derive(Debug, Drop)]
 pub struct KhrLightsPunctual {
     /// The lights: `lights`.
     pub lights: Vec<Light>,
 }
 
 impl KhrLightsPunctual {
-    /// A copy of the record.
-    pub fn clone(&self, _alloc: Global) -> Result<KhrLightsPunctual, AllocError> {
-        Clone::clone(self)
+    ghost use Rattle.gltf_json.specs.Documents.{root_lights};
+
+    /// A copy of the record, which shows what this one shows.
+    #[tactic(auto, unfolding(crate::specs::Documents::root_lights))]
+    pub fn clone(&self, alloc: Global) -> Result<KhrLightsPunctual, AllocError>
+        ensures { IfOk result (IsCopy root_lights self.now) }
+    {
+        record!(KhrLightsPunctual {
+            lights: self.lights.copy(alloc),
+        })
+    }
+}
+
+impl Copies for KhrLightsPunctual {
+    fn copy(&self, alloc: Global) -> Result<KhrLightsPunctual, AllocError> {
+        self.clone(alloc)
     }
 }
 
@@ -28,24 +45,36 @@ impl FromValue for KhrLightsPunctual {
 
     #[tactic(auto, unfolding(crate::specs::Documents::root_lights))]
     fn from_value(alloc: Global, value: &Value) -> Result<KhrLightsPunctual, Error> {
-        object(alloc, value)?;
-        Ok(KhrLightsPunctual {
-            lights: required(alloc, value, "lights")?,
+        read_record!(alloc, value; KhrLightsPunctual {
+            lights: required("lights"),
         })
     }
 }
 
 /// The variants of the document's materials (`KHR_materials_variants`).
-#[derive(Clone, Debug, Drop)]
+#[derive(Debug, Drop)]
 pub struct KhrMaterialsVariants {
     /// The variants: `variants`.
     pub variants: Vec<Variant>,
 }
 
 impl KhrMaterialsVariants {
-    /// A copy of the record.
-    pub fn clone(&self, _alloc: Global) -> Result<KhrMaterialsVariants, AllocError> {
-        Clone::clone(self)
+    ghost use Rattle.gltf_json.specs.Documents.{root_variants};
+
+    /// A copy of the record, which shows what this one shows.
+    #[tactic(auto, unfolding(crate::specs::Documents::root_variants))]
+    pub fn clone(&self, alloc: Global) -> Result<KhrMaterialsVariants, AllocError>
+        ensures { IfOk result (IsCopy root_variants self.now) }
+    {
+        record!(KhrMaterialsVariants {
+            variants: self.variants.copy(alloc),
+        })
+    }
+}
+
+impl Copies for KhrMaterialsVariants {
+    fn copy(&self, alloc: Global) -> Result<KhrMaterialsVariants, AllocError> {
+        self.clone(alloc)
     }
 }
 
@@ -56,15 +85,14 @@ impl FromValue for KhrMaterialsVariants {
 
     #[tactic(auto, unfolding(crate::specs::Documents::root_variants))]
     fn from_value(alloc: Global, value: &Value) -> Result<KhrMaterialsVariants, Error> {
-        object(alloc, value)?;
-        Ok(KhrMaterialsVariants {
-            variants: required(alloc, value, "variants")?,
+        read_record!(alloc, value; KhrMaterialsVariants {
+            variants: required("variants"),
         })
     }
 }
 
 /// The member `extensions` of the whole document (glTF 2.0, section 5.17, "glTF").
-#[derive(Clone, Debug, Drop)]
+#[derive(Debug, Drop)]
 pub struct Root {
     /// The lights: `KHR_lights_punctual`.
     pub khr_lights_punctual: Option<KhrLightsPunctual>,
@@ -75,9 +103,24 @@ pub struct Root {
 }
 
 impl Root {
-    /// A copy of the record.
-    pub fn clone(&self, _alloc: Global) -> Result<Root, AllocError> {
-        Clone::clone(self)
+    ghost use Rattle.gltf_json.specs.Documents.{root_extensions};
+
+    /// A copy of the record, which shows what this one shows.
+    #[tactic(auto, unfolding(crate::specs::Documents::root_extensions))]
+    pub fn clone(&self, alloc: Global) -> Result<Root, AllocError>
+        ensures { IfOk result (IsCopy root_extensions self.now) }
+    {
+        record!(Root {
+            khr_lights_punctual: option_copy(alloc, &self.khr_lights_punctual),
+            khr_materials_variants: option_copy(alloc, &self.khr_materials_variants),
+            others: map_copy(&self.others),
+        })
+    }
+}
+
+impl Copies for Root {
+    fn copy(&self, alloc: Global) -> Result<Root, AllocError> {
+        self.clone(alloc)
     }
 }
 
@@ -88,11 +131,10 @@ impl FromValue for Root {
 
     #[tactic(auto, unfolding(crate::specs::Documents::root_extensions))]
     fn from_value(alloc: Global, value: &Value) -> Result<Root, Error> {
-        object(alloc, value)?;
-        Ok(Root {
-            khr_lights_punctual: optional(alloc, value, "KHR_lights_punctual")?,
-            khr_materials_variants: optional(alloc, value, "KHR_materials_variants")?,
-            others: others(value, &["KHR_lights_punctual", "KHR_materials_variants"])?,
+        read_record!(alloc, value; Root {
+            khr_lights_punctual: optional("KHR_lights_punctual"),
+            khr_materials_variants: optional("KHR_materials_variants"),
+            others: others("KHR_lights_punctual", "KHR_materials_variants"),
         })
     }
 }

@@ -1,17 +1,21 @@
 //! The sparse part of an accessor: items that differ from those of its view (glTF 2.0, section 3.6.2.3,
 //! "Sparse Accessors").
+ghost use Rattle.std.specs.Prelude.{IfOk};
+ghost use Rattle.gltf_json_record.specs.Copy.{IsCopy};
+
 use crate::accessor::ComponentType;
+use gltf_json_record::copy::{Copies, option_copy};
 use gltf_json_record::error::Error;
 use gltf_json_record::extras::Extras;
 use gltf_json_record::index::Index;
-use gltf_json_record::kinds;
 use gltf_json_record::read::{FromValue, object, optional, or_default, required, wrong_kind};
 use gltf_json_record::validation::Checked;
+use gltf_json_record::{kinds, read_record, record};
 use serde_json::Value;
 use std::alloc::{AllocError, Global};
 
 /// Where the positions of the differing items are (glTF 2.0, section 5.3, "Accessor Sparse Indices").
-#[derive(Clone, Debug, Drop)]
+#[derive(Debug, Drop)]
 pub struct Indices {
     /// The view that holds them: `bufferView`.
     pub buffer_view: Index<kinds::View>,
@@ -24,9 +28,26 @@ pub struct Indices {
 }
 
 impl Indices {
-    /// A copy of the record.
-    pub fn clone(&self, _alloc: Global) -> Result<Indices, AllocError> {
-        Clone::clone(self)
+    ghost use Rattle.gltf_json_geometry.specs.Accessors.{indices};
+
+    /// A copy of the record, which shows what this one shows.
+    #[tactic(auto, unfolding(crate::specs::Accessors::indices))]
+    pub fn clone(&self, alloc: Global) -> Result<Indices, AllocError>
+        ensures { IfOk result (IsCopy indices self.now) }
+    {
+        record!(Indices {
+            buffer_view: self.buffer_view,
+            byte_offset: self.byte_offset,
+            component_type: self.component_type,
+        } and {
+            extras: option_copy(alloc, &self.extras),
+        })
+    }
+}
+
+impl Copies for Indices {
+    fn copy(&self, alloc: Global) -> Result<Indices, AllocError> {
+        self.clone(alloc)
     }
 }
 
@@ -48,7 +69,7 @@ impl FromValue for Indices {
 }
 
 /// Where the differing items are (glTF 2.0, section 5.4, "Accessor Sparse Values").
-#[derive(Clone, Debug, Drop)]
+#[derive(Debug, Drop)]
 pub struct Values {
     /// The view that holds them: `bufferView`.
     pub buffer_view: Index<kinds::View>,
@@ -59,9 +80,25 @@ pub struct Values {
 }
 
 impl Values {
-    /// A copy of the record.
-    pub fn clone(&self, _alloc: Global) -> Result<Values, AllocError> {
-        Clone::clone(self)
+    ghost use Rattle.gltf_json_geometry.specs.Accessors.{values};
+
+    /// A copy of the record, which shows what this one shows.
+    #[tactic(auto, unfolding(crate::specs::Accessors::values))]
+    pub fn clone(&self, alloc: Global) -> Result<Values, AllocError>
+        ensures { IfOk result (IsCopy values self.now) }
+    {
+        record!(Values {
+            buffer_view: self.buffer_view,
+            byte_offset: self.byte_offset,
+        } and {
+            extras: option_copy(alloc, &self.extras),
+        })
+    }
+}
+
+impl Copies for Values {
+    fn copy(&self, alloc: Global) -> Result<Values, AllocError> {
+        self.clone(alloc)
     }
 }
 
@@ -72,17 +109,16 @@ impl FromValue for Values {
 
     #[tactic(auto, unfolding(crate::specs::Accessors::values))]
     fn from_value(alloc: Global, value: &Value) -> Result<Values, Error> {
-        object(alloc, value)?;
-        Ok(Values {
-            buffer_view: required(alloc, value, "bufferView")?,
-            byte_offset: or_default(alloc, value, "byteOffset", 0)?,
-            extras: optional(alloc, value, "extras")?,
+        read_record!(alloc, value; Values {
+            buffer_view: required("bufferView"),
+            byte_offset: or_default("byteOffset", 0),
+            extras: optional("extras"),
         })
     }
 }
 
 /// The items that differ (glTF 2.0, section 5.2, "Accessor Sparse").
-#[derive(Clone, Debug, Drop)]
+#[derive(Debug, Drop)]
 pub struct Sparse {
     /// How many differ: `count`.
     pub count: u64,
@@ -95,9 +131,26 @@ pub struct Sparse {
 }
 
 impl Sparse {
-    /// A copy of the record.
-    pub fn clone(&self, _alloc: Global) -> Result<Sparse, AllocError> {
-        Clone::clone(self)
+    ghost use Rattle.gltf_json_geometry.specs.Accessors.{sparse};
+
+    /// A copy of the record, which shows what this one shows.
+    #[tactic(auto, unfolding(crate::specs::Accessors::sparse))]
+    pub fn clone(&self, alloc: Global) -> Result<Sparse, AllocError>
+        ensures { IfOk result (IsCopy sparse self.now) }
+    {
+        record!(Sparse {
+            count: self.count,
+        } and {
+            indices: self.indices.copy(alloc),
+            values: self.values.copy(alloc),
+            extras: option_copy(alloc, &self.extras),
+        })
+    }
+}
+
+impl Copies for Sparse {
+    fn copy(&self, alloc: Global) -> Result<Sparse, AllocError> {
+        self.clone(alloc)
     }
 }
 
@@ -108,12 +161,11 @@ impl FromValue for Sparse {
 
     #[tactic(auto, unfolding(crate::specs::Accessors::sparse))]
     fn from_value(alloc: Global, value: &Value) -> Result<Sparse, Error> {
-        object(alloc, value)?;
-        Ok(Sparse {
-            count: required(alloc, value, "count")?,
-            indices: required(alloc, value, "indices")?,
-            values: required(alloc, value, "values")?,
-            extras: optional(alloc, value, "extras")?,
+        read_record!(alloc, value; Sparse {
+            count: required("count"),
+            indices: required("indices"),
+            values: required("values"),
+            extras: optional("extras"),
         })
     }
 }

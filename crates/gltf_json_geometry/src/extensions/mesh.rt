@@ -1,13 +1,16 @@
 //! The extensions of a mesh's primitives.
+ghost use Rattle.std.specs.Prelude.{IfOk};
+ghost use Rattle.gltf_json_record.specs.Copy.{IsCopy};
+
+use gltf_json_record::copy::{Copies, map_copy, option_copy};
 use gltf_json_record::error::Error;
-use gltf_json_record::lists::list_or_empty;
-use gltf_json_record::others::others;
-use gltf_json_record::read::{FromValue, object, optional, required};
+use gltf_json_record::read::FromValue;
+use gltf_json_record::{read_record, record};
 use serde_json::{Map, Value};
 use std::alloc::{AllocError, Global};
 
 /// The material that some variants give to a primitive (`KHR_materials_variants`, "Variant Mappings").
-#[derive(Clone, Debug, Drop)]
+#[derive(Debug, Drop)]
 pub struct Mapping {
     /// The number of the material in the root's list: `material`.
     pub material: u32,
@@ -16,9 +19,24 @@ pub struct Mapping {
 }
 
 impl Mapping {
-    /// A copy of the record.
-    pub fn clone(&self, _alloc: Global) -> Result<Mapping, AllocError> {
-        Clone::clone(self)
+    ghost use Rattle.gltf_json_geometry.specs.Meshes.{mapping};
+
+    /// A copy of the record, which shows what this one shows.
+    #[tactic(auto, unfolding(crate::specs::Meshes::mapping))]
+    pub fn clone(&self, alloc: Global) -> Result<Mapping, AllocError>
+        ensures { IfOk result (IsCopy mapping self.now) }
+    {
+        record!(Mapping {
+            material: self.material,
+        } and {
+            variants: self.variants.copy(alloc),
+        })
+    }
+}
+
+impl Copies for Mapping {
+    fn copy(&self, alloc: Global) -> Result<Mapping, AllocError> {
+        self.clone(alloc)
     }
 }
 
@@ -29,25 +47,37 @@ impl FromValue for Mapping {
 
     #[tactic(auto, unfolding(crate::specs::Meshes::mapping))]
     fn from_value(alloc: Global, value: &Value) -> Result<Mapping, Error> {
-        object(alloc, value)?;
-        Ok(Mapping {
-            material: required(alloc, value, "material")?,
-            variants: required(alloc, value, "variants")?,
+        read_record!(alloc, value; Mapping {
+            material: required("material"),
+            variants: required("variants"),
         })
     }
 }
 
 /// The extension `KHR_materials_variants` of a primitive.
-#[derive(Clone, Debug, Drop)]
+#[derive(Debug, Drop)]
 pub struct KhrMaterialsVariants {
     /// The materials that variants give: `mappings`, empty where absent.
     pub mappings: Vec<Mapping>,
 }
 
 impl KhrMaterialsVariants {
-    /// A copy of the record.
-    pub fn clone(&self, _alloc: Global) -> Result<KhrMaterialsVariants, AllocError> {
-        Clone::clone(self)
+    ghost use Rattle.gltf_json_geometry.specs.Meshes.{primitive_variants};
+
+    /// A copy of the record, which shows what this one shows.
+    #[tactic(auto, unfolding(crate::specs::Meshes::primitive_variants))]
+    pub fn clone(&self, alloc: Global) -> Result<KhrMaterialsVariants, AllocError>
+        ensures { IfOk result (IsCopy primitive_variants self.now) }
+    {
+        record!(KhrMaterialsVariants {
+            mappings: self.mappings.copy(alloc),
+        })
+    }
+}
+
+impl Copies for KhrMaterialsVariants {
+    fn copy(&self, alloc: Global) -> Result<KhrMaterialsVariants, AllocError> {
+        self.clone(alloc)
     }
 }
 
@@ -58,15 +88,14 @@ impl FromValue for KhrMaterialsVariants {
 
     #[tactic(auto, unfolding(crate::specs::Meshes::primitive_variants))]
     fn from_value(alloc: Global, value: &Value) -> Result<KhrMaterialsVariants, Error> {
-        object(alloc, value)?;
-        Ok(KhrMaterialsVariants {
-            mappings: list_or_empty(alloc, value, "mappings")?,
+        read_record!(alloc, value; KhrMaterialsVariants {
+            mappings: list_or_empty("mappings"),
         })
     }
 }
 
 /// The extensions of a primitive.
-#[derive(Clone, Debug, Drop)]
+#[derive(Debug, Drop)]
 pub struct Primitive {
     /// `KHR_materials_variants`.
     pub khr_materials_variants: Option<KhrMaterialsVariants>,
@@ -75,9 +104,23 @@ pub struct Primitive {
 }
 
 impl Primitive {
-    /// A copy of the record.
-    pub fn clone(&self, _alloc: Global) -> Result<Primitive, AllocError> {
-        Clone::clone(self)
+    ghost use Rattle.gltf_json_geometry.specs.Meshes.{primitive_extensions};
+
+    /// A copy of the record, which shows what this one shows.
+    #[tactic(auto, unfolding(crate::specs::Meshes::primitive_extensions))]
+    pub fn clone(&self, alloc: Global) -> Result<Primitive, AllocError>
+        ensures { IfOk result (IsCopy primitive_extensions self.now) }
+    {
+        record!(Primitive {
+            khr_materials_variants: option_copy(alloc, &self.khr_materials_variants),
+            others: map_copy(&self.others),
+        })
+    }
+}
+
+impl Copies for Primitive {
+    fn copy(&self, alloc: Global) -> Result<Primitive, AllocError> {
+        self.clone(alloc)
     }
 }
 
@@ -88,10 +131,9 @@ impl FromValue for Primitive {
 
     #[tactic(auto, unfolding(crate::specs::Meshes::primitive_extensions))]
     fn from_value(alloc: Global, value: &Value) -> Result<Primitive, Error> {
-        object(alloc, value)?;
-        Ok(Primitive {
-            khr_materials_variants: optional(alloc, value, "KHR_materials_variants")?,
-            others: others(value, &["KHR_materials_variants"])?,
+        read_record!(alloc, value; Primitive {
+            khr_materials_variants: optional("KHR_materials_variants"),
+            others: others("KHR_materials_variants"),
         })
     }
 }

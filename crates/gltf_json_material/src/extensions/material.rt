@@ -1,16 +1,19 @@
 //! The extensions that are known at a material.
+ghost use Rattle.std.specs.Prelude.{IfOk};
+ghost use Rattle.gltf_json_record.specs.Copy.{IsCopy};
+
 use crate::texture::Info;
+use gltf_json_record::copy::{Copies, map_copy, option_copy};
 use gltf_json_record::error::Error;
 use gltf_json_record::extras::Extras;
-use gltf_json_record::others::others;
-use gltf_json_record::read::{FromValue, object, optional};
-use gltf_json_record::record;
+use gltf_json_record::read::{FromValue, object};
+use gltf_json_record::{read_record, record};
 use serde_json::{Map, Value};
 use std::alloc::{AllocError, Global};
 
 /// A colour, the strength of its reflections and their glossiness (the extension
 /// `KHR_materials_pbrSpecularGlossiness`).
-#[derive(Clone, Debug, Drop)]
+#[derive(Debug, Drop)]
 pub struct PbrSpecularGlossiness {
     /// The factors of the diffuse colour, as they stand: `diffuseFactor`.
     pub diffuse_factor: Option<Value>,
@@ -27,9 +30,27 @@ pub struct PbrSpecularGlossiness {
 }
 
 impl PbrSpecularGlossiness {
-    /// A copy of the record.
-    pub fn clone(&self, _alloc: Global) -> Result<PbrSpecularGlossiness, AllocError> {
-        Clone::clone(self)
+    ghost use Rattle.gltf_json_material.specs.MaterialExtensions.{pbr_specular_glossiness};
+
+    /// A copy of the record, which shows what this one shows.
+    #[tactic(auto, unfolding(crate::specs::MaterialExtensions::pbr_specular_glossiness))]
+    pub fn clone(&self, alloc: Global) -> Result<PbrSpecularGlossiness, AllocError>
+        ensures { IfOk result (IsCopy pbr_specular_glossiness self.now) }
+    {
+        record!(PbrSpecularGlossiness {
+            diffuse_factor: option_copy(alloc, &self.diffuse_factor),
+            diffuse_texture: option_copy(alloc, &self.diffuse_texture),
+            specular_factor: option_copy(alloc, &self.specular_factor),
+            glossiness_factor: option_copy(alloc, &self.glossiness_factor),
+            specular_glossiness_texture: option_copy(alloc, &self.specular_glossiness_texture),
+            extras: option_copy(alloc, &self.extras),
+        })
+    }
+}
+
+impl Copies for PbrSpecularGlossiness {
+    fn copy(&self, alloc: Global) -> Result<PbrSpecularGlossiness, AllocError> {
+        self.clone(alloc)
     }
 }
 
@@ -40,27 +61,37 @@ impl FromValue for PbrSpecularGlossiness {
 
     #[tactic(auto, unfolding(crate::specs::MaterialExtensions::pbr_specular_glossiness))]
     fn from_value(alloc: Global, value: &Value) -> Result<PbrSpecularGlossiness, Error> {
-        object(alloc, value)?;
-        record!(PbrSpecularGlossiness {
-            diffuse_factor: optional(alloc, value, "diffuseFactor"),
-            diffuse_texture: optional(alloc, value, "diffuseTexture"),
-            specular_factor: optional(alloc, value, "specularFactor"),
-            glossiness_factor: optional(alloc, value, "glossinessFactor"),
-            specular_glossiness_texture: optional(alloc, value, "specularGlossinessTexture"),
-            extras: optional(alloc, value, "extras"),
+        read_record!(alloc, value; PbrSpecularGlossiness {
+            diffuse_factor: optional("diffuseFactor"),
+            diffuse_texture: optional("diffuseTexture"),
+            specular_factor: optional("specularFactor"),
+            glossiness_factor: optional("glossinessFactor"),
+            specular_glossiness_texture: optional("specularGlossinessTexture"),
+            extras: optional("extras"),
         })
     }
 }
 
 /// That a material shows its colour with no light on it (the extension `KHR_materials_unlit`). It has no
 /// members.
-#[derive(Clone, Debug, Drop)]
+#[derive(Debug, Drop)]
 pub struct Unlit {}
 
 impl Unlit {
-    /// A copy of the record.
-    pub fn clone(&self, _alloc: Global) -> Result<Unlit, AllocError> {
-        Clone::clone(self)
+    ghost use Rattle.gltf_json_material.specs.MaterialExtensions.{unlit};
+
+    /// A copy of the record, which shows what this one shows.
+    #[tactic(auto, unfolding(crate::specs::MaterialExtensions::unlit))]
+    pub fn clone(&self, _alloc: Global) -> Result<Unlit, AllocError>
+        ensures { IfOk result (IsCopy unlit self.now) }
+    {
+        Ok(Unlit {})
+    }
+}
+
+impl Copies for Unlit {
+    fn copy(&self, alloc: Global) -> Result<Unlit, AllocError> {
+        self.clone(alloc)
     }
 }
 
@@ -77,7 +108,7 @@ impl FromValue for Unlit {
 }
 
 /// How much light goes through a surface (the extension `KHR_materials_transmission`).
-#[derive(Clone, Debug, Drop)]
+#[derive(Debug, Drop)]
 pub struct Transmission {
     /// The part of the light that goes through, as it stands: `transmissionFactor`.
     pub transmission_factor: Option<Value>,
@@ -88,9 +119,24 @@ pub struct Transmission {
 }
 
 impl Transmission {
-    /// A copy of the record.
-    pub fn clone(&self, _alloc: Global) -> Result<Transmission, AllocError> {
-        Clone::clone(self)
+    ghost use Rattle.gltf_json_material.specs.MaterialExtensions.{transmission};
+
+    /// A copy of the record, which shows what this one shows.
+    #[tactic(auto, unfolding(crate::specs::MaterialExtensions::transmission))]
+    pub fn clone(&self, alloc: Global) -> Result<Transmission, AllocError>
+        ensures { IfOk result (IsCopy transmission self.now) }
+    {
+        record!(Transmission {
+            transmission_factor: option_copy(alloc, &self.transmission_factor),
+            transmission_texture: option_copy(alloc, &self.transmission_texture),
+            extras: option_copy(alloc, &self.extras),
+        })
+    }
+}
+
+impl Copies for Transmission {
+    fn copy(&self, alloc: Global) -> Result<Transmission, AllocError> {
+        self.clone(alloc)
     }
 }
 
@@ -101,17 +147,16 @@ impl FromValue for Transmission {
 
     #[tactic(auto, unfolding(crate::specs::MaterialExtensions::transmission))]
     fn from_value(alloc: Global, value: &Value) -> Result<Transmission, Error> {
-        object(alloc, value)?;
-        record!(Transmission {
-            transmission_factor: optional(alloc, value, "transmissionFactor"),
-            transmission_texture: optional(alloc, value, "transmissionTexture"),
-            extras: optional(alloc, value, "extras"),
+        read_record!(alloc, value; Transmission {
+            transmission_factor: optional("transmissionFactor"),
+            transmission_texture: optional("transmissionTexture"),
+            extras: optional("extras"),
         })
     }
 }
 
 /// The index of refraction of a material (the extension `KHR_materials_ior`).
-#[derive(Clone, Debug, Drop)]
+#[derive(Debug, Drop)]
 pub struct Ior {
     /// The index of refraction, as it stands: `ior`.
     pub ior: Option<Value>,
@@ -120,9 +165,23 @@ pub struct Ior {
 }
 
 impl Ior {
-    /// A copy of the record.
-    pub fn clone(&self, _alloc: Global) -> Result<Ior, AllocError> {
-        Clone::clone(self)
+    ghost use Rattle.gltf_json_material.specs.MaterialExtensions.{ior};
+
+    /// A copy of the record, which shows what this one shows.
+    #[tactic(auto, unfolding(crate::specs::MaterialExtensions::ior))]
+    pub fn clone(&self, alloc: Global) -> Result<Ior, AllocError>
+        ensures { IfOk result (IsCopy ior self.now) }
+    {
+        record!(Ior {
+            ior: option_copy(alloc, &self.ior),
+            extras: option_copy(alloc, &self.extras),
+        })
+    }
+}
+
+impl Copies for Ior {
+    fn copy(&self, alloc: Global) -> Result<Ior, AllocError> {
+        self.clone(alloc)
     }
 }
 
@@ -133,16 +192,15 @@ impl FromValue for Ior {
 
     #[tactic(auto, unfolding(crate::specs::MaterialExtensions::ior))]
     fn from_value(alloc: Global, value: &Value) -> Result<Ior, Error> {
-        object(alloc, value)?;
-        Ok(Ior {
-            ior: optional(alloc, value, "ior")?,
-            extras: optional(alloc, value, "extras")?,
+        read_record!(alloc, value; Ior {
+            ior: optional("ior"),
+            extras: optional("extras"),
         })
     }
 }
 
 /// How strong the light is that a surface gives off (the extension `KHR_materials_emissive_strength`).
-#[derive(Clone, Debug, Drop)]
+#[derive(Debug, Drop)]
 pub struct EmissiveStrength {
     /// The factor of that light, as it stands: `emissiveStrength`.
     pub emissive_strength: Option<Value>,
@@ -151,9 +209,23 @@ pub struct EmissiveStrength {
 }
 
 impl EmissiveStrength {
-    /// A copy of the record.
-    pub fn clone(&self, _alloc: Global) -> Result<EmissiveStrength, AllocError> {
-        Clone::clone(self)
+    ghost use Rattle.gltf_json_material.specs.MaterialExtensions.{emissive_strength};
+
+    /// A copy of the record, which shows what this one shows.
+    #[tactic(auto, unfolding(crate::specs::MaterialExtensions::emissive_strength))]
+    pub fn clone(&self, alloc: Global) -> Result<EmissiveStrength, AllocError>
+        ensures { IfOk result (IsCopy emissive_strength self.now) }
+    {
+        record!(EmissiveStrength {
+            emissive_strength: option_copy(alloc, &self.emissive_strength),
+            extras: option_copy(alloc, &self.extras),
+        })
+    }
+}
+
+impl Copies for EmissiveStrength {
+    fn copy(&self, alloc: Global) -> Result<EmissiveStrength, AllocError> {
+        self.clone(alloc)
     }
 }
 
@@ -164,16 +236,15 @@ impl FromValue for EmissiveStrength {
 
     #[tactic(auto, unfolding(crate::specs::MaterialExtensions::emissive_strength))]
     fn from_value(alloc: Global, value: &Value) -> Result<EmissiveStrength, Error> {
-        object(alloc, value)?;
-        Ok(EmissiveStrength {
-            emissive_strength: optional(alloc, value, "emissiveStrength")?,
-            extras: optional(alloc, value, "extras")?,
+        read_record!(alloc, value; EmissiveStrength {
+            emissive_strength: optional("emissiveStrength"),
+            extras: optional("extras"),
         })
     }
 }
 
 /// The volume below a surface (the extension `KHR_materials_volume`).
-#[derive(Clone, Debug, Drop)]
+#[derive(Debug, Drop)]
 pub struct Volume {
     /// The thickness of the volume, in the units of the mesh, as it stands: `thicknessFactor`.
     pub thickness_factor: Option<Value>,
@@ -189,9 +260,26 @@ pub struct Volume {
 }
 
 impl Volume {
-    /// A copy of the record.
-    pub fn clone(&self, _alloc: Global) -> Result<Volume, AllocError> {
-        Clone::clone(self)
+    ghost use Rattle.gltf_json_material.specs.MaterialExtensions.{volume};
+
+    /// A copy of the record, which shows what this one shows.
+    #[tactic(auto, unfolding(crate::specs::MaterialExtensions::volume))]
+    pub fn clone(&self, alloc: Global) -> Result<Volume, AllocError>
+        ensures { IfOk result (IsCopy volume self.now) }
+    {
+        record!(Volume {
+            thickness_factor: option_copy(alloc, &self.thickness_factor),
+            thickness_texture: option_copy(alloc, &self.thickness_texture),
+            attenuation_distance: option_copy(alloc, &self.attenuation_distance),
+            attenuation_color: option_copy(alloc, &self.attenuation_color),
+            extras: option_copy(alloc, &self.extras),
+        })
+    }
+}
+
+impl Copies for Volume {
+    fn copy(&self, alloc: Global) -> Result<Volume, AllocError> {
+        self.clone(alloc)
     }
 }
 
@@ -202,19 +290,18 @@ impl FromValue for Volume {
 
     #[tactic(auto, unfolding(crate::specs::MaterialExtensions::volume))]
     fn from_value(alloc: Global, value: &Value) -> Result<Volume, Error> {
-        object(alloc, value)?;
-        record!(Volume {
-            thickness_factor: optional(alloc, value, "thicknessFactor"),
-            thickness_texture: optional(alloc, value, "thicknessTexture"),
-            attenuation_distance: optional(alloc, value, "attenuationDistance"),
-            attenuation_color: optional(alloc, value, "attenuationColor"),
-            extras: optional(alloc, value, "extras"),
+        read_record!(alloc, value; Volume {
+            thickness_factor: optional("thicknessFactor"),
+            thickness_texture: optional("thicknessTexture"),
+            attenuation_distance: optional("attenuationDistance"),
+            attenuation_color: optional("attenuationColor"),
+            extras: optional("extras"),
         })
     }
 }
 
 /// The strength and colour of the reflections of a surface (the extension `KHR_materials_specular`).
-#[derive(Clone, Debug, Drop)]
+#[derive(Debug, Drop)]
 pub struct Specular {
     /// The strength, as it stands: `specularFactor`.
     pub specular_factor: Option<Value>,
@@ -229,9 +316,26 @@ pub struct Specular {
 }
 
 impl Specular {
-    /// A copy of the record.
-    pub fn clone(&self, _alloc: Global) -> Result<Specular, AllocError> {
-        Clone::clone(self)
+    ghost use Rattle.gltf_json_material.specs.MaterialExtensions.{specular};
+
+    /// A copy of the record, which shows what this one shows.
+    #[tactic(auto, unfolding(crate::specs::MaterialExtensions::specular))]
+    pub fn clone(&self, alloc: Global) -> Result<Specular, AllocError>
+        ensures { IfOk result (IsCopy specular self.now) }
+    {
+        record!(Specular {
+            specular_factor: option_copy(alloc, &self.specular_factor),
+            specular_texture: option_copy(alloc, &self.specular_texture),
+            specular_color_factor: option_copy(alloc, &self.specular_color_factor),
+            specular_color_texture: option_copy(alloc, &self.specular_color_texture),
+            extras: option_copy(alloc, &self.extras),
+        })
+    }
+}
+
+impl Copies for Specular {
+    fn copy(&self, alloc: Global) -> Result<Specular, AllocError> {
+        self.clone(alloc)
     }
 }
 
@@ -242,19 +346,18 @@ impl FromValue for Specular {
 
     #[tactic(auto, unfolding(crate::specs::MaterialExtensions::specular))]
     fn from_value(alloc: Global, value: &Value) -> Result<Specular, Error> {
-        object(alloc, value)?;
-        record!(Specular {
-            specular_factor: optional(alloc, value, "specularFactor"),
-            specular_texture: optional(alloc, value, "specularTexture"),
-            specular_color_factor: optional(alloc, value, "specularColorFactor"),
-            specular_color_texture: optional(alloc, value, "specularColorTexture"),
-            extras: optional(alloc, value, "extras"),
+        read_record!(alloc, value; Specular {
+            specular_factor: optional("specularFactor"),
+            specular_texture: optional("specularTexture"),
+            specular_color_factor: optional("specularColorFactor"),
+            specular_color_texture: optional("specularColorTexture"),
+            extras: optional("extras"),
         })
     }
 }
 
 /// The extensions of a material.
-#[derive(Clone, Debug, Drop)]
+#[derive(Debug, Drop)]
 pub struct Material {
     /// Diffuse and specular colour and glossiness: `KHR_materials_pbrSpecularGlossiness`.
     pub pbr_specular_glossiness: Option<PbrSpecularGlossiness>,
@@ -275,9 +378,29 @@ pub struct Material {
 }
 
 impl Material {
-    /// A copy of the record.
-    pub fn clone(&self, _alloc: Global) -> Result<Material, AllocError> {
-        Clone::clone(self)
+    ghost use Rattle.gltf_json_material.specs.MaterialExtensions.{material_extensions};
+
+    /// A copy of the record, which shows what this one shows.
+    #[tactic(auto, unfolding(crate::specs::MaterialExtensions::material_extensions))]
+    pub fn clone(&self, alloc: Global) -> Result<Material, AllocError>
+        ensures { IfOk result (IsCopy material_extensions self.now) }
+    {
+        record!(Material {
+            pbr_specular_glossiness: option_copy(alloc, &self.pbr_specular_glossiness),
+            unlit: option_copy(alloc, &self.unlit),
+            transmission: option_copy(alloc, &self.transmission),
+            ior: option_copy(alloc, &self.ior),
+            emissive_strength: option_copy(alloc, &self.emissive_strength),
+            volume: option_copy(alloc, &self.volume),
+            specular: option_copy(alloc, &self.specular),
+            others: map_copy(&self.others),
+        })
+    }
+}
+
+impl Copies for Material {
+    fn copy(&self, alloc: Global) -> Result<Material, AllocError> {
+        self.clone(alloc)
     }
 }
 
@@ -288,27 +411,15 @@ impl FromValue for Material {
 
     #[tactic(auto, unfolding(crate::specs::MaterialExtensions::material_extensions))]
     fn from_value(alloc: Global, value: &Value) -> Result<Material, Error> {
-        object(alloc, value)?;
-        record!(Material {
-            pbr_specular_glossiness: optional(alloc, value, "KHR_materials_pbrSpecularGlossiness"),
-            unlit: optional(alloc, value, "KHR_materials_unlit"),
-            transmission: optional(alloc, value, "KHR_materials_transmission"),
-            ior: optional(alloc, value, "KHR_materials_ior"),
-            emissive_strength: optional(alloc, value, "KHR_materials_emissive_strength"),
-            volume: optional(alloc, value, "KHR_materials_volume"),
-            specular: optional(alloc, value, "KHR_materials_specular"),
-            others: others(
-                value,
-                &[
-                    "KHR_materials_pbrSpecularGlossiness",
-                    "KHR_materials_unlit",
-                    "KHR_materials_transmission",
-                    "KHR_materials_ior",
-                    "KHR_materials_emissive_strength",
-                    "KHR_materials_volume",
-                    "KHR_materials_specular",
-                ],
-            ),
+        read_record!(alloc, value; Material {
+            pbr_specular_glossiness: optional("KHR_materials_pbrSpecularGlossiness"),
+            unlit: optional("KHR_materials_unlit"),
+            transmission: optional("KHR_materials_transmission"),
+            ior: optional("KHR_materials_ior"),
+            emissive_strength: optional("KHR_materials_emissive_strength"),
+            volume: optional("KHR_materials_volume"),
+            specular: optional("KHR_materials_specular"),
+            others: others("KHR_materials_pbrSpecularGlossiness", "KHR_materials_unlit", "KHR_materials_transmission", "KHR_materials_ior", "KHR_materials_emissive_strength", "KHR_materials_volume", "KHR_materials_specular"),
         })
     }
 }

@@ -1,13 +1,17 @@
 //! The extensions that are known at the use of a texture.
+ghost use Rattle.std.specs.Prelude.{IfOk};
+ghost use Rattle.gltf_json_record.specs.Copy.{IsCopy};
+
+use gltf_json_record::copy::{Copies, map_copy, option_copy};
 use gltf_json_record::error::Error;
 use gltf_json_record::extras::Extras;
-use gltf_json_record::others::others;
-use gltf_json_record::read::{FromValue, object, optional};
+use gltf_json_record::read::FromValue;
+use gltf_json_record::{read_record, record};
 use serde_json::{Map, Value};
 use std::alloc::{AllocError, Global};
 
 /// How texture coordinates are moved, turned and scaled (the extension `KHR_texture_transform`).
-#[derive(Clone, Debug, Drop)]
+#[derive(Debug, Drop)]
 pub struct TextureTransform {
     /// The offset of the origin, as it stands: `offset`.
     pub offset: Option<Value>,
@@ -23,9 +27,27 @@ pub struct TextureTransform {
 }
 
 impl TextureTransform {
-    /// A copy of the record.
-    pub fn clone(&self, _alloc: Global) -> Result<TextureTransform, AllocError> {
-        Clone::clone(self)
+    ghost use Rattle.gltf_json_material.specs.Textures.{texture_transform};
+
+    /// A copy of the record, which shows what this one shows.
+    #[tactic(auto, unfolding(crate::specs::Textures::texture_transform))]
+    pub fn clone(&self, alloc: Global) -> Result<TextureTransform, AllocError>
+        ensures { IfOk result (IsCopy texture_transform self.now) }
+    {
+        record!(TextureTransform {
+            tex_coord: self.tex_coord,
+        } and {
+            offset: option_copy(alloc, &self.offset),
+            rotation: option_copy(alloc, &self.rotation),
+            scale: option_copy(alloc, &self.scale),
+            extras: option_copy(alloc, &self.extras),
+        })
+    }
+}
+
+impl Copies for TextureTransform {
+    fn copy(&self, alloc: Global) -> Result<TextureTransform, AllocError> {
+        self.clone(alloc)
     }
 }
 
@@ -36,19 +58,18 @@ impl FromValue for TextureTransform {
 
     #[tactic(auto, unfolding(crate::specs::Textures::texture_transform))]
     fn from_value(alloc: Global, value: &Value) -> Result<TextureTransform, Error> {
-        object(alloc, value)?;
-        Ok(TextureTransform {
-            offset: optional(alloc, value, "offset")?,
-            rotation: optional(alloc, value, "rotation")?,
-            scale: optional(alloc, value, "scale")?,
-            tex_coord: optional(alloc, value, "texCoord")?,
-            extras: optional(alloc, value, "extras")?,
+        read_record!(alloc, value; TextureTransform {
+            offset: optional("offset"),
+            rotation: optional("rotation"),
+            scale: optional("scale"),
+            tex_coord: optional("texCoord"),
+            extras: optional("extras"),
         })
     }
 }
 
 /// The extensions at the use of a texture.
-#[derive(Clone, Debug, Drop)]
+#[derive(Debug, Drop)]
 pub struct Info {
     /// How the texture coordinates are moved, turned and scaled: `KHR_texture_transform`.
     pub texture_transform: Option<TextureTransform>,
@@ -57,9 +78,23 @@ pub struct Info {
 }
 
 impl Info {
-    /// A copy of the record.
-    pub fn clone(&self, _alloc: Global) -> Result<Info, AllocError> {
-        Clone::clone(self)
+    ghost use Rattle.gltf_json_material.specs.Textures.{texture_info_extensions};
+
+    /// A copy of the record, which shows what this one shows.
+    #[tactic(auto, unfolding(crate::specs::Textures::texture_info_extensions))]
+    pub fn clone(&self, alloc: Global) -> Result<Info, AllocError>
+        ensures { IfOk result (IsCopy texture_info_extensions self.now) }
+    {
+        record!(Info {
+            texture_transform: option_copy(alloc, &self.texture_transform),
+            others: map_copy(&self.others),
+        })
+    }
+}
+
+impl Copies for Info {
+    fn copy(&self, alloc: Global) -> Result<Info, AllocError> {
+        self.clone(alloc)
     }
 }
 
@@ -70,10 +105,9 @@ impl FromValue for Info {
 
     #[tactic(auto, unfolding(crate::specs::Textures::texture_info_extensions))]
     fn from_value(alloc: Global, value: &Value) -> Result<Info, Error> {
-        object(alloc, value)?;
-        Ok(Info {
-            texture_transform: optional(alloc, value, "KHR_texture_transform")?,
-            others: others(value, &["KHR_texture_transform"])?,
+        read_record!(alloc, value; Info {
+            texture_transform: optional("KHR_texture_transform"),
+            others: others("KHR_texture_transform"),
         })
     }
 }

@@ -2,25 +2,39 @@
 pub mod khr_lights_punctual;
 pub mod khr_materials_variants;
 
+ghost use Rattle.std.specs.Prelude.{IfOk};
+ghost use Rattle.gltf_json_record.specs.Copy.{IsCopy};
+
+use gltf_json_record::copy::{Copies, map_copy, option_copy};
 use gltf_json_record::error::Error;
 use gltf_json_record::index::Index;
-use gltf_json_record::kinds;
-use gltf_json_record::others::others;
-use gltf_json_record::read::{FromValue, object, optional, required};
+use gltf_json_record::read::FromValue;
+use gltf_json_record::{kinds, read_record, record};
 use serde_json::{Map, Value};
 use std::alloc::{AllocError, Global};
 
 /// The light at a node (`KHR_lights_punctual`, "Adding Light Instances to Nodes").
-#[derive(Clone, Debug, Drop)]
+#[derive(Debug, Drop)]
 pub struct KhrLightsPunctual {
     /// The light: `light`.
     pub light: Index<kinds::Light>,
 }
 
 impl KhrLightsPunctual {
-    /// A copy of the record.
-    pub fn clone(&self, _alloc: Global) -> Result<KhrLightsPunctual, AllocError> {
-        Clone::clone(self)
+    ghost use Rattle.gltf_json_scene.specs.Lights.{node_light};
+
+    /// A copy of the record, which shows what this one shows.
+    #[tactic(auto, unfolding(crate::specs::Lights::node_light))]
+    pub fn clone(&self, _alloc: Global) -> Result<KhrLightsPunctual, AllocError>
+        ensures { IfOk result (IsCopy node_light self.now) }
+    {
+        Ok(KhrLightsPunctual { light: self.light })
+    }
+}
+
+impl Copies for KhrLightsPunctual {
+    fn copy(&self, alloc: Global) -> Result<KhrLightsPunctual, AllocError> {
+        self.clone(alloc)
     }
 }
 
@@ -31,15 +45,14 @@ impl FromValue for KhrLightsPunctual {
 
     #[tactic(auto, unfolding(crate::specs::Lights::node_light))]
     fn from_value(alloc: Global, value: &Value) -> Result<KhrLightsPunctual, Error> {
-        object(alloc, value)?;
-        Ok(KhrLightsPunctual {
-            light: required(alloc, value, "light")?,
+        read_record!(alloc, value; KhrLightsPunctual {
+            light: required("light"),
         })
     }
 }
 
 /// The member `extensions` of a node (glTF 2.0, section 5.25.11, `node.extensions`).
-#[derive(Clone, Debug, Drop)]
+#[derive(Debug, Drop)]
 pub struct Node {
     /// The light at the node: `KHR_lights_punctual`.
     pub khr_lights_punctual: Option<KhrLightsPunctual>,
@@ -48,9 +61,23 @@ pub struct Node {
 }
 
 impl Node {
-    /// A copy of the record.
-    pub fn clone(&self, _alloc: Global) -> Result<Node, AllocError> {
-        Clone::clone(self)
+    ghost use Rattle.gltf_json_scene.specs.Scenes.{node_extensions};
+
+    /// A copy of the record, which shows what this one shows.
+    #[tactic(auto, unfolding(crate::specs::Scenes::node_extensions))]
+    pub fn clone(&self, alloc: Global) -> Result<Node, AllocError>
+        ensures { IfOk result (IsCopy node_extensions self.now) }
+    {
+        record!(Node {
+            khr_lights_punctual: option_copy(alloc, &self.khr_lights_punctual),
+            others: map_copy(&self.others),
+        })
+    }
+}
+
+impl Copies for Node {
+    fn copy(&self, alloc: Global) -> Result<Node, AllocError> {
+        self.clone(alloc)
     }
 }
 
@@ -61,10 +88,9 @@ impl FromValue for Node {
 
     #[tactic(auto, unfolding(crate::specs::Scenes::node_extensions))]
     fn from_value(alloc: Global, value: &Value) -> Result<Node, Error> {
-        object(alloc, value)?;
-        Ok(Node {
-            khr_lights_punctual: optional(alloc, value, "KHR_lights_punctual")?,
-            others: others(value, &["KHR_lights_punctual"])?,
+        read_record!(alloc, value; Node {
+            khr_lights_punctual: optional("KHR_lights_punctual"),
+            others: others("KHR_lights_punctual"),
         })
     }
 }

@@ -1,8 +1,13 @@
 //! The lights of a document (`KHR_lights_punctual`).
+ghost use Rattle.std.specs.Prelude.{IfOk};
+ghost use Rattle.gltf_json_record.specs.Copy.{IsCopy};
+
+use gltf_json_record::copy::{Copies, option_copy};
 use gltf_json_record::error::Error;
 use gltf_json_record::extras::Extras;
-use gltf_json_record::read::{FromValue, object, optional, required};
+use gltf_json_record::read::FromValue;
 use gltf_json_record::validation::{Checked, Code};
+use gltf_json_record::{read_record, record};
 use serde_json::Value;
 use std::alloc::{AllocError, Global};
 
@@ -34,7 +39,7 @@ impl Code for Type {
 
 /// The cone of a spot light (`KHR_lights_punctual`, "Spot"). Its numbers are kept as they stand, of any
 /// kind.
-#[derive(Clone, Debug, Drop)]
+#[derive(Debug, Drop)]
 pub struct Spot {
     /// The angle, in radians from the cone's axis, at which the light begins to fade: `innerConeAngle`.
     pub inner_cone_angle: Option<Value>,
@@ -43,9 +48,23 @@ pub struct Spot {
 }
 
 impl Spot {
-    /// A copy of the record.
-    pub fn clone(&self, _alloc: Global) -> Result<Spot, AllocError> {
-        Clone::clone(self)
+    ghost use Rattle.gltf_json_scene.specs.Lights.{spot};
+
+    /// A copy of the record, which shows what this one shows.
+    #[tactic(auto, unfolding(crate::specs::Lights::spot))]
+    pub fn clone(&self, alloc: Global) -> Result<Spot, AllocError>
+        ensures { IfOk result (IsCopy spot self.now) }
+    {
+        record!(Spot {
+            inner_cone_angle: option_copy(alloc, &self.inner_cone_angle),
+            outer_cone_angle: option_copy(alloc, &self.outer_cone_angle),
+        })
+    }
+}
+
+impl Copies for Spot {
+    fn copy(&self, alloc: Global) -> Result<Spot, AllocError> {
+        self.clone(alloc)
     }
 }
 
@@ -56,17 +75,16 @@ impl FromValue for Spot {
 
     #[tactic(auto, unfolding(crate::specs::Lights::spot))]
     fn from_value(alloc: Global, value: &Value) -> Result<Spot, Error> {
-        object(alloc, value)?;
-        Ok(Spot {
-            inner_cone_angle: optional(alloc, value, "innerConeAngle")?,
-            outer_cone_angle: optional(alloc, value, "outerConeAngle")?,
+        read_record!(alloc, value; Spot {
+            inner_cone_angle: optional("innerConeAngle"),
+            outer_cone_angle: optional("outerConeAngle"),
         })
     }
 }
 
 /// A light (`KHR_lights_punctual`, "Light Shared Properties"). Its numbers are kept as they stand, of any
 /// kind.
-#[derive(Clone, Debug, Drop)]
+#[derive(Debug, Drop)]
 pub struct Light {
     /// The colour, as linear red, green and blue: `color`.
     pub color: Option<Value>,
@@ -85,9 +103,29 @@ pub struct Light {
 }
 
 impl Light {
-    /// A copy of the record.
-    pub fn clone(&self, _alloc: Global) -> Result<Light, AllocError> {
-        Clone::clone(self)
+    ghost use Rattle.gltf_json_scene.specs.Lights.{light};
+
+    /// A copy of the record, which shows what this one shows.
+    #[tactic(auto, unfolding(crate::specs::Lights::light))]
+    pub fn clone(&self, alloc: Global) -> Result<Light, AllocError>
+        ensures { IfOk result (IsCopy light self.now) }
+    {
+        record!(Light {
+            type_: self.type_,
+        } and {
+            color: option_copy(alloc, &self.color),
+            intensity: option_copy(alloc, &self.intensity),
+            range: option_copy(alloc, &self.range),
+            spot: option_copy(alloc, &self.spot),
+            name: option_copy(alloc, &self.name),
+            extras: option_copy(alloc, &self.extras),
+        })
+    }
+}
+
+impl Copies for Light {
+    fn copy(&self, alloc: Global) -> Result<Light, AllocError> {
+        self.clone(alloc)
     }
 }
 
@@ -98,15 +136,14 @@ impl FromValue for Light {
 
     #[tactic(auto, unfolding(crate::specs::Lights::light))]
     fn from_value(alloc: Global, value: &Value) -> Result<Light, Error> {
-        object(alloc, value)?;
-        Ok(Light {
-            color: optional(alloc, value, "color")?,
-            intensity: optional(alloc, value, "intensity")?,
-            range: optional(alloc, value, "range")?,
-            type_: required(alloc, value, "type")?,
-            spot: optional(alloc, value, "spot")?,
-            name: optional(alloc, value, "name")?,
-            extras: optional(alloc, value, "extras")?,
+        read_record!(alloc, value; Light {
+            color: optional("color"),
+            intensity: optional("intensity"),
+            range: optional("range"),
+            type_: required("type"),
+            spot: optional("spot"),
+            name: optional("name"),
+            extras: optional("extras"),
         })
     }
 }

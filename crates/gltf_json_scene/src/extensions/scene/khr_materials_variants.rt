@@ -1,20 +1,38 @@
 //! The variants of a document's materials (`KHR_materials_variants`).
+ghost use Rattle.std.specs.Prelude.{IfOk};
+ghost use Rattle.gltf_json_record.specs.Copy.{IsCopy};
+
+use gltf_json_record::copy::Copies;
 use gltf_json_record::error::Error;
-use gltf_json_record::read::{FromValue, object, required};
+use gltf_json_record::read::FromValue;
+use gltf_json_record::{read_record, record};
 use serde_json::Value;
 use std::alloc::{AllocError, Global};
 
 /// A variant, which primitives map to materials (`KHR_materials_variants`).
-#[derive(Clone, Debug, Drop)]
+#[derive(Debug, Drop)]
 pub struct Variant {
     /// The name of the variant: `name`.
     pub name: String,
 }
 
 impl Variant {
-    /// A copy of the record.
-    pub fn clone(&self, _alloc: Global) -> Result<Variant, AllocError> {
-        Clone::clone(self)
+    ghost use Rattle.gltf_json_scene.specs.Variants.{variant};
+
+    /// A copy of the record, which shows what this one shows.
+    #[tactic(auto, unfolding(crate::specs::Variants::variant))]
+    pub fn clone(&self, alloc: Global) -> Result<Variant, AllocError>
+        ensures { IfOk result (IsCopy variant self.now) }
+    {
+        record!(Variant {
+            name: self.name.copy(alloc),
+        })
+    }
+}
+
+impl Copies for Variant {
+    fn copy(&self, alloc: Global) -> Result<Variant, AllocError> {
+        self.clone(alloc)
     }
 }
 
@@ -25,9 +43,8 @@ impl FromValue for Variant {
 
     #[tactic(auto, unfolding(crate::specs::Variants::variant))]
     fn from_value(alloc: Global, value: &Value) -> Result<Variant, Error> {
-        object(alloc, value)?;
-        Ok(Variant {
-            name: required(alloc, value, "name")?,
+        read_record!(alloc, value; Variant {
+            name: required("name"),
         })
     }
 }
