@@ -8,3 +8,4 @@ pub mod Seen
 pub mod Unique
 pub mod TheLaws
 pub mod Again
+pub mod Texts

@@ -1,5 +1,7 @@
--- Which bytes are a container, and of which parts; and which fault the others have (glTF 2.0, section 4.4).
-use Rattle.std.specs.Prelude.{ℕ, ◌≡◌, ◌+◌, ◌<◌, ◌^◌, ◌⊎◌, List, [], ◌++◌, length, take, drop, Option, Some, None, Result, Ok, Err}
+-- Which bytes are a container, and of which parts; and which fault the others have (glTF 2.0,
+-- section 4.4).
+use Rattle.std.specs.Prelude.{ℕ, ◌≡◌, ◌+◌, ◌<◌, ◌^◌, ◌⊎◌, List, [], ◌++◌, length, take, drop}
+use Rattle.std.specs.Prelude.{Option, Some, None, Result, Ok, Err}
 use Rattle.std.specs.List.{flat_map, AllByRecursion}
 use Rattle.gltf_glb.specs.Bytes.{json_tag, bin_tag, word_at, headed, chunk}
 use Rattle.gltf_glb.specs.Faults.{Fault, type_of, header_fault, json_fault, later_fault}
@@ -17,10 +19,12 @@ pub record IsOther (other : Other) : Type 0 where
 abbrev pub spelled : Other → List ℕ
 spelled other = chunk other.tag other.contents
 
--- how the chunks behind the JSON chunk end: with nothing, with a BIN chunk and any rest, or with a fault
+-- how the chunks behind the JSON chunk end: with nothing, with a BIN chunk and any rest, or with a
+-- fault
 abbrev pub Ends : List ℕ → Result (Option (List ℕ)) Fault → Type 0
 Ends tail (Ok None) = tail ≡ []
-Ends tail (Ok (Some bin)) = (length bin < 2 ^ 32) × (rest : List ℕ) × (tail ≡ chunk bin_tag bin ++ rest)
+Ends tail (Ok (Some bin)) =
+    (length bin < 2 ^ 32) × (rest : List ℕ) × (tail ≡ chunk bin_tag bin ++ rest)
 Ends tail (Err fault) = later_fault tail ≡ Some fault
 
 -- behind the JSON chunk: whole chunks of other types, and then such an end

@@ -1,5 +1,7 @@
--- What is wrong with bytes that are no container. Each table is read from the top, and the first row that fits decides.
-use Rattle.std.specs.Prelude.{ℕ, ◌-◌, List, [], ◌∷◌, length, Bool, true, false, nat_lt, ◌==◌, ◌&&◌, ◌||◌, not, Option, Some, None, is_none, if◌then◌else◌}
+-- What is wrong with bytes that are no container. Each table is read from the top, and the first
+-- row that fits decides.
+use Rattle.std.specs.Prelude.{ℕ, ◌-◌, List, [], ◌∷◌, length, Bool, true, false, nat_lt, ◌==◌, ◌&&◌}
+use Rattle.std.specs.Prelude.{◌||◌, not, Option, Some, None, is_none, if◌then◌else◌}
 use Rattle.std.specs.Str.{bytes_eq}
 use Rattle.gltf_glb.specs.declared.binary.ChunkType.{ChunkType}
 use Rattle.gltf_glb.specs.declared.binary.ChunkType.TheVariants.{Json, Bin}
@@ -16,7 +18,8 @@ pub data Fault : Type 0 where
 
 -- the type that four bytes name
 abbrev pub type_of : List ℕ → Option ChunkType
-type_of tag = if bytes_eq tag json_tag then Some Json else if bytes_eq tag bin_tag then Some Bin else None
+type_of tag =
+    if bytes_eq tag json_tag then Some Json else if bytes_eq tag bin_tag then Some Bin else None
 
 abbrev pub is_json : Option ChunkType → Bool
 is_json None = false
@@ -45,7 +48,8 @@ header_fault bytes =
     ∷ (not (word_at 4 bytes == 2), Some (WrongVersion (word_at 4 bytes)))
     ∷ [])
 
--- in the first chunk, where the body is what stands between the header and the declared end (section 4.4.3)
+-- in the first chunk, where the body is what stands between the header and the declared end
+-- (section 4.4.3)
 unfoldable pub json_fault : List ℕ → Option Fault
 json_fault body =
     let tag = tag_at 4 body in

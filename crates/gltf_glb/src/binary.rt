@@ -10,8 +10,8 @@ use std::{fmt, io};
 /// Why bytes are no GLB container.
 #[derive(Debug, Drop)]
 pub enum Error {
-    /// The bytes end in a header, in front of a chunk or within the first eight bytes of one. From a
-    /// reader: it failed, or ended too early.
+    /// The bytes end in a header, in front of a chunk or within the first eight bytes of one. From
+    /// a reader: it failed, or ended too early.
     Io(io::Error),
     /// The header's version is this one, and not 2.
     Version(u32),
@@ -35,8 +35,8 @@ pub enum Error {
     },
     /// A chunk of this type stands where it may not: BIN in front, or a second JSON.
     ChunkType(ChunkType),
-    /// The first chunk has these four bytes for its type, or a later chunk has them and is longer than
-    /// the bytes that are left.
+    /// The first chunk has these four bytes for its type, or a later chunk has them and is longer
+    /// than the bytes that are left.
     UnknownChunkType([u8; 4]),
 }
 

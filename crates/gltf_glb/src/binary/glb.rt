@@ -1,7 +1,8 @@
 //! The two parts of a GLB container.
 ghost use Rattle.std.specs.Prelude.{◌≡◌, IfOk, IfErr, IfSome, OnErr, option_copied, option_map};
 ghost use Rattle.std.specs.Cow.{cow_slice_items, IsBorrowedSlice};
-ghost use Rattle.gltf_glb.specs.Glb.{items_of, IsReadFrom, Refuses, IsCopy, IsWritten, RefusesToWrite};
+ghost use Rattle.gltf_glb.specs.Glb.{items_of, IsReadFrom, Refuses, IsCopy, IsWritten};
+ghost use Rattle.gltf_glb.specs.Glb.{RefusesToWrite};
 
 use crate::binary::{Header, reading, writing};
 use crate::error::{Error, Result};
@@ -9,7 +10,8 @@ use std::alloc::{AllocError, Global};
 use std::borrow::CowSlice;
 use std::io;
 
-/// The parts of a GLB container (glTF 2.0, section 4.4): JSON, and a binary buffer where there is one.
+/// The parts of a GLB container (glTF 2.0, section 4.4): JSON, and a binary buffer where there is
+/// one.
 #[derive(Debug, Drop)]
 pub struct Glb<'a> {
     /// The header as read. It is not looked at when the parts are written.
@@ -23,9 +25,9 @@ pub struct Glb<'a> {
 impl<'a> Glb<'a> {
     /// The parts of the container that the bytes are, both lent. Takes no memory.
     ///
-    /// The chunks stand between the header and the length that it declares; what follows is not looked
-    /// at. The first chunk is JSON. Whole chunks of unknown type behind it are skipped; behind a BIN
-    /// chunk anything may stand.
+    /// The chunks stand between the header and the length that it declares; what follows is not
+    /// looked at. The first chunk is JSON. Whole chunks of unknown type behind it are skipped;
+    /// behind a BIN chunk anything may stand.
     ///
     /// Otherwise the answer is [`Error::Binary`] with the one fault that the bytes have.
     pub fn from_slice(bytes: &'a [u8]) -> Result<Glb<'a>>
@@ -44,14 +46,16 @@ impl<'a> Glb<'a> {
     /// The bytes of a container of these parts: JSON is filled up with spaces and the binary buffer
     /// with zeros, each to a multiple of four bytes. The header is written anew.
     ///
-    /// Answers [`Error::Io`] where the whole would be longer than 4294967295 bytes, before any memory
-    /// is taken, else [`Error::Memory`] where there is not enough.
+    /// Answers [`Error::Io`] where the whole would be longer than 4294967295 bytes, before any
+    /// memory is taken, else [`Error::Memory`] where there is not enough.
     pub fn to_vec(&self, alloc: Global) -> Result<Vec<u8>>
-        ensures written { IfOk result (IsWritten (cow_slice_items self.now.json) (items_of self.now.bin)) }
-        ensures refused { IfErr result (RefusesToWrite (cow_slice_items self.now.json) (items_of self.now.bin)) }
+        ensures written { IfOk result
+            (IsWritten (cow_slice_items self.now.json) (items_of self.now.bin)) }
+        ensures refused { IfErr result
+            (RefusesToWrite (cow_slice_items self.now.json) (items_of self.now.bin)) }
     {
         let json = self.json.as_slice();
-        let bin = items(&self.bin);
+        let bin = self.bin.as_deref();
         let Some(total) = writing::total_of(json, bin) else {
             return Err(Error::Io(io::Error::new(
                 io::ErrorKind::InvalidInput,
@@ -87,19 +91,7 @@ fn lent(part: Option<&[u8]>) -> Option<CowSlice<'_, u8>>
     ensures items { items_of result ≡ option_copied part.entry }
     ensures lent { IfSome result IsBorrowedSlice }
 {
-    match part {
-        Some(part) => Some(CowSlice::Borrowed(part)),
-        None => None,
-    }
-}
-
-fn items<'p>(part: &'p Option<CowSlice<'_, u8>>) -> Option<&'p [u8]>
-    ensures { option_copied result ≡ items_of part.now }
-{
-    match part {
-        Some(part) => Some(part.as_slice()),
-        None => None,
-    }
+    part.map(|part| CowSlice::Borrowed(part))
 }
 
 fn copy_of<'a>(alloc: Global, part: &CowSlice<'a, u8>) -> Result<CowSlice<'a, u8>, AllocError>

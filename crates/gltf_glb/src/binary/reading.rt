@@ -1,5 +1,6 @@
 //! A container out of bytes: the header, the JSON chunk, and what stands behind it.
-ghost use Rattle.std.specs.Prelude.{◌≡◌, ◌≤◌, ◌+◌, length, None, Some, Ok, Err, MatchResult, option_copied, Result};
+ghost use Rattle.std.specs.Prelude.{◌≡◌, ◌≤◌, ◌+◌, length, None, Some, Ok, Err, MatchResult};
+ghost use Rattle.std.specs.Prelude.{option_copied, Result};
 ghost use Rattle.gltf_glb.specs.Bytes.{word_at, tag_at};
 ghost use Rattle.gltf_glb.specs.Faults.{Short, type_of, later_fault, json_fault, header_fault};
 ghost use Rattle.gltf_glb.specs.Container.{Later, IsBody, HasBodyFault};

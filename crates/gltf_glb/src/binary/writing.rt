@@ -1,5 +1,6 @@
 //! The bytes of a container out of its parts.
-ghost use Rattle.std.specs.Prelude.{◌≡◌, ◌<◌, ◌^◌, ◌-◌, ◌%◌, ◌++◌, length, OnOk, SomeIff, option_copied};
+ghost use Rattle.std.specs.Prelude.{◌≡◌, ◌<◌, ◌^◌, ◌-◌, ◌%◌, ◌++◌, length, OnOk, SomeIff};
+ghost use Rattle.std.specs.Prelude.{option_copied};
 ghost use Rattle.gltf_glb.specs.Bytes.{magic, word, chunk, padded};
 ghost use Rattle.gltf_glb.specs.Written.{total_of};
 
@@ -16,7 +17,8 @@ fn padding_of(contents: &[u8]) -> usize
 /// The length of the whole container in bytes, where its header can say it.
 #[tactic(auto, using(crate::proofs::Lengths::total_none, crate::proofs::Lengths::total_some))]
 pub(crate) fn total_of(json: &[u8], bin: Option<&[u8]>) -> Option<u32>
-    ensures { let total = total_of json.now (option_copied bin.entry) in SomeIff result (total < 2 ^ 32) total }
+    ensures { let total = total_of json.now (option_copied bin.entry) in SomeIff result
+        (total < 2 ^ 32) total }
 {
     let mut total = 20 + json.len() as u128 + padding_of(json) as u128;
     if let Some(bin) = bin {
@@ -54,7 +56,8 @@ pub(crate) fn put_chunk(
     filler: u8,
 ) -> Result<(), AllocError>
     requires { length (padded filler contents.now) < 2 ^ 32 }
-    ensures { OnOk result (out.new.items ≡ out.old.items ++ chunk tag (padded filler contents.now)) }
+    ensures { OnOk result
+        (out.new.items ≡ out.old.items ++ chunk tag (padded filler contents.now)) }
 {
     let padding = padding_of(contents);
     let length = word_of((contents.len() + padding) as u32);
