@@ -37,4 +37,7 @@ join-split (Relative text) = refl
 
 -- a list of names can stand in a ghost field
 abbrev pub coded_names : Coded (List Named)
-coded_names = coded_list (code_by (List ℕ ⊎ List ℕ) (coded⊎ (coded_list coded_ℕ) (coded_list coded_ℕ)) split join join-split)
+coded_names =
+    coded_list
+    (code_by (List ℕ ⊎ List ℕ)
+    (coded⊎ (coded_list coded_ℕ) (coded_list coded_ℕ)) split join join-split)

@@ -1,9 +1,13 @@
 -- What contracts see of the two sources.
-use Rattle.std.specs.Prelude.{ℕ, List, Option, Some, None, option_map, ◌==◌, ◌-◌, if◌then◌else◌}
-use Rattle.std.specs.BTreeMap.{get_by_text}
+use Rattle.std.specs.Prelude.{◌≡◌, ℕ, List, Option, Some, None, option_map, ◌==◌, ◌-◌}
+use Rattle.std.specs.Prelude.{if◌then◌else◌}
+use Rattle.std.specs.BTreeMap.{BTreeMap, get_by_text}
+use Rattle.std.specs.declared.alloc.Global.{Global}
+use Rattle.std.specs.declared.string.String.{String}
+use Rattle.std.specs.declared.vec.Vec.{Vec}
 use Rattle.gltf_names.specs.declared.shelf.Shelf.{Shelf}
 use Rattle.gltf_names.specs.declared.folder.Folder.{Folder}
-use Rattle.gltf_names.specs.Named.{Named, File, Relative}
+use Rattle.gltf_names.specs.Named.{Named, File, Relative, is_same}
 
 -- the text that a folder puts before relative references
 abbrev pub folder_base : {R F D : Type 0} → Folder R F D → List ℕ
@@ -16,19 +20,32 @@ folder_failures folder = folder.failures.names
 abbrev pub shelf_failures : Shelf → List Named
 shelf_failures shelf = shelf.failures.names
 
+-- the bytes that a map has at a text
+abbrev pub bytes_at : BTreeMap (String Global) (Vec ℕ Global) → List ℕ → Option (List ℕ)
+bytes_at map text = option_map (λ bytes. bytes.items) (get_by_text map text)
+
 -- the bytes that a shelf holds by a name
 abbrev pub shelf_holds : Shelf → Named → Option (List ℕ)
-shelf_holds shelf (File text) = option_map (λ bytes. bytes.items) (get_by_text shelf.files text)
-shelf_holds shelf (Relative text) = option_map (λ bytes. bytes.items) (get_by_text shelf.relatives text)
+shelf_holds shelf (File text) = bytes_at shelf.files text
+shelf_holds shelf (Relative text) = bytes_at shelf.relatives text
+
+abbrev pub HoldsTheSame : Shelf → Shelf → Type 0
+HoldsTheSame old new = (name : Named) → shelf_holds new name ≡ shelf_holds old name
+
+-- the name has these bytes, and each other one those that it had
+abbrev pub PutsBytes : Shelf → Shelf → Named → List ℕ → Type 0
+PutsBytes old new name bytes =
+    (other : Named) → shelf_holds new other
+    ≡ (if is_same name other then Some bytes else shelf_holds old other)
 
 -- how many reads come before the one that is to fail, where one is
 abbrev pub shelf_due : Shelf → Option ℕ
 shelf_due shelf = shelf.due
 
--- the held bytes, or none at the read that is to fail
+-- these bytes, or none at the read that is to fail
 abbrev pub unless_due : Option ℕ → Option (List ℕ) → Option (List ℕ)
-unless_due None held = held
-unless_due (Some reads) held = if reads == 0 then None else held
+unless_due None bytes = bytes
+unless_due (Some reads) bytes = if reads == 0 then None else bytes
 
 -- the same one read later
 abbrev pub due_after : Option ℕ → Option ℕ

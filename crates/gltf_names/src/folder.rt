@@ -78,7 +78,8 @@ fn path_of(alloc: Global, base: &str, name: &Name<'_>) -> Result<String, AllocEr
 
 /// All that a reader still gives.
 fn all_of<R: Read>(alloc: Global, reader: &mut R) -> Result<Vec<u8>, NamedFault>
-    ensures { IfOk result (λ bytes. IfSome (R.remaining reader.old) (λ known. bytes.items ≡ known)) }
+    ensures { IfOk result
+        (λ bytes. IfSome (R.remaining reader.old) (λ known. bytes.items ≡ known)) }
 {
     let mut bytes = Vec::new(alloc);
     match reader.read_to_end(&mut bytes) {

@@ -36,23 +36,24 @@ impl From<AllocError> for NamedFault {
 
 /// A source of named bytes.
 ///
-/// Contracts see two things of it that have no bytes at run time: the names whose reads failed, and,
-/// where the source is honest, the bytes that each name holds.
+/// Contracts see two things of it that have no bytes at run time: the names whose reads failed,
+/// and, where the source is honest, the bytes that each name holds.
 pub trait NamedBytes {
-    /// The names whose reads failed, the last of them first: the length of this list is the count of
-    /// failures, and its head the last failed name.
+    /// The names whose reads failed, the last of them first: the length of this list is the count
+    /// of failures, and its head the last failed name.
     ghost failures: { Self → List Named };
 
     /// The bytes of each name, where the source is honest: `None` says nothing of them.
-    ghost held: { Self → Option (Named → Option (List ℕ)) } = { λ _. None };
+    ghost bytes_by_name: { Self → Option (Named → Option (List ℕ)) } = { λ _. None };
 
     /// The bytes of the name.
     ///
-    /// Answers [`NamedFault::Io`] exactly where the count of failures rises by one and the last failed
-    /// name is the one that was asked for, else both stand still. An honest source gives the bytes
-    /// that the name holds, and a read leaves what is held as it is.
+    /// Answers [`NamedFault::Io`] exactly where the count of failures rises by one and the last
+    /// failed name is the one that was asked for, else both stand still. An honest source gives the
+    /// bytes that the name holds, and a read leaves what is held as it is.
     fn read(&mut self, alloc: Global, name: Name<'_>) -> Result<Vec<u8>, NamedFault>
-        ensures failure { NotesFailure result (named name.entry) (failures self.old) (failures self.new) }
-        ensures honest { GivesHeld result (named name.entry) (held self.old) }
-        ensures kept { held self.new ≡ held self.old };
+        ensures failure { NotesFailure result (named name.entry)
+            (failures self.old) (failures self.new) }
+        ensures honest { GivesHeld result (named name.entry) (bytes_by_name self.old) }
+        ensures kept { bytes_by_name self.new ≡ bytes_by_name self.old };
 }

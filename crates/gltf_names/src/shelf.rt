@@ -1,10 +1,12 @@
 //! Named bytes in memory.
-ghost use Rattle.std.specs.Prelude.{◌≡◌, [], List, ℕ, Option, Some, None, Err, OnOk, OnErr, option_map, if◌then◌else◌};
+ghost use Rattle.std.specs.Prelude.{◌≡◌, [], List, ℕ, Option, Some, None, Err, OnOk, OnErr};
+ghost use Rattle.std.specs.Prelude.{option_map, if◌then◌else◌};
 ghost use Rattle.std.specs.BTreeMap.{get_by_text};
 ghost use Rattle.std.specs.Str.{bytes_eq};
-ghost use Rattle.gltf_names.specs.Named.{Named, named, is_same};
+ghost use Rattle.gltf_names.specs.Named.{Named, named};
 ghost use Rattle.gltf_names.specs.Answers.{NotesFailure, GivesHeld, GivesExactly};
-ghost use Rattle.gltf_names.specs.Sources.{shelf_failures, shelf_holds, shelf_due, unless_due, due_after};
+ghost use Rattle.gltf_names.specs.Sources.{bytes_at, shelf_failures, shelf_holds, shelf_due};
+ghost use Rattle.gltf_names.specs.Sources.{PutsBytes, HoldsTheSame, unless_due, due_after};
 
 use crate::failures::Failures;
 use crate::name::{Name, NamedBytes, NamedFault};
@@ -38,12 +40,11 @@ impl Shelf {
         }
     }
 
-    /// The name has these bytes from now on, in place of those that it had. Where there is not enough
-    /// memory, nothing changes.
+    /// The name has these bytes from now on, in place of those that it had. Where there is not
+    /// enough memory, nothing changes.
     pub fn put(&mut self, name: Name<'_>, bytes: &[u8]) -> Result<(), AllocError>
-        ensures put { OnOk result ((other : Named) → shelf_holds self.new other
-            ≡ (if is_same (named name.entry) other then Some bytes.now else shelf_holds self.old other)) }
-        ensures refused { OnErr result ((other : Named) → shelf_holds self.new other ≡ shelf_holds self.old other) }
+        ensures put { OnOk result (PutsBytes self.old self.new (named name.entry) bytes.now) }
+        ensures refused { OnErr result (HoldsTheSame self.old self.new) }
         ensures due { shelf_due self.new ≡ shelf_due self.old }
         ensures failures { shelf_failures self.new ≡ shelf_failures self.old }
     {
@@ -53,10 +54,10 @@ impl Shelf {
         }
     }
 
-    /// The read behind the next `k` ones fails, whatever it asks for. A later call takes the place of
-    /// an earlier one.
+    /// The read behind the next `k` ones fails, whatever it asks for. A later call takes the place
+    /// of an earlier one.
     pub fn fail_at(&mut self, k: usize)
-        ensures holds { (name : Named) → shelf_holds self.new name ≡ shelf_holds self.old name }
+        ensures holds { HoldsTheSame self.old self.new }
         ensures due { shelf_due self.new ≡ Some k }
         ensures failures { shelf_failures self.new ≡ shelf_failures self.old }
     {
@@ -64,7 +65,8 @@ impl Shelf {
     }
 
     fn find(&self, name: &Name<'_>) -> Option<&Vec<u8>>
-        ensures { option_map (λ bytes. bytes.now.items) result ≡ shelf_holds self.now (named name.now) }
+        ensures { option_map (λ bytes. bytes.now.items) result
+            ≡ shelf_holds self.now (named name.now) }
     {
         match name {
             Name::File(text) => self.files.get(*text),
@@ -78,7 +80,8 @@ impl Shelf {
         ensures files { self.new.files ≡ self.old.files }
         ensures relatives { self.new.relatives ≡ self.old.relatives }
         ensures failures { self.new.failures ≡ self.old.failures }
-        ensures when { (held : Option (List ℕ)) → (if result then None else held) ≡ unless_due (shelf_due self.old) held }
+        ensures when { (bytes : Option (List ℕ)) → (if result then None else bytes)
+            ≡ unless_due (shelf_due self.old) bytes }
     {
         match self.due {
             None => false,
@@ -94,7 +97,8 @@ impl Shelf {
     }
 
     fn fail(&mut self, name: &Name<'_>) -> NamedFault
-        ensures noted { NotesFailure (Err result) (named name.now) (shelf_failures self.old) (shelf_failures self.new) }
+        ensures noted { NotesFailure (Err result) (named name.now)
+            (shelf_failures self.old) (shelf_failures self.new) }
         ensures gives { GivesExactly None (Err result) }
         ensures files { self.new.files ≡ self.old.files }
         ensures relatives { self.new.relatives ≡ self.old.relatives }
@@ -111,9 +115,10 @@ fn put(
     text: &str,
     bytes: &[u8],
 ) -> Result<(), AllocError>
-    ensures put { OnOk result ((other : List ℕ) → option_map (λ b. b.items) (get_by_text held.new other)
-        ≡ (if bytes_eq text.now other then Some bytes.now else option_map (λ b. b.items) (get_by_text held.old other))) }
-    ensures refused { OnErr result ((other : List ℕ) → get_by_text held.new other ≡ get_by_text held.old other) }
+    ensures put { OnOk result ((other : List ℕ) → bytes_at held.new other
+        ≡ (if bytes_eq text.now other then Some bytes.now else bytes_at held.old other)) }
+    ensures refused { OnErr result ((other : List ℕ) →
+        get_by_text held.new other ≡ get_by_text held.old other) }
 {
     let text = String::from_str(alloc, text)?;
     let bytes = Vec::from_slice(alloc, bytes)?;
@@ -124,14 +129,16 @@ fn put(
 impl NamedBytes for Shelf {
     ghost failures = { shelf_failures };
 
-    ghost held = { λ shelf. Some (shelf_holds shelf) };
+    ghost bytes_by_name = { λ shelf. Some (shelf_holds shelf) };
 
     /// The bytes of the name, but for the read that [`Shelf::fail_at`] set.
     fn read(&mut self, alloc: Global, name: Name<'_>) -> Result<Vec<u8>, NamedFault>
-        ensures failure { NotesFailure result (named name.entry) (shelf_failures self.old) (shelf_failures self.new) }
+        ensures failure { NotesFailure result (named name.entry)
+            (shelf_failures self.old) (shelf_failures self.new) }
         ensures honest { GivesHeld result (named name.entry) (Some (shelf_holds self.old)) }
         ensures kept { Some (shelf_holds self.new) ≡ Some (shelf_holds self.old) }
-        ensures exact { GivesExactly (unless_due (shelf_due self.old) (shelf_holds self.old (named name.entry))) result }
+        ensures exact { GivesExactly
+            (unless_due (shelf_due self.old) (shelf_holds self.old (named name.entry))) result }
         ensures due { shelf_due self.new ≡ due_after (shelf_due self.old) }
     {
         if self.is_due() {

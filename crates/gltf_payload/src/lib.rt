@@ -3,8 +3,6 @@
 
 mod padding;
 mod payload;
-#[cfg(test)]
-mod tests;
 
 pub use padding::pad_to_four;
 pub use payload::decode;

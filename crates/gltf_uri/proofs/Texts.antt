@@ -9,4 +9,5 @@ pub relative_text : (bytes : List ℕ) → IsUtf8 bytes → relative bytes ≡ R
 relative_text bytes is = rw (is_utf8-from_IsUtf8 bytes is) refl
 
 pub no_text : (bytes : List ℕ) → (IsUtf8 bytes → ⊥) → relative bytes ≡ Unsupported
-no_text bytes isnt = rw (false_from_ne_true (is_utf8 bytes) (λ e. isnt (IsUtf8-from_is_utf8 bytes e))) refl
+no_text bytes isnt =
+    rw (false_from_ne_true (is_utf8 bytes) (λ e. isnt (IsUtf8-from_is_utf8 bytes e))) refl

@@ -13,8 +13,12 @@ IsNowhere n s = (before behind : List ℕ) → s ≢ before ++ n ++ behind
 
 -- `cut_at` cuts at the first place, wherever there is one
 abbrev pub CutsAtFirst : Type 0
-CutsAtFirst = (n s : List ℕ) → 0 < length n → MatchOption (cut_at n s) (IsNowhere n s) (λ parts. IsFirstCut n s parts.0 parts.1)
+CutsAtFirst =
+    (n s : List ℕ) → 0 < length n
+    → MatchOption (cut_at n s) (IsNowhere n s) (λ parts. IsFirstCut n s parts.0 parts.1)
 
 -- `stripped` gives what follows a prefix, wherever it is one
 abbrev pub StripsPrefix : Type 0
-StripsPrefix = (n s : List ℕ) → MatchOption (stripped n s) ((rest : List ℕ) → s ≢ n ++ rest) (λ rest. s ≡ n ++ rest)
+StripsPrefix =
+    (n s : List ℕ)
+    → MatchOption (stripped n s) ((rest : List ℕ) → s ≢ n ++ rest) (λ rest. s ≡ n ++ rest)

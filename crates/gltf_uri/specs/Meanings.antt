@@ -1,7 +1,8 @@
 -- What a value of the crate says.
 use Rattle.std.specs.Prelude.{⊤}
 use Rattle.std.specs.Cow.{cow_str_bytes, IsBorrowedStr}
-use Rattle.gltf_uri.specs.Uri.{Meaning, Payload, File as FileAt, Relative as RelativeTo, Unsupported as NotSupported}
+use Rattle.gltf_uri.specs.Uri.{Meaning, Payload, File as FileAt, Relative as RelativeTo}
+use Rattle.gltf_uri.specs.Uri.{Unsupported as NotSupported}
 use Rattle.gltf_uri.specs.declared.uri.Uri.{Uri}
 use Rattle.gltf_uri.specs.declared.uri.Uri.TheVariants.{Data, File, Relative, Unsupported}
 

@@ -1,10 +1,13 @@
--- Where a URI leads (glTF 2.0, section 2.8), told by the places at which `:` and `;base64,` stand in it.
-use Rattle.std.specs.Prelude.{ℕ, ◌≢◌, List, [], ◌∷◌, length, drop, All, nat_eq, Option, Some, None, option_map, unwrap_or, is_some, codes, if◌then◌else◌}
+-- Where a URI leads (glTF 2.0, section 2.8), told by the places at which `:` and `;base64,` stand
+-- in it.
+use Rattle.std.specs.Prelude.{ℕ, ◌≢◌, List, [], ◌∷◌, length, drop, All, nat_eq, Option, Some, None}
+use Rattle.std.specs.Prelude.{option_map, unwrap_or, is_some, codes, if◌then◌else◌}
 use Rattle.std.specs.List.{starts_with}
 use Rattle.std.specs.Str.{is_utf8}
 use Rattle.percent_encoding.specs.Percent.{percent_decode, percent_sign}
 
--- an embedded payload in base64, a file's path, a relative reference after percent-decoding, or none of these
+-- an embedded payload in base64, a file's path, a relative reference after percent-decoding, or
+-- none of these
 pub data Meaning : Type 0 where
   Payload : List ℕ → Meaning
   File : List ℕ → Meaning
@@ -14,7 +17,9 @@ pub data Meaning : Type 0 where
 -- what stands in s before the first n, and what stands behind that
 unfoldable pub cut_at : List ℕ → List ℕ → Option (List ℕ × List ℕ)
 cut_at n [] = None
-cut_at n (b ∷ s) = if starts_with nat_eq (b ∷ s) n then Some ([], drop (length n) (b ∷ s)) else option_map (λ p. (b ∷ p.0, p.1)) (cut_at n s)
+cut_at n (b ∷ s) =
+    if starts_with nat_eq (b ∷ s) n then Some ([], drop (length n) (b ∷ s))
+    else option_map (λ p. (b ∷ p.0, p.1)) (cut_at n s)
 
 -- what stands behind the first n, or all
 abbrev pub behind : List ℕ → List ℕ → List ℕ
@@ -28,7 +33,8 @@ before n s = unwrap_or (option_map (λ parts. parts.0) (cut_at n s)) s
 abbrev pub stripped : List ℕ → List ℕ → Option (List ℕ)
 stripped n s = if starts_with nat_eq s n then Some (drop (length n) s) else None
 
--- of the text behind `data:`: from the first mark up to the next one or the end; where there is no mark, all
+-- of the text behind `data:`: from the first mark up to the next one or the end; where there is no
+-- mark, all
 unfoldable pub payload_of : List ℕ → List ℕ
 payload_of text = before (codes ";base64,") (behind (codes ";base64,") text)
 

@@ -1,6 +1,8 @@
 //! Where a URI leads.
-ghost use Rattle.std.specs.Prelude.{◌≡◌, ◌<◌, length, IfOk, IsOk, IsOkAnd, IsTrue, Option, is_some, option_map, option_copied, codes};
-ghost use Rattle.gltf_uri.specs.Uri.{cut_at, behind, before, stripped, payload_of, absolute, relative, uri_of, HasNoPercentSign};
+ghost use Rattle.std.specs.Prelude.{◌≡◌, ◌<◌, length, IfOk, IsOk, IsOkAnd, IsTrue, Option, is_some};
+ghost use Rattle.std.specs.Prelude.{option_map, option_copied, codes};
+ghost use Rattle.gltf_uri.specs.Uri.{cut_at, behind, before, stripped, payload_of, absolute};
+ghost use Rattle.gltf_uri.specs.Uri.{relative, uri_of, HasNoPercentSign};
 ghost use Rattle.gltf_uri.specs.Meanings.{meaning, IsLent};
 ghost use Rattle.percent_encoding.specs.Percent.{percent_decode};
 
@@ -13,8 +15,8 @@ use std::borrow::CowStr;
 pub enum Uri<'a> {
     /// A `data:` URI, with its payload as it stands, in base64.
     ///
-    /// The payload is the text between the first `;base64,` and the next one or the end; without that
-    /// mark it is all text behind `data:`.
+    /// The payload is the text between the first `;base64,` and the next one or the end; without
+    /// that mark it is all text behind `data:`.
     Data(&'a str),
     /// A `file:` URI, with the path behind `file://` or `file:` as it stands.
     File(&'a str),
@@ -104,11 +106,11 @@ impl<'a> Uri<'a> {
     /// Where a URI leads.
     ///
     /// A text that holds a `:` is told by its prefix, compared as it stands: `data:`, `file://` or
-    /// `file:`, each other one being unsupported. A text that holds none is a relative reference. The
-    /// `:` is looked for before anything is percent-decoded, so that `a%3Ab` is relative.
+    /// `file:`, each other one being unsupported. A text that holds none is a relative reference.
+    /// The `:` is looked for before anything is percent-decoded, so that `a%3Ab` is relative.
     ///
-    /// Memory is taken only for a relative reference that holds a `%`; the error says that there was
-    /// not enough.
+    /// Memory is taken only for a relative reference that holds a `%`; the error says that there
+    /// was not enough.
     #[tactic(auto, unfolding(crate::specs::Uri::uri_of), using(crate::proofs::Cuts::contains_mark))]
     pub fn parse(alloc: Global, text: &'a str) -> Result<Uri<'a>, AllocError>
         ensures meaning { IfOk result (λ uri. meaning uri ≡ uri_of text.now) }
