@@ -7,8 +7,8 @@ use gltf::{Glb, Name, NamedBytes, import_slice};
 use std::alloc::Global;
 use std::io::Write;
 
-/// Answers the call that the words make, where the words are the arguments behind the program's name,
-/// and gives the exit status.
+/// Answers the call that the words make, where the words are the arguments behind the program's
+/// name, and gives the exit status.
 ///
 /// - 0: the answer stands on `out`.
 /// - 1: the file is refused, or a write failed; the reason stands on `err`.

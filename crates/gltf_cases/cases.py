@@ -1,0 +1,229 @@
+#!/usr/bin/env python3
+"""Writes what the program gltf_cases is run on, and what it has to print then, from the tables
+beside this script.
+
+usage: cases.py            writes data/, args and stdout
+       cases.py --check    fails where these are not what the tables say
+       cases.py --compare FILE [TABLE..]    shows where FILE, which a run of these tables printed,
+                                            is not what they say
+
+A table `tables/NAME.txt` has rows: a case, and below it, indented, its answer. Answers are made by
+hand from the format, and never from what the program prints. A case is `CALL [+BLOB] WORD.. :
+GIVEN`; src/calls.rt says what the calls are. Lines of a case are joined by nothing, those of an
+answer by a space. Besides rows a table has
+
+    # ..                a comment
+    let NAME = TEXT     a text that recurs, as $NAME; its further lines are indented
+    bytes NAME = BYTES  the same of bytes, as hexadecimal digits
+    by CASE             what the rows below stand in, at the place of …; below it, indented, the
+                        same of answers. Each row is a case for each `by` of the last group. Where
+                        there are several …, a row has a part for each, with | between them
+    for N in 3..9       the next row for each number from 3 to 8, as $N
+
+and in cases and answers
+
+    {*                  {"asset":{"version":"2.0"}
+    $NAME[2:5]          a part of a text, by characters, or of bytes, by bytes
+    ⟨BYTES⟩             hexadecimal digits: of "text", of 12. as a number of four bytes with the
+                        lowest first, of digits as they stand, and of 00×12, a byte twelve times
+    [×12                a character twelve times
+    ∅                   nothing
+    Index 3, F32[1, 2, 3, 4]    how a program prints these
+
+A table `tables/NAME.py` has a list ROWS of cases and answers.
+"""
+import pathlib
+import re
+import runpy
+import sys
+
+sys.dont_write_bytecode = True
+HERE = pathlib.Path(__file__).resolve().parent
+EXAMPLES = HERE.parent.parent / "examples"
+# The tables in the order in which the program reads them.
+TABLES = """containers imports faults rules documents geometry meshes materials scenes animations
+    items walks iterators lists uris payloads examples faulty""".split()
+FILES = ("box.glb", "triangle.gltf", "dangling.gltf")
+BYTES = r'"([^"]*)"|(\d+)\.(?!\S)|([0-9A-Fa-f]{2})×(\d+)|([0-9A-Fa-f]+)|\S+'
+# Lines at the margin, and lines below them that are not.
+BLOCKS = r"(?m)^(?![ \n#])(.*\n(?:(?![ \n#]).+\n)*)((?: .*\n)*)"
+NAME = r"\$([A-Z][A-Z_0-9]*)(?:\[(\$?[A-Z0-9]*):(\$?[A-Z0-9]*)\])?"
+
+
+def digits_of(notation):
+    """The hexadecimal digits of some bytes."""
+    digits = ""
+    for text, number, byte, times, plain in re.findall(BYTES, notation):
+        if number:
+            digits += int(number).to_bytes(4, "little").hex()
+        elif byte:
+            digits += byte * int(times)
+        elif plain and len(plain) % 2 == 0:
+            digits += plain
+        elif text:
+            digits += text.encode("ascii").hex()
+        else:
+            raise ValueError(f"no bytes: {notation}")
+    return digits.lower()
+
+
+class Table:
+    """The rows of a table, read line by line."""
+
+    def __init__(self, name, text):
+        self.name, self.texts, self.bytes, self.rows = name, {}, {}, []
+        self.frames, self.numbers, self.is_group_open = [("…", "…")], None, False
+        for head, below in re.findall(BLOCKS, re.sub(r"(?m)^#.*\n", "", text) + "\n"):
+            self.read(head.splitlines(), [it.strip() for it in below.splitlines()])
+
+    def read(self, head, below):
+        """Reads lines that begin at the margin, and those below them that do not."""
+        while head:
+            word, _, rest = head[0].partition(" ")
+            if word == "for":
+                name, first, end = re.fullmatch(r"([A-Z]+) in (\d+)\.\.(\d+)", rest).groups()
+                self.numbers = (name, range(int(first), int(end)))
+            elif word in ("let", "bytes"):
+                self.define(word, rest, below if len(head) == 1 else [])
+            elif word == "by":
+                self.frames = self.frames if self.is_group_open else []
+                self.is_group_open = True
+                self.frames.append((rest, " ".join(below) if len(head) == 1 and below else "…"))
+            else:
+                self.is_group_open = False
+                self.put("".join(head), " ".join(below))
+                return
+            head = head[1:]
+
+    def define(self, word, rest, below):
+        """A name of a text, or of bytes."""
+        name, text = re.fullmatch(r"([A-Z][A-Z_0-9]*) =(.*)", rest).groups()
+        text = self.expanded((" " if word == "bytes" else "").join([text.strip(), *below]))
+        if word == "bytes":
+            self.bytes[name] = digits_of(text)
+        else:
+            self.texts[name] = text
+
+    def put(self, case, answer):
+        """A row, in each of its frames and for each of its numbers."""
+        if not answer:
+            raise ValueError(f"{self.name}: no answer below {case[:100]}")
+        name, numbers = self.numbers or ("", [0])
+        self.numbers = None
+        for number in numbers:
+            self.texts.update({name: str(number)} if name else {})
+            for outer, outer_answer in self.frames:
+                whole = self.expanded(filled(outer, case)).rstrip()
+                self.rows.append((whole, shown(self.expanded(filled(outer_answer, answer)))))
+
+    def expanded(self, text):
+        """A text with what its abbreviations stand for."""
+        text = re.sub(NAME, self.part, text)
+        text = re.sub(r"⟨([^⟩]*)⟩", lambda it: digits_of(it[1]), text)
+        text = re.sub(r"(.)×(\d+)", lambda it: it[1] * int(it[2]), text)
+        return re.sub(r"\{\*(?=[,}])", '{"asset":{"version":"2.0"}', text).replace("∅", "")
+
+    def part(self, found):
+        """A named text or a part of it, or named bytes."""
+        name, first, end = found[1], *(self.expanded(it or "") for it in found.groups()[1:])
+        size = 2 if name in self.bytes else 1
+        text = self.bytes[name] if name in self.bytes else self.texts[name]
+        return text[size * int(first or 0) : size * int(end) if end else len(text)]
+
+
+def filled(frame, text):
+    """A frame with a text at its place, or with the parts of one at several places."""
+    places = frame.count("…")
+    parts = text.split(" | ") if places > 1 else [text] * places
+    if len(parts) != places:
+        raise ValueError(f"{len(parts)} parts for {places} places: {text[:100]}")
+    for part in parts:
+        frame = frame.replace("…", part, 1)
+    return frame
+
+
+def shown(answer):
+    """An answer with what abbreviates printed values written out."""
+    answer = re.sub(r"\bF32(\[[\d, ]*\])", r"F32 { bytes: \1 }", answer)
+    return re.sub(r"\bIndex (\d+)", r"Index { value: \1, .. }", answer)
+
+
+def rows_of(name):
+    """The cases and answers of a table."""
+    file = HERE / "tables" / f"{name}.py"
+    if file.exists():
+        return runpy.run_path(str(file))["ROWS"]
+    return Table(name, file.with_suffix(".txt").read_text("utf-8")).rows
+
+
+def files_of(tables):
+    """What is to stand in each file of the crate, and the number of cases."""
+    files = {"args": "".join(f"{name}.txt\n" for name in tables)}
+    stdout, cases = "", []
+    for name in tables:
+        rows = rows_of(name)
+        files[f"data/{name}.txt"] = "".join(f"{case}\n" for case, _ in rows)
+        stdout += f"{name}.txt\n" + "".join(f"{answer}\n" for _, answer in rows)
+        cases += [case for case, _ in rows]
+    twice = sorted({it for it in cases if cases.count(it) > 1})
+    if twice:
+        raise ValueError(f"told twice: {twice[:3]}")
+    files = {path: text.encode() for path, text in {**files, "stdout": stdout}.items()}
+    files.update({f"data/{name}": (EXAMPLES / name).read_bytes() for name in FILES})
+    return files, len(cases)
+
+
+def write(files):
+    """Writes the files, and takes away others of data/."""
+    for path, text in files.items():
+        (HERE / path).parent.mkdir(exist_ok=True)
+        (HERE / path).write_bytes(text)
+    for path in (HERE / "data").iterdir():
+        if f"data/{path.name}" not in files:
+            path.unlink()
+
+
+def differences(files):
+    """The files that are not what the tables say."""
+    there = {f"data/{path.name}": path for path in (HERE / "data").iterdir()}
+    there.update({name: HERE / name for name in ("args", "stdout") if (HERE / name).exists()})
+    found = {name: path.read_bytes() for name, path in there.items()}
+    return sorted(it for it in {**found, **files} if found.get(it) != files.get(it))
+
+
+def compare(printed, tables):
+    """Shows the cases whose answers are not what is printed."""
+    lines, wrong, at = printed.splitlines(), 0, 0
+    for name in tables:
+        for case, answer in [("the file's name", f"{name}.txt"), *rows_of(name)]:
+            found = lines[at] if at < len(lines) else "nothing"
+            at += 1
+            if found != answer:
+                wrong += 1
+                print(f"{name}: {case[:300]}")
+                print(f"  has to be {answer[:1500]}\n  and is    {found[:1500]}")
+    print(f"{wrong} of {at} lines differ, and there are {max(0, len(lines) - at)} more")
+    return wrong or len(lines) > at
+
+
+def main():
+    words = sys.argv[1:]
+    if words[:1] == ["--compare"] and len(words) > 1:
+        return bool(compare(pathlib.Path(words[1]).read_text("utf-8"), words[2:] or TABLES))
+    files, cases = files_of(TABLES)
+    if words == ["--check"]:
+        wrong = differences(files)
+        if wrong:
+            print(f"not what the tables say: {', '.join(wrong)}; cases.py writes them")
+            return 1
+    elif words:
+        print(__doc__)
+        return 2
+    else:
+        write(files)
+    print(f"{cases} cases")
+    return 0
+
+
+if __name__ == "__main__":
+    sys.exit(main())

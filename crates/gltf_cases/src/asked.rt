@@ -1,0 +1,56 @@
+//! What a case asks.
+
+/// A call, and what it is given: `CALL [+BLOB] WORD.. : GIVEN`.
+#[derive(Clone, Copy)]
+pub(crate) struct Asked<'t> {
+    /// The name of the call.
+    pub(crate) call: &'t str,
+    /// The binary buffer of a container round the given text, in hexadecimal digits; or what a call
+    /// does with it.
+    pub(crate) blob: Option<&'t str>,
+    /// What else the call is told.
+    pub(crate) words: &'t str,
+    /// What the call is made on: a text, or `%` and the hexadecimal digits of bytes.
+    pub(crate) given: &'t str,
+}
+
+impl<'t> Asked<'t> {
+    /// What a line asks.
+    pub(crate) fn of(line: &'t str) -> Asked<'t> {
+        let (head, given) = line.split_once(" :").unwrap_or((line, ""));
+        let given = given.strip_prefix(" ").unwrap_or(given);
+        let (call, words) = head.split_once(" ").unwrap_or((head, ""));
+        match words.strip_prefix("+") {
+            Some(rest) => {
+                let (blob, words) = rest.split_once(" ").unwrap_or((rest, ""));
+                Asked {
+                    call,
+                    blob: Some(blob),
+                    words,
+                    given,
+                }
+            }
+            None => Asked {
+                call,
+                blob: None,
+                words,
+                given,
+            },
+        }
+    }
+
+    /// One of the words, counted from 0; nothing where there are fewer.
+    pub(crate) fn word(&self, place: usize) -> &'t str {
+        self.words.split_whitespace().nth(place).unwrap_or("")
+    }
+
+    /// One of the words as a number; 0 where it is none.
+    pub(crate) fn number(&self, place: usize) -> usize {
+        self.word(place).parse::<usize>().unwrap_or(0)
+    }
+
+    /// One of the parts of what is given, counted from 0; nothing where there are fewer.
+    pub(crate) fn part(&self, place: usize) -> &'t str {
+        self.given.split_whitespace().nth(place).unwrap_or("")
+    }
+}

@@ -1,0 +1,132 @@
+//! The calls by their names.
+use crate::asked::Asked;
+use crate::containers::{container, write_hex};
+use crate::refused::write_error;
+use crate::told::{Written, tell};
+use crate::{broken, documents, items, iterators, words};
+use gltf::{Glb, Gltf, import_slice};
+use hex::FromHexError;
+use std::alloc::{AllocError, Global};
+
+/// Answers a case whose given is a text or stands in hexadecimal digits.
+///
+/// - `uri`, `payload`, `zeros`, `attribute`: what a text or bytes are.
+/// - `plain TYPE STRIDE STEP..`, `sparse TYPE STEP..`, `indices WIDTH STEP..`: iterators over
+///   bytes.
+/// - `broken COUNT`: a document that breaks so many rules.
+/// - `write`: the bytes of a container of a text and a blob.
+/// - all others are calls on a file, of the text or the bytes, or of a container of the text and a
+///   blob.
+pub(crate) fn answer(alloc: Global, asked: Asked<'_>, line: &mut String) -> Written {
+    match asked.call {
+        "uri" => words::write_uri(alloc, asked.given, line),
+        "payload" => words::write_payload(alloc, asked.given, line),
+        "zeros" => words::write_zeros(alloc, asked.given, line),
+        "attribute" => words::write_attribute(alloc, asked.given, line),
+        "plain" => iterators::plain(alloc, asked, line),
+        "sparse" => iterators::sparse(alloc, asked, line),
+        "indices" => iterators::indices(alloc, asked, line),
+        "broken" => broken::write_broken(alloc, asked, line),
+        "write" => of_container(alloc, asked, line),
+        "over" => of_text(alloc, asked, line),
+        _ if asked.blob.is_some() => of_container(alloc, asked, line),
+        _ => of_text(alloc, asked, line),
+    }
+}
+
+/// Answers a case on the given text or bytes.
+fn of_text(alloc: Global, asked: Asked<'_>, line: &mut String) -> Written {
+    match asked.given.strip_prefix("%") {
+        Some(digits) => of_bytes(alloc, asked, &bytes_of(alloc, digits)?, line),
+        None => of_bytes(alloc, asked, asked.given.as_bytes(), line),
+    }
+}
+
+/// Answers a case on a container of the given text and the blob.
+fn of_container(alloc: Global, asked: Asked<'_>, line: &mut String) -> Written {
+    match &container(alloc, asked) {
+        Ok(bytes) if asked.call == "write" => write_hex(bytes, line),
+        Ok(bytes) => of_bytes(alloc, asked, bytes, line),
+        Err(error) => write_error(asked, error, line),
+    }
+}
+
+/// The bytes that hexadecimal digits spell; none where they spell none.
+pub(crate) fn bytes_of(alloc: Global, digits: &str) -> Result<Vec<u8>, AllocError> {
+    match hex::decode(alloc, digits) {
+        Ok(bytes) => Ok(bytes),
+        Err(FromHexError::OutOfMemory) => Err(AllocError),
+        Err(_) => Ok(Vec::new(alloc)),
+    }
+}
+
+/// Answers a call on the bytes of a file.
+///
+/// - `glb`: the parts of a container, and the same written again.
+/// - `root MEMBER`: the records of a text; `document` the same held to the rules.
+/// - `file MEMBER`, `records MEMBER`: the document of a file, with the rules and without.
+/// - `read TYPE INDEX`: the items of an accessor.
+/// - `over TYPE`: those of the first accessor, where each buffer has the bytes of the blob.
+/// - `each`: what several calls tell, where they tell the same.
+/// - handles and lists, as `documents` says, and calls on an import, as `imported` says.
+pub(crate) fn of_bytes(
+    alloc: Global,
+    asked: Asked<'_>,
+    bytes: &[u8],
+    line: &mut String,
+) -> Written {
+    match asked.call {
+        "each" => of_each(alloc, asked, bytes, line),
+        _ => of_one(alloc, asked, bytes, line),
+    }
+}
+
+/// Answers one call on the bytes of a file.
+fn of_one(alloc: Global, asked: Asked<'_>, bytes: &[u8], line: &mut String) -> Written {
+    match asked.call {
+        "glb" => tell(alloc, asked, Glb::from_slice(bytes), line),
+        "root" => tell(alloc, asked, documents::root_of(alloc, bytes), line),
+        "document" => tell(alloc, asked, documents::document_of(alloc, bytes), line),
+        "records" => tell(
+            alloc,
+            asked,
+            Gltf::from_slice_without_validation(alloc, bytes),
+            line,
+        ),
+        "read" => items::read(alloc, asked, bytes, line),
+        "import" | "check" | "walk" => tell(alloc, asked, import_slice(alloc, bytes), line),
+        _ => tell(alloc, asked, Gltf::from_slice(alloc, bytes), line),
+    }
+}
+
+/// What an import tells, and after it what each other call that reads a file tells otherwise.
+fn of_each(alloc: Global, asked: Asked<'_>, bytes: &[u8], line: &mut String) -> Written {
+    of_one(
+        alloc,
+        Asked {
+            call: "import",
+            ..asked
+        },
+        bytes,
+        line,
+    )?;
+    for (call, words) in [("read", "u8 7"), ("file", ""), ("records", "")] {
+        let other = Asked {
+            call,
+            words,
+            ..asked
+        };
+        tell_other(alloc, other, bytes, line)?;
+    }
+    Ok(())
+}
+
+/// What a call tells, where the line does not say it yet.
+fn tell_other(alloc: Global, asked: Asked<'_>, bytes: &[u8], line: &mut String) -> Written {
+    let mut other = String::new(alloc);
+    of_one(alloc, asked, bytes, &mut other)?;
+    if other.as_str() != line.as_str() {
+        write!(line, " but by {}: {other}", asked.call)?;
+    }
+    Ok(())
+}

@@ -1,0 +1,66 @@
+//! GLB containers.
+use crate::asked::Asked;
+use crate::calls::bytes_of;
+use crate::refused::write_error;
+use crate::told::{Told, Written, tell_copy};
+use gltf::binary::Header;
+use gltf::{Glb, Result};
+use std::alloc::Global;
+use std::borrow::CowSlice;
+
+/// A container of the given text, and of the blob where there is one.
+pub(crate) fn container(alloc: Global, asked: Asked<'_>) -> Result<Vec<u8>> {
+    match asked.blob {
+        Some(digits) => {
+            let blob = bytes_of(alloc, digits)?;
+            written(
+                alloc,
+                asked.given,
+                Some(CowSlice::Borrowed(blob.as_slice())),
+            )
+        }
+        None => written(alloc, asked.given, None),
+    }
+}
+
+/// A container of these parts. Its header is written anew, so that it is given none that is true.
+fn written(alloc: Global, text: &str, bin: Option<CowSlice<'_, u8>>) -> Result<Vec<u8>> {
+    let header = Header {
+        magic: [0; 4],
+        version: 9,
+        length: 7,
+    };
+    let json = CowSlice::Borrowed(text.as_bytes());
+    Glb { header, json, bin }.to_vec(alloc)
+}
+
+impl Told for Glb<'_> {
+    /// The header and the parts, and what is written of them.
+    fn tell(&self, alloc: Global, asked: Asked<'_>, line: &mut String) -> Written {
+        write!(line, "{:?}; JSON ", self.header)?;
+        write_hex(self.json.as_slice(), line)?;
+        if let Some(bin) = &self.bin {
+            line.push_str("; BIN ")?;
+            write_hex(bin.as_slice(), line)?;
+        }
+        line.push_str("; written ")?;
+        write_bytes(asked, &self.to_vec(alloc), line)?;
+        tell_copy(alloc, self.clone(alloc), self, line)
+    }
+}
+
+/// Writes the bytes of a container, or why there are none.
+fn write_bytes(asked: Asked<'_>, bytes: &Result<Vec<u8>>, line: &mut String) -> Written {
+    match bytes {
+        Ok(bytes) => write_hex(bytes, line),
+        Err(error) => write_error(asked, error, line),
+    }
+}
+
+/// Writes bytes in hexadecimal digits.
+pub(crate) fn write_hex(bytes: &[u8], line: &mut String) -> Written {
+    for byte in bytes {
+        write!(line, "{byte:02x}")?;
+    }
+    Ok(())
+}

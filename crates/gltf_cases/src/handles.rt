@@ -1,0 +1,117 @@
+//! What a line tells of a handle: all that its getters give.
+use crate::told::Written;
+use gltf::accessor::sparse::Sparse;
+use gltf::buffer::View;
+use gltf::{Accessor, Buffer};
+
+/// An item of a list that a line can tell of. Of extensions the one named X is looked up.
+pub(crate) trait Shown {
+    /// Writes all that it gives.
+    fn show(&self, line: &mut String) -> Written;
+}
+
+impl Shown for &str {
+    fn show(&self, line: &mut String) -> Written {
+        line.push_str(*self)
+    }
+}
+
+impl Shown for Buffer<'_> {
+    fn show(&self, line: &mut String) -> Written {
+        write!(line, "buffer {}: length {}", self.index(), self.length())?;
+        write!(line, ", {:?}, name {:?}", self.source(), self.name())?;
+        write!(line, ", extensions {:?}", self.extensions())?;
+        write!(line, ", X {:?}", self.extension_value("X"))?;
+        write!(line, ", extras {:?}", self.extras())
+    }
+}
+
+impl Shown for View<'_> {
+    fn show(&self, line: &mut String) -> Written {
+        write!(
+            line,
+            "view {} of buffer {}",
+            self.index(),
+            self.buffer().index()
+        )?;
+        write!(line, ": offset {}, length {}", self.offset(), self.length())?;
+        write!(
+            line,
+            ", stride {:?}, target {:?}",
+            self.stride(),
+            self.target()
+        )?;
+        write!(line, ", name {:?}", self.name())?;
+        write!(line, ", extensions {:?}", self.extensions())?;
+        write!(line, ", X {:?}", self.extension_value("X"))?;
+        write!(line, ", extras {:?}", self.extras())
+    }
+}
+
+impl Shown for Accessor<'_> {
+    fn show(&self, line: &mut String) -> Written {
+        write_place(self, line)?;
+        write_size(self, line)?;
+        write!(line, ", normalized {}", self.normalized())?;
+        write!(line, ", min {:?}, max {:?}", self.min(), self.max())?;
+        write!(line, ", name {:?}", self.name())?;
+        write!(line, ", extensions {:?}", self.extensions())?;
+        write!(line, ", X {:?}", self.extension_value("X"))?;
+        write!(line, ", extras {:?}", self.extras())?;
+        match self.sparse() {
+            Some(sparse) => write_sparse(sparse, line),
+            None => Ok(()),
+        }
+    }
+}
+
+/// Writes where the items of an accessor stand, and how many.
+fn write_place(accessor: &Accessor<'_>, line: &mut String) -> Written {
+    write!(line, "accessor {} of ", accessor.index())?;
+    match accessor.view() {
+        Some(view) => write!(line, "view {}", view.index())?,
+        None => line.push_str("no view")?,
+    }
+    write!(
+        line,
+        ": offset {}, count {}",
+        accessor.offset(),
+        accessor.count()
+    )
+}
+
+/// Writes what an item of an accessor is made of, and its bytes.
+fn write_size(accessor: &Accessor<'_>, line: &mut String) -> Written {
+    let data_type = accessor.data_type();
+    let dimensions = accessor.dimensions();
+    write!(line, ", {data_type:?} of {}", data_type.size())?;
+    write!(line, " by {dimensions:?} of {}", dimensions.multiplicity())?;
+    write!(line, " is {}", accessor.size())
+}
+
+/// Writes the sparse part of an accessor.
+fn write_sparse(sparse: Sparse<'_>, line: &mut String) -> Written {
+    let (indices, values) = (sparse.indices(), sparse.values());
+    let index_type = indices.index_type();
+    write!(line, ", sparse of {}", sparse.count())?;
+    write!(
+        line,
+        ": indices in view {} from {}",
+        indices.view().index(),
+        indices.offset()
+    )?;
+    write!(
+        line,
+        ", {index_type:?} is {} of {}",
+        index_type as u16,
+        index_type.size()
+    )?;
+    write!(
+        line,
+        ", values in view {} from {}",
+        values.view().index(),
+        values.offset()
+    )?;
+    write!(line, ", extras {:?}", indices.extras())?;
+    write!(line, " {:?} {:?}", values.extras(), sparse.extras())
+}

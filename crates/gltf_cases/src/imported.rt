@@ -1,0 +1,36 @@
+//! What a line tells of an import.
+use crate::asked::Asked;
+use crate::items;
+use crate::members::write_member;
+use crate::told::{Told, Written};
+use gltf::Document;
+use gltf::buffer::Data;
+use gltf::json::Root;
+use std::alloc::Global;
+
+impl Told for (Document, Vec<Data>) {
+    /// The bytes of the buffers, or a member of the records.
+    ///
+    /// - `check`: how much there is.
+    /// - `walk TYPE INDEX STEP..`: what a walk over the items of an accessor answers.
+    fn tell(&self, alloc: Global, asked: Asked<'_>, line: &mut String) -> Written {
+        match asked.call {
+            "check" => check(self.0.as_json(), &self.1, line),
+            "walk" => items::walked(alloc, asked, &self.0, &self.1, line),
+            _ if asked.words.is_empty() => write!(line, "{:?}", self.1),
+            _ => write_member(self.0.as_json(), asked.words, line),
+        }
+    }
+}
+
+/// Writes how many records there are, and the lengths of the buffers.
+fn check(root: &Root, buffers: &[Data], line: &mut String) -> Written {
+    write!(line, "ok buffers={}", buffers.len())?;
+    write!(line, " accessors={}", root.accessors.len())?;
+    write!(line, " meshes={}", root.meshes.len())?;
+    write!(line, " nodes={}", root.nodes.len())?;
+    for buffer in buffers {
+        write!(line, "; {} bytes", buffer.len())?;
+    }
+    Ok(())
+}

@@ -1,0 +1,128 @@
+//! Items of accessors, as a type that a word names.
+use crate::asked::Asked;
+use crate::steps::{steps_of, write_walk};
+use crate::told::{Told, Written, show, tell};
+use gltf::accessor::{F32, Item, Iter, Step};
+use gltf::buffer::Data;
+use gltf::{Buffer, Document, imported_items, read_items};
+use std::alloc::{AllocError, Global};
+use std::fmt::Debug;
+
+/// Calls a function at the type that a word names: `u8x3` stands for `[u8; 3]`.
+macro_rules! by_type {
+    ($word:expr, $line:ident, $call:ident($($given:expr),*)) => {
+        match $word {
+            "i8" => $call::<i8>($($given,)* $line),
+            "u8" => $call::<u8>($($given,)* $line),
+            "i16" => $call::<i16>($($given,)* $line),
+            "u16" => $call::<u16>($($given,)* $line),
+            "u32" => $call::<u32>($($given,)* $line),
+            "f32" => $call::<F32>($($given,)* $line),
+            "i8x2" => $call::<[i8; 2]>($($given,)* $line),
+            "u8x2" => $call::<[u8; 2]>($($given,)* $line),
+            "f32x2" => $call::<[F32; 2]>($($given,)* $line),
+            "i8x3" => $call::<[i8; 3]>($($given,)* $line),
+            "u8x3" => $call::<[u8; 3]>($($given,)* $line),
+            "f32x3" => $call::<[F32; 3]>($($given,)* $line),
+            "u8x4" => $call::<[u8; 4]>($($given,)* $line),
+            "u16x4" => $call::<[u16; 4]>($($given,)* $line),
+            "u8x2x2" => $call::<[[u8; 2]; 2]>($($given,)* $line),
+            _ => $line.push_str("no type"),
+        }
+    };
+}
+
+pub(crate) use by_type;
+
+/// Writes the items of an accessor, from the bytes of a file.
+pub(crate) fn read(alloc: Global, asked: Asked<'_>, bytes: &[u8], line: &mut String) -> Written {
+    by_type!(asked.word(0), line, read_as(alloc, asked, bytes))
+}
+
+/// Writes the items of an accessor that are read as `T`.
+fn read_as<T: Item + Debug>(
+    alloc: Global,
+    asked: Asked<'_>,
+    bytes: &[u8],
+    line: &mut String,
+) -> Written {
+    tell(
+        alloc,
+        asked,
+        read_items::<T>(alloc, bytes, asked.number(1)),
+        line,
+    )
+}
+
+impl<T: Debug> Told for Option<Vec<T>> {
+    fn tell(&self, _alloc: Global, _asked: Asked<'_>, line: &mut String) -> Written {
+        write!(line, "{self:?}")
+    }
+}
+
+/// Writes the items of the first accessor, where each buffer has these bytes.
+pub(crate) fn over(
+    alloc: Global,
+    asked: Asked<'_>,
+    document: &Document,
+    bytes: Option<&[u8]>,
+    line: &mut String,
+) -> Written {
+    by_type!(asked.word(0), line, over_as(alloc, document, bytes))
+}
+
+/// Writes the items of the first accessor that are read as `T`, where each buffer has these bytes.
+fn over_as<T: Item + Debug>(
+    alloc: Global,
+    document: &Document,
+    bytes: Option<&[u8]>,
+    line: &mut String,
+) -> Written {
+    match document.accessors().next() {
+        Some(accessor) => {
+            let items = Iter::<T>::new(accessor, &|_buffer: Buffer| bytes);
+            show(listed(alloc, items), line)
+        }
+        None => line.push_str("no accessor"),
+    }
+}
+
+/// All items that are left, where there are items.
+fn listed<T: Item>(
+    alloc: Global,
+    items: Option<Iter<'_, T>>,
+) -> Result<Option<Vec<T>>, AllocError> {
+    match items {
+        Some(items) => Ok(Some(items.collect(alloc)?)),
+        None => Ok(None),
+    }
+}
+
+/// Writes what a walk over the items of an accessor answers.
+pub(crate) fn walked(
+    alloc: Global,
+    asked: Asked<'_>,
+    document: &Document,
+    buffers: &[Data],
+    line: &mut String,
+) -> Written {
+    let steps = steps_of(alloc, asked.words)?;
+    by_type!(
+        asked.word(0),
+        line,
+        walked_as(alloc, asked, document, buffers, &steps)
+    )
+}
+
+/// Writes what a walk over the items of an accessor answers, which are read as `T`.
+fn walked_as<T: Item + Debug>(
+    alloc: Global,
+    asked: Asked<'_>,
+    document: &Document,
+    buffers: &[Data],
+    steps: &[Step],
+    line: &mut String,
+) -> Written {
+    let items = imported_items::<T>(document, buffers, asked.number(1));
+    write_walk(alloc, asked.words, steps, items, line)
+}

@@ -1,0 +1,58 @@
+//! Answers files of cases, a case a line, with a line each. `cases.py` and `tables/` beside this
+//! folder say what they are and what has to be answered.
+#![tactic(auto)]
+
+mod asked;
+mod broken;
+mod calls;
+mod containers;
+mod documents;
+mod handles;
+mod imported;
+mod items;
+mod iterators;
+mod lists;
+mod members;
+mod refused;
+mod steps;
+mod told;
+mod words;
+
+use crate::asked::Asked;
+use gltf::Error;
+use std::rt::Files;
+use std::{env, fs};
+
+fn main(rt: HostRuntime) -> Result<(), Error> {
+    let mut words = env::args(&rt)?;
+    let _program = words.next();
+    let paths: Vec<String> = words.collect(rt.alloc())?;
+    for path in &paths {
+        answer_file(&rt, path.as_str())?;
+    }
+    Ok(())
+}
+
+/// Prints the name of a file, and the line that answers each of its cases.
+fn answer_file(rt: &(impl Files + Print + AllocGlobal), path: &str) -> Result<(), Error> {
+    println!(rt; "{path}")?;
+    let cases = fs::read_to_string(rt, path)?;
+    for case in cases.lines() {
+        let line = answer_of(rt, Asked::of(case))?;
+        println!(rt; "{line}")?;
+    }
+    Ok(())
+}
+
+/// The line that answers a case. What is given as `@NAME` is the file of that name.
+fn answer_of(rt: &(impl Files + AllocGlobal), asked: Asked<'_>) -> Result<String, Error> {
+    let mut line = String::new(rt.alloc());
+    match asked.given.strip_prefix("@") {
+        Some(name) => {
+            let bytes = fs::read(rt, name)?;
+            calls::of_bytes(rt.alloc(), asked, &bytes, &mut line)?;
+        }
+        None => calls::answer(rt.alloc(), asked, &mut line)?,
+    }
+    Ok(line)
+}

@@ -1,5 +1,0 @@
-//! Tests of handles, lists and the items of accessors.
-#![tactic(auto)]
-
-#[cfg(test)]
-mod tests;

@@ -1,0 +1,10 @@
+//! Copies and ownership, records changed in code, names, and each generic at a type of its own.
+
+mod bounds;
+mod copies;
+mod every_list;
+mod items;
+mod iterators;
+mod names;
+mod records;
+mod texts;
