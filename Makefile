@@ -1,17 +1,42 @@
-# The two commands of the README.
+# The commands of a user, and the gate. `make help` lists them.
 
-FILE ?= examples/box.glb
 CALL ?= chunks
+FILE ?= examples/box.glb
+PREFIX ?= /usr/local
+NAME :=
 
-# Proves and builds gltf_show where it has changed, and runs a call of it on a file.
+# The scripts in tools/ take the words from the environment, as they stand there: a path may have any character. The
+# caller's folder is another one under `make -C`.
+export GLTF_CALL := $(value CALL)
+export GLTF_FILE := $(value FILE)
+export GLTF_PREFIX := $(value PREFIX)
+export GLTF_FROM := $(value PWD)
+
+help:
+	@echo 'make show [CALL=chunks|check] [FILE=PATH]  tells the chunks of a GLB file, or validates a file'
+	@echo 'make prove                                 proves and builds gltf_show, and what it stands on'
+	@echo 'make install [PREFIX=FOLDER]               installs the proved gltf_show'
+	@echo 'make test                                  the gate: proves everything from nothing, and runs all tests'
+	@echo 'make wrong [NAME=CRATE]                    tries the wrong bodies of a crate that the gate leaves out'
+
 show:
-	@cd crates/gltf_show && rt run -- $(CALL) $(abspath $(FILE))
+	@python3 tools/show.py
 
-# Proves everything from nothing, tries the wrong bodies, and runs the tests and the programs. A program sees the files of
-# its own folder alone, so the examples stand there too.
+prove:
+	@python3 tools/prove.py
+
+install:
+	@python3 tools/install.py
+
+# What costs nothing comes first. The last line is that of rt: `N passed, M failed`.
 test:
-	@cmp examples/box.glb crates/gltf_examples/data/box.glb
-	@cmp examples/triangle.gltf crates/gltf_examples/data/triangle.gltf
+	@tools/copies.sh
+	@python3 crates/gltf_cases/cases.py --check
+	@python3 tools/trust.py
+	@python3 tools/edits.py
 	@rt ci
 
-.PHONY: show test
+wrong:
+	@tools/wrong.sh $(NAME)
+
+.PHONY: help show prove install test wrong

@@ -1,0 +1,52 @@
+"""The crates that crates.txt lists, and whether a program is built of them as they stand."""
+import os
+import pathlib
+
+TOP = pathlib.Path(__file__).resolve().parent.parent
+
+# What a crate is made of.
+PARTS = ("src", "specs", "proofs")
+
+
+def listed():
+    """The libraries that each crate names."""
+    crates = {}
+    for line in (TOP / "crates.txt").read_text(encoding="utf-8").splitlines():
+        head, _, libraries = line.partition("#")[0].partition(":")
+        if head.strip():
+            crates[head.split()[0]] = libraries.split()
+    return crates
+
+
+def below(name):
+    """The crates of this repository that a crate stands on, and the crate itself: each behind those that it names."""
+    crates, order = listed(), []
+
+    def visit(crate):
+        if crate in crates and crate not in order:
+            for library in crates[crate]:
+                visit(library)
+            order.append(crate)
+
+    visit(name)
+    return order
+
+
+def program(name):
+    """Where the program of a crate stands, once it is built."""
+    return TOP / "crates" / name / "out" / name
+
+
+def is_fresh(name):
+    """Whether the program of a crate was built behind the last change of what it is made of. rt builds none that it has
+    not proved. A file that was taken away has changed its folder."""
+    try:
+        built = program(name).stat().st_mtime_ns
+    except FileNotFoundError:
+        return False
+    sources = [TOP / "crates.txt"]
+    for crate in below(name):
+        for part in PARTS:
+            for folder, _, files in os.walk(TOP / "crates" / crate / part):
+                sources += [folder, *(os.path.join(folder, file) for file in files)]
+    return all(os.stat(source).st_mtime_ns < built for source in sources)
