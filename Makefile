@@ -5,19 +5,19 @@ FILE ?= examples/box.glb
 PREFIX ?= /usr/local
 NAME :=
 
-# The scripts in tools/ take the words from the environment, as they stand there: a path may have any character. The
-# caller's folder is another one under `make -C`.
+# The scripts in tools/ take the words from the environment, as they stand there: a path may have
+# any character. The caller's folder is another one under `make -C`.
 export GLTF_CALL := $(value CALL)
 export GLTF_FILE := $(value FILE)
 export GLTF_PREFIX := $(value PREFIX)
 export GLTF_FROM := $(value PWD)
 
 help:
-	@echo 'make show [CALL=chunks|check] [FILE=PATH]  tells the chunks of a GLB file, or validates a file'
-	@echo 'make prove                                 proves and builds gltf_show, and what it stands on'
+	@echo 'make show [CALL=chunks|check] [FILE=PATH]  chunks of a GLB file, or validates a file'
+	@echo 'make prove                                 proves and builds gltf_show'
 	@echo 'make install [PREFIX=FOLDER]               installs the proved gltf_show'
-	@echo 'make test                                  the gate: proves everything from nothing, and runs all tests'
-	@echo 'make wrong [NAME=CRATE]                    tries the wrong bodies of a crate that the gate leaves out'
+	@echo 'make test                                  the gate: all proofs, and all tests'
+	@echo 'make wrong [NAME=CRATE]                    tries the wrong bodies beside the gate'
 
 show:
 	@python3 tools/show.py

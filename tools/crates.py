@@ -19,7 +19,8 @@ def listed():
 
 
 def below(name):
-    """The crates of this repository that a crate stands on, and the crate itself: each behind those that it names."""
+    """The crates of this repository that a crate stands on, and the crate itself: each behind those
+    that it names."""
     crates, order = listed(), []
 
     def visit(crate):
@@ -38,8 +39,8 @@ def program(name):
 
 
 def is_fresh(name):
-    """Whether the program of a crate was built behind the last change of what it is made of. rt builds none that it has
-    not proved. A file that was taken away has changed its folder."""
+    """Whether the program of a crate was built behind the last change of what it is made of. rt
+    builds none that it has not proved. A file that was taken away has changed its folder."""
     try:
         built = program(name).stat().st_mtime_ns
     except FileNotFoundError:

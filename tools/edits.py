@@ -1,7 +1,6 @@
 #!/usr/bin/env python3
-"""Checks that each wrong body, of the gate and beside it, still fits the code, and that docs/ASSURANCE.md lists those of
-the gate. `make test` does so first. The last line counts them.
-"""
+"""Checks that each wrong body, of the gate and beside it, still fits the code, and that
+docs/ASSURANCE.md lists those of the gate. `make test` does so first. The last line counts them."""
 import pathlib
 import re
 import sys
@@ -42,7 +41,8 @@ def main():
     for edit in gate + others:
         crate = edit.parent.name if edit in others else edit.parent.parent.name
         why = fault(edit, TOP / "crates" / crate)
-        if not why and edit in others and (TOP / "crates" / crate / "must-fail" / edit.name).exists():
+        namesake = TOP / "crates" / crate / "must-fail" / edit.name
+        if not why and edit in others and namesake.exists():
             why = "the gate has one of that name"
         if not why and edit in gate and f"`{edit.stem}`" not in listed:
             why = "docs/ASSURANCE.md does not list it"

@@ -1,8 +1,8 @@
 #!/usr/bin/env python3
 """Installs the proved program: `make install PREFIX=..`, behind `make prove`.
 
-GLTF_PREFIX has the folder, named from the one that make was called in, GLTF_FROM. DESTDIR stands before it.
-"""
+GLTF_PREFIX has the folder, named from the one that make was called in, GLTF_FROM. DESTDIR stands
+before it."""
 import os
 import pathlib
 import shutil
@@ -17,7 +17,10 @@ PROGRAM = "gltf_show"
 
 def main():
     if not crates.is_fresh(PROGRAM):
-        sys.exit(f"make install: {PROGRAM} is not built of these sources: make prove proves and builds it")
+        sys.exit(
+            f"make install: {PROGRAM} is not built of these sources: "
+            "make prove proves and builds it"
+        )
     prefix = os.path.join(os.environ.get("GLTF_FROM", ""), os.environ["GLTF_PREFIX"])
     folder = pathlib.Path(os.environ.get("DESTDIR", "") + os.path.abspath(prefix)) / "bin"
     folder.mkdir(parents=True, exist_ok=True)

@@ -1,13 +1,14 @@
 #!/usr/bin/env python3
-"""Checks docs/TRUST.md: each file and definition that it names is there, and each count of lines is right.
+"""Checks docs/TRUST.md: each file and definition that it names is there, and each count of lines is
+right.
 
     trust.py            says what is wrong, and prints the total
     trust.py --write    writes the counts and the total
 
-A row of a table there has a file, the definitions of it that count (`all`, or their names), and how many lines they have.
-A line counts where it states something: no empty line, comment or import, and of a kind of JSON values neither the laws,
-which the prover checks, nor what it has for these alone (`fits`).
-"""
+A row of a table there has a file, the definitions of it that count (`all`, or their names), and how
+many lines they have. A line counts where it states something: no empty line, comment or import, and
+of a kind of JSON values neither the laws, which the prover checks, nor what it has for these alone
+(`fits`)."""
 import pathlib
 import re
 import sys
@@ -18,14 +19,15 @@ PAGE = TOP / "docs" / "TRUST.md"
 ROW = re.compile(r"(\| `([\w/]+\.antt)` \| ([^|]+) \| )(\d+|\?)( \|)")
 TOTAL = re.compile(r"(\*\*)([\d,]+|\?)( lines\*\*)")
 HEAD = re.compile(r"(?:(?:pub|abbrev|unfoldable|opaque|data|record) )*(\S+)")
-UNCOUNTED = re.compile(r"\s*--|(?:pub )?use |pub mod |infix")
+IMPORT = re.compile(r"^(?:pub )?use [^{\n]*(?:\{[^}]*\})?.*$", re.MULTILINE)
+UNCOUNTED = re.compile(r"\s*--|pub mod |infix")
 LAW = re.compile(r"  (?:pub )?(?:fits|needs|apart|either|alike) [=:] ")
 
 
 def definitions(file):
     """How many lines each definition of a file has. They stand apart by empty lines."""
     counts, name, law = {}, None, False
-    for line in file.read_text(encoding="utf-8").splitlines():
+    for line in IMPORT.sub("", file.read_text(encoding="utf-8")).splitlines():
         if not line.strip():
             name = None
         elif not UNCOUNTED.match(line):

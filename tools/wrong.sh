@@ -1,12 +1,14 @@
 #!/bin/sh
-# Tries the wrong bodies of a crate that the gate leaves out: wrong.sh CRATE. They stand in wrong-bodies/CRATE, and are
-# laid beside those of the gate, in crates/CRATE/must-fail, while rt tries them all. However it ends, they are taken out
-# again. Without a crate it says which have some.
+# Tries the wrong bodies of a crate that the gate leaves out: wrong.sh CRATE. They stand in
+# wrong-bodies/CRATE, and are laid beside those of the gate, in crates/CRATE/must-fail, while rt
+# tries them all. However it ends, they are taken out again. Without a crate it says which have
+# some.
 set -u
 cd "$(dirname "$0")/.." || exit 2
 
 if [ $# -ne 1 ]; then
-    echo "make wrong NAME=CRATE tries the wrong bodies of a crate, those of the gate too. More than the gate has are of:"
+    echo "make wrong NAME=CRATE tries the wrong bodies of a crate, those of the gate too."
+    echo "More than the gate has are of:"
     for folder in wrong-bodies/*/; do
         echo "  $(basename "$folder") ($(find "$folder" -name '*.edit' | wc -l))"
     done

@@ -1,13 +1,15 @@
 #!/usr/bin/env bash
-# Proves and builds the program beside this script in a folder of its own, and runs it on each of its files: once for the
-# times of all calls, and once for the most memory of each call. It needs `rt` and `python3` on the path. The program
-# stands in a text file, since `rt ci` wants every .rt file in a crate of the repository.
+# Proves and builds the program beside this script in a folder of its own, and runs it on each of
+# its files: once for the times of all calls, and once for the most memory of each call. It needs
+# `rt` and `python3` on the path. The program stands in a text file, since `rt ci` wants every .rt
+# file in a crate of the repository.
 set -euo pipefail
 here=$(cd "$(dirname "$0")" && pwd)
 work=$(mktemp -d)
 trap 'rm -rf "$work"' EXIT
 mkdir -p "$work/crates/import_bench/src" "$work/.git"
-grep '^gltf' "$here/../../crates.txt" | grep -v -E '^gltf_(.*tests|show|examples):' > "$work/crates.txt"
+grep '^gltf' "$here/../../crates.txt" | grep -v -E '^gltf_(tests|cases|show):' \
+    > "$work/crates.txt"
 for crate in $(cut -d: -f1 "$work/crates.txt"); do
     cp -r "$here/../../crates/$crate" "$work/crates"
 done

@@ -1,7 +1,7 @@
 #!/usr/bin/env bash
-# Builds the loops over items and the driver beside this script in a folder of their own, and runs them.
-# It needs `rt` and `rustc` on the path, and ends with 1 where a bound is missed. The loops stand in a text file, since
-# `rt ci` wants every .rt file in a crate of the repository.
+# Builds the loops over items and the driver beside this script in a folder of their own, and runs
+# them. It needs `rt` and `rustc` on the path, and ends with 1 where a bound is missed. The loops
+# stand in a text file, since `rt ci` wants every .rt file in a crate of the repository.
 set -euo pipefail
 here=$(cd "$(dirname "$0")" && pwd)
 work=$(mktemp -d)
@@ -12,5 +12,6 @@ rm -rf "$work/crates/gltf_items/out"
 cp "$here/items_bench.rt.txt" "$work/crates/items_bench/src/lib.rt"
 printf 'gltf_items: byteorder\nitems_bench staticlib: gltf_items\n' > "$work/crates.txt"
 (cd "$work/crates/items_bench" && rt lib > "$work/log" 2>&1) || { cat "$work/log"; exit 1; }
-rustc --edition 2024 -O -C target-cpu=x86-64-v2 -L "$work/crates/items_bench/out" -o "$work/driver" "$here/driver.rs"
+rustc --edition 2024 -O -C target-cpu=x86-64-v2 -L "$work/crates/items_bench/out" \
+    -o "$work/driver" "$here/driver.rs"
 "$work/driver"

@@ -3,5 +3,4 @@ pub mod Buffers
 pub mod Parts
 pub mod Layers
 pub mod Once
-pub mod Pairs
 mod Imported

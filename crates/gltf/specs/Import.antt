@@ -1,25 +1,30 @@
--- Which bytes are accepted, and what is wrong with the others. Five layers decide, one after the other: the
--- container, the JSON text, the records, the rules and the buffers.
-use Rattle.std.specs.Prelude.{◌≡◌, ◌≢◌, ℕ, List, [], length, true, nat_eq, MatchBool, Option, None, Err, ⊤}
+-- Which bytes are accepted, and what is wrong with the others. Five layers decide, one after the
+-- other: the container, the JSON text, the records, the rules and the buffers.
+use Rattle.std.specs.Prelude.{◌≡◌, ◌≢◌, ◌⊎◌, ℕ, List, [], length, true, nat_eq, MatchBool, Option}
+use Rattle.std.specs.Prelude.{None, Err}
 use Rattle.std.specs.List.{starts_with}
 use Rattle.serde_json.specs.Data.{Data}
 use Rattle.gltf_glb.specs.Bytes.{magic}
 use Rattle.gltf_glb.specs.Container.{IsContainer}
 use Rattle.gltf_glb.specs.Reading.{IsReadingOf}
 use Rattle.gltf_glb.specs.Steps.{fault_of}
+use Rattle.gltf_glb.specs.declared.binary.Error as binary
 use Rattle.gltf_glb.specs.declared.error.Error.{Error}
-use Rattle.gltf_glb.specs.declared.error.Error.TheVariants.{Base64, Binary, BufferLength, Deserialize, Io, MissingBlob, ExternalReferenceInSliceImport, UnsupportedScheme, Validation, Memory}
-use Rattle.gltf_json_record.specs.declared.error.Error.TheVariants as json
+use Rattle.gltf_glb.specs.declared.error.Error.TheVariants.{Binary, Deserialize}
+use Rattle.gltf_json_record.specs.declared.error.Error as json
+use Rattle.gltf_json_record.specs.declared.error.Error.TheVariants.{Memory as TextMemory}
 use Rattle.gltf_json.specs.Documents.{root}
-use Rattle.gltf_json.specs.Reading.{Reads, Refuses as RefusesText}
+use Rattle.gltf_json.specs.Reading.{Reads, Refuses}
 use Rattle.gltf_json.specs.declared.root.Root.{Root}
 use Rattle.gltf_validation.specs.Documents.{Faults}
 use Rattle.gltf.specs.Buffers.{sources_of, AreBytes, HasBufferFault}
-use Rattle.gltf.specs.BufferErrors.{NamesFault}
+use Rattle.gltf.specs.Errors.{TellsRules, NamesFault}
 
--- the JSON text and the blob: those of a container where the bytes begin with `glTF`, else all bytes and none
+-- the JSON text and the blob: those of a container where the bytes begin with `glTF`, else all
+-- bytes and none
 unfoldable pub AreParts : List ℕ → List ℕ → Option (List ℕ) → Type 0
-AreParts bytes text blob = MatchBool (starts_with nat_eq bytes magic) (IsContainer bytes text blob) ((text ≡ bytes) × (blob ≡ None))
+AreParts bytes text blob = MatchBool (starts_with nat_eq bytes magic) (IsContainer bytes text blob)
+    ((text ≡ bytes) × (blob ≡ None))
 
 -- container, text and records hold: r is the root, and blob the binary buffer
 pub record IsDocument (bytes : List ℕ) (r : Root) (blob : Option (List ℕ)) : Type 0 where
@@ -40,47 +45,59 @@ pub record Accepts (bytes : List ℕ) (r : Root) (buffers : List (List ℕ)) : T
   pub valid : IsValidDocument bytes r blob
   pub data_ : AreBytes (sources_of r) blob (length (sources_of r)) buffers
 
--- the container holds, and its text or the records in it do not
-pub record FailsInText (bytes : List ℕ) (P : List ℕ → Type 0) : Type 0 where
+-- the bytes begin with `glTF` and are no container; the error names their one fault
+pub record RefusesContainer (bytes : List ℕ) (e : Error) : Type 0 where
+  pub cause : binary.Error
+  pub names : e ≡ Binary cause
+  pub begins : starts_with nat_eq bytes magic ≡ true
+  pub fault : IsReadingOf bytes (Err (fault_of cause))
+
+-- the container holds; the error tells why its text or the records in it do not
+pub record RefusesText (bytes : List ℕ) (e : Error) : Type 0 where
   pub text : List ℕ
   pub blob : Option (List ℕ)
   pub parts : AreParts bytes text blob
-  pub fails : P text
+  pub cause : json.Error
+  pub names : e ≡ Deserialize cause
+  pub not_memory : cause ≢ TextMemory
+  pub fails : Refuses text cause
 
--- container, text and records hold, and the rules do not
-pub record FailsInRules (bytes : List ℕ) (P : Root → Type 0) : Type 0 where
+-- container, text and records hold; the error has all broken rules
+pub record RefusesRules (bytes : List ℕ) (e : Error) : Type 0 where
   pub root : Root
   pub blob : Option (List ℕ)
   pub document : IsDocument bytes root blob
-  pub fails : P root
+  pub fails : TellsRules root e
 
--- container, text, records and rules hold, and the buffers do not
-pub record FailsInBuffers (bytes : List ℕ) (e : Error) : Type 0 where
+-- container, text, records and rules hold; the error names the fault of the first buffer with one
+pub record RefusesBuffers (bytes : List ℕ) (e : Error) : Type 0 where
   pub root : Root
   pub blob : Option (List ℕ)
   pub valid : IsValidDocument bytes root blob
   pub fails : NamesFault (HasBufferFault (sources_of root) blob) e
 
--- the error names the fault of the first layer that does not hold; want of memory names none
-abbrev pub Refuses : List ℕ → Error → Type 0
-Refuses bytes (Binary cause) = (starts_with nat_eq bytes magic ≡ true) × IsReadingOf bytes (Err (fault_of cause))
-Refuses bytes (Deserialize cause) = (cause ≢ json.Memory) × FailsInText bytes (λ text. RefusesText text cause)
-Refuses bytes (Validation faults) = FailsInRules bytes (λ r. (faults.items ≡ Faults r) × (Faults r ≢ []))
-Refuses bytes (Base64 fault) = FailsInBuffers bytes (Base64 fault)
-Refuses bytes (BufferLength buffer expected actual) = FailsInBuffers bytes (BufferLength buffer expected actual)
-Refuses bytes MissingBlob = FailsInBuffers bytes MissingBlob
-Refuses bytes ExternalReferenceInSliceImport = FailsInBuffers bytes ExternalReferenceInSliceImport
-Refuses bytes UnsupportedScheme = FailsInBuffers bytes UnsupportedScheme
-Refuses bytes (Io cause) = ⊥
-Refuses bytes Memory = ⊤
+-- the container does not hold, or the text or the records in it do not
+abbrev pub RefusesRecords : List ℕ → Error → Type 0
+RefusesRecords bytes e = RefusesContainer bytes e ⊎ RefusesText bytes e
 
--- of no other root can these bytes be the document, but for how it lies in memory, and of no other blob
+-- one of these does not hold, or the rules do not
+abbrev pub RefusesDocument : List ℕ → Error → Type 0
+RefusesDocument bytes e = RefusesRecords bytes e ⊎ RefusesRules bytes e
+
+-- one of these does not hold, or the buffers do not
+abbrev pub RefusesImport : List ℕ → Error → Type 0
+RefusesImport bytes e = RefusesDocument bytes e ⊎ RefusesBuffers bytes e
+
+-- of no other root can these bytes be the document, but for how it lies in memory, and of no other
+-- blob
 abbrev pub IsOnlyDocument : List ℕ → Root → Option (List ℕ) → Type 0
-IsOnlyDocument bytes r blob = (s : Root) (other : Option (List ℕ)) → IsDocument bytes s other → (root.seen s ≡ root.seen r) × (other ≡ blob)
+IsOnlyDocument bytes r blob = (s : Root) (other : Option (List ℕ)) → IsDocument bytes s other
+    → (root.content s ≡ root.content r) × (other ≡ blob)
 
 -- the same of the root and the bytes of its buffers
 abbrev pub IsOnlyImport : List ℕ → Root → List (List ℕ) → Type 0
-IsOnlyImport bytes r buffers = (s : Root) (others : List (List ℕ)) → Accepts bytes s others → (root.seen s ≡ root.seen r) × (others ≡ buffers)
+IsOnlyImport bytes r buffers = (s : Root) (others : List (List ℕ)) → Accepts bytes s others
+    → (root.content s ≡ root.content r) × (others ≡ buffers)
 
 abbrev pub IsNoDocument : List ℕ → Type 0
 IsNoDocument bytes = (s : Root) (blob : Option (List ℕ)) → IsDocument bytes s blob → ⊥

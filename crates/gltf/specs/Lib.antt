@@ -1,6 +1,5 @@
 pub mod Buffers
-pub mod BufferErrors
-pub mod RuleErrors
+pub mod Errors
 pub mod Shown
 pub mod Import
 pub mod Items

@@ -1,8 +1,10 @@
 //! Buffers, their views and their bytes (glTF 2.0, section 3.6.1, "Buffers and Buffer Views").
-ghost use Rattle.std.specs.Prelude.{◌≡◌, Ok, Err, IfOk, IfErr, is_some, if◌then◌else◌, None, map, length};
-ghost use Rattle.gltf.specs.Buffers.{bytes_of, raw_bytes, meant_bytes, source_of, AreBytes, HasBufferFault};
-ghost use Rattle.gltf.specs.BufferErrors.{NamesFault};
-ghost use Rattle.gltf.specs.Shown.{held, shown};
+ghost use Rattle.std.specs.Prelude.{◌≡◌, Ok, Err, IfOk, IfErr, is_some, if◌then◌else◌, None, map};
+ghost use Rattle.std.specs.Prelude.{length};
+ghost use Rattle.gltf.specs.Buffers.{bytes_of, raw_bytes, meant_bytes, source_of, AreBytes};
+ghost use Rattle.gltf.specs.Buffers.{HasBufferFault};
+ghost use Rattle.gltf.specs.Errors.{OutOfMemoryOr, NamesFault};
+ghost use Rattle.gltf.specs.Shown.{blob_bytes, bytes_of_each};
 ghost use Rattle.gltf_uri.specs.Uri.{uri_of};
 
 pub use gltf_data::buffer::{Buffer, Source, Target, View};
@@ -17,7 +19,8 @@ use std::ops::DerefSlice;
 pub struct Data(pub Vec<u8>);
 
 impl Data {
-    /// How many bytes there are, with the zeros behind them.
+    /// How many bytes there are, with the zeros behind them. All other calls are those of the
+    /// slice.
     pub fn len(&self) -> usize
         ensures { result ≡ length self.now.0.items }
     {
@@ -48,8 +51,10 @@ pub(crate) fn read_buffers(
     buffers: &[buffer::Buffer],
     blob: Option<Vec<u8>>,
 ) -> Result<Vec<Data>>
-    ensures ok { IfOk result (λ all. AreBytes (map source_of buffers.now) (held blob) (length (map source_of buffers.now)) (shown all.items)) }
-    ensures err { IfErr result (NamesFault (HasBufferFault (map source_of buffers.now) (held blob))) }
+    ensures ok { IfOk result (λ all. AreBytes (map source_of buffers.now) (blob_bytes blob)
+        (length (map source_of buffers.now)) (bytes_of_each all.items)) }
+    ensures err { IfErr result (OutOfMemoryOr (NamesFault
+        (HasBufferFault (map source_of buffers.now) (blob_bytes blob)))) }
 {
     let mut left = blob;
     let mut all = Vec::new(alloc);
@@ -68,9 +73,12 @@ fn read_buffer(
     buffer: &buffer::Buffer,
     blob: &mut Option<Vec<u8>>,
 ) -> Result<Data>
-    ensures ok { IfOk result (λ read. bytes_of (held blob.old) index (source_of buffer.now) ≡ Ok read.0.items) }
-    ensures err { IfErr result (NamesFault (λ f. bytes_of (held blob.old) index (source_of buffer.now) ≡ Err f)) }
-    ensures blob { held blob.new ≡ (if is_some (source_of buffer.now).uri then held blob.old else None) }
+    ensures ok { IfOk result (λ read. bytes_of (blob_bytes blob.old) index (source_of buffer.now)
+        ≡ Ok read.0.items) }
+    ensures err { IfErr result (OutOfMemoryOr (NamesFault
+        (λ f. bytes_of (blob_bytes blob.old) index (source_of buffer.now) ≡ Err f))) }
+    ensures blob { blob_bytes blob.new
+        ≡ (if is_some (source_of buffer.now).uri then blob_bytes blob.old else None) }
 {
     let mut bytes = raw_bytes(alloc, buffer, blob)?;
     gltf_payload::pad_to_four(&mut bytes)?;
@@ -86,9 +94,12 @@ fn read_buffer(
 
 /// The bytes of one buffer before zeros are put behind them. One without URI takes the blob.
 fn raw_bytes(alloc: Global, buffer: &buffer::Buffer, blob: &mut Option<Vec<u8>>) -> Result<Vec<u8>>
-    ensures ok { IfOk result (λ bytes. raw_bytes (held blob.old) (source_of buffer.now).uri ≡ Ok bytes.items) }
-    ensures err { IfErr result (NamesFault (λ f. raw_bytes (held blob.old) (source_of buffer.now).uri ≡ Err f)) }
-    ensures blob { held blob.new ≡ (if is_some (source_of buffer.now).uri then held blob.old else None) }
+    ensures ok { IfOk result (λ bytes. raw_bytes (blob_bytes blob.old) (source_of buffer.now).uri
+        ≡ Ok bytes.items) }
+    ensures err { IfErr result (OutOfMemoryOr (NamesFault
+        (λ f. raw_bytes (blob_bytes blob.old) (source_of buffer.now).uri ≡ Err f))) }
+    ensures blob { blob_bytes blob.new
+        ≡ (if is_some (source_of buffer.now).uri then blob_bytes blob.old else None) }
 {
     match &buffer.uri {
         Some(uri) => bytes_behind(alloc, uri),
@@ -102,7 +113,8 @@ fn raw_bytes(alloc: Global, buffer: &buffer::Buffer, blob: &mut Option<Vec<u8>>)
 /// The bytes that a URI gives where no names can be asked for.
 fn bytes_behind(alloc: Global, uri: &str) -> Result<Vec<u8>>
     ensures ok { IfOk result (λ bytes. meant_bytes (uri_of uri.now) ≡ Ok bytes.items) }
-    ensures err { IfErr result (NamesFault (λ f. meant_bytes (uri_of uri.now) ≡ Err f)) }
+    ensures err { IfErr result (OutOfMemoryOr (NamesFault
+        (λ f. meant_bytes (uri_of uri.now) ≡ Err f))) }
 {
     match Uri::parse(alloc, uri)? {
         Uri::Data(payload) => Ok(gltf_payload::decode(alloc, payload)?),

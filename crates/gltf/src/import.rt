@@ -1,10 +1,14 @@
 //! A document and the bytes of its buffers, from the bytes of a file.
-ghost use Rattle.std.specs.Prelude.{◌≡◌, ◌≢◌, ℕ, List, Option, Ok, Err, IfOk, IfErr};
+ghost use Rattle.std.specs.Prelude.{◌≡◌, ◌≢◌, ℕ, List, Option, IfOk, IfErr};
 ghost use Rattle.std.specs.Cow.{cow_slice_items};
 ghost use Rattle.gltf_glb.specs.Glb.{items_of};
 ghost use Rattle.gltf_glb.specs.declared.error.Error.TheVariants.{Memory};
-ghost use Rattle.gltf.specs.Import.{AreParts, IsDocument, IsValidDocument, Accepts, Refuses, IsOnlyDocument, IsOnlyImport, IsNoDocument, IsNoValidDocument, IsNotAccepted};
-ghost use Rattle.gltf.specs.Shown.{held, shown};
+ghost use Rattle.gltf.specs.Errors.{OutOfMemoryOr};
+ghost use Rattle.gltf.specs.Import.{AreParts, IsDocument, IsValidDocument, Accepts};
+ghost use Rattle.gltf.specs.Import.{IsOnlyDocument, IsOnlyImport, IsNoDocument, IsNoValidDocument};
+ghost use Rattle.gltf.specs.Import.{IsNotAccepted, RefusesContainer, RefusesRecords};
+ghost use Rattle.gltf.specs.Import.{RefusesDocument, RefusesImport};
+ghost use Rattle.gltf.specs.Shown.{blob_bytes, bytes_of_each};
 
 use crate::buffer::{Data, read_buffers};
 use crate::document::{Document, RawDocument};
@@ -12,59 +16,62 @@ use gltf_glb::{Glb, Result};
 use gltf_json::deserialize;
 use gltf_json::laws::what_shows_the_same_is_alike_in_each_member;
 use gltf_json::root::Root;
+use gltf_rules::laws::what_shows_the_same_breaks_the_same_rules;
 use std::alloc::Global;
 use std::borrow::CowSlice;
 
-/// The document and the bytes of its buffers, by index, from the bytes of a file: a GLB container where
-/// they begin with `glTF`, else JSON text (glTF 2.0, sections 2.8, 3.6.1 and 4.4).
+/// The document and the bytes of its buffers, by index, from the bytes of a file: a GLB container
+/// where they begin with `glTF`, else JSON text (glTF 2.0, sections 2.8, 3.6.1 and 4.4).
 ///
 /// The bytes are accepted exactly where the container, the text, the records, the rules and the
 /// buffers hold; the error is that of the first of these that does not. No name is asked for: a URI
 /// that leads outside is [`gltf_glb::Error::ExternalReferenceInSliceImport`].
 pub fn import_slice(alloc: Global, bytes: &[u8]) -> Result<(Document, Vec<Data>)>
-    ensures accepted { IfOk result (λ read. Accepts bytes.now read.0 (shown read.1.items)) }
-    ensures only { IfOk result (λ read. IsOnlyImport bytes.now read.0 (shown read.1.items)) }
-    ensures refused { IfErr result (Refuses bytes.now) }
+    ensures accepted { IfOk result (λ read. Accepts bytes.now read.0 (bytes_of_each read.1.items)) }
+    ensures only { IfOk result (λ read. IsOnlyImport bytes.now read.0
+        (bytes_of_each read.1.items)) }
+    ensures refused { IfErr result (OutOfMemoryOr (RefusesImport bytes.now)) }
     ensures exact { IfErr result (λ e. e ≢ Memory → IsNotAccepted bytes.now) }
 {
     // A law that the proof stands on; the call does nothing.
     what_shows_the_same_is_alike_in_each_member();
     let (document, blob) = document_of(alloc, bytes)?;
-    let data = read_buffers(alloc, &document.as_json().buffers, blob);
-    pair(document, data)
+    let data = read_buffers(alloc, &document.as_json().buffers, blob)?;
+    Ok((document, data))
 }
 
 /// The document, and the blob.
 pub(crate) fn document_of(alloc: Global, bytes: &[u8]) -> Result<(Document, Option<Vec<u8>>)>
-    ensures valid { IfOk result (λ read. IsValidDocument bytes.now read.0 (held read.1)) }
-    ensures only { IfOk result (λ read. IsOnlyDocument bytes.now read.0 (held read.1)) }
-    ensures refused { IfErr result (Refuses bytes.now) }
+    ensures valid { IfOk result (λ read. IsValidDocument bytes.now read.0 (blob_bytes read.1)) }
+    ensures only { IfOk result (λ read. IsOnlyDocument bytes.now read.0 (blob_bytes read.1)) }
+    ensures refused { IfErr result (OutOfMemoryOr (RefusesDocument bytes.now)) }
     ensures exact { IfErr result (λ e. e ≢ Memory → IsNoValidDocument bytes.now) }
 {
+    // A law that the proof stands on; the call does nothing.
+    what_shows_the_same_breaks_the_same_rules();
     let (root, blob) = root_of(alloc, bytes)?;
     let document = Document::from_json(alloc, root)?;
-    pair(document, owned(alloc, blob))
+    let blob = owned(alloc, blob)?;
+    Ok((document, blob))
 }
 
 /// The records without the rules, and the blob.
 pub(crate) fn raw_document_of(alloc: Global, bytes: &[u8]) -> Result<(RawDocument, Option<Vec<u8>>)>
-    ensures document { IfOk result (λ read. IsDocument bytes.now read.0 (held read.1)) }
-    ensures only { IfOk result (λ read. IsOnlyDocument bytes.now read.0 (held read.1)) }
-    ensures refused { IfErr result (Refuses bytes.now) }
+    ensures document { IfOk result (λ read. IsDocument bytes.now read.0 (blob_bytes read.1)) }
+    ensures only { IfOk result (λ read. IsOnlyDocument bytes.now read.0 (blob_bytes read.1)) }
+    ensures refused { IfErr result (OutOfMemoryOr (RefusesRecords bytes.now)) }
     ensures exact { IfErr result (λ e. e ≢ Memory → IsNoDocument bytes.now) }
 {
     let (root, blob) = root_of(alloc, bytes)?;
-    pair(
-        Document::from_json_without_validation(root),
-        owned(alloc, blob),
-    )
+    let blob = owned(alloc, blob)?;
+    Ok((Document::from_json_without_validation(root), blob))
 }
 
 /// The records, and the blob.
 fn root_of(alloc: Global, bytes: &[u8]) -> Result<(Root, Option<CowSlice<'_, u8>>)>
     ensures document { IfOk result (λ read. IsDocument bytes.now read.0 (items_of read.1)) }
     ensures only { IfOk result (λ read. IsOnlyDocument bytes.now read.0 (items_of read.1)) }
-    ensures refused { IfErr result (Refuses bytes.now) }
+    ensures refused { IfErr result (OutOfMemoryOr (RefusesRecords bytes.now)) }
     ensures exact { IfErr result (λ e. e ≢ Memory → IsNoDocument bytes.now) }
 {
     let (text, blob) = parts_of(bytes)?;
@@ -75,11 +82,14 @@ fn root_of(alloc: Global, bytes: &[u8]) -> Result<(Root, Option<CowSlice<'_, u8>
 /// The JSON text and the blob, both lent.
 #[tactic(auto, unfolding(crate::specs::Import::AreParts))]
 fn parts_of(bytes: &[u8]) -> Result<(CowSlice<'_, u8>, Option<CowSlice<'_, u8>>)>
-    ensures parts { IfOk result (λ parts. AreParts bytes.now (cow_slice_items parts.0) (items_of parts.1)) }
-    ensures only { IfOk result (λ parts. (text : List ℕ) (blob : Option (List ℕ)) → AreParts bytes.now text blob
+    ensures parts { IfOk result (λ parts. AreParts bytes.now (cow_slice_items parts.0)
+        (items_of parts.1)) }
+    ensures only { IfOk result (λ parts. (text : List ℕ) (blob : Option (List ℕ))
+        → AreParts bytes.now text blob
         → (text ≡ cow_slice_items parts.0) × (blob ≡ items_of parts.1)) }
-    ensures refused { IfErr result (Refuses bytes.now) }
-    ensures exact { IfErr result (λ e. (text : List ℕ) (blob : Option (List ℕ)) → AreParts bytes.now text blob → ⊥) }
+    ensures refused { IfErr result (RefusesContainer bytes.now) }
+    ensures exact { IfErr result (λ e. (text : List ℕ) (blob : Option (List ℕ))
+        → AreParts bytes.now text blob → ⊥) }
 {
     if bytes.starts_with(b"glTF") {
         let glb = Glb::from_slice(bytes)?;
@@ -91,7 +101,7 @@ fn parts_of(bytes: &[u8]) -> Result<(CowSlice<'_, u8>, Option<CowSlice<'_, u8>>)
 
 /// A copy of the blob, made once: there is room for the zeros that may be put behind it.
 fn owned(alloc: Global, blob: Option<CowSlice<'_, u8>>) -> Result<Option<Vec<u8>>>
-    ensures ok { IfOk result (λ copy. held copy ≡ items_of blob.entry) }
+    ensures ok { IfOk result (λ copy. blob_bytes copy ≡ items_of blob.entry) }
     ensures refused { IfErr result (λ e. e ≡ Memory) }
 {
     let Some(blob) = blob else {
@@ -101,15 +111,4 @@ fn owned(alloc: Global, blob: Option<CowSlice<'_, u8>>) -> Result<Option<Vec<u8>
     let mut copy = Vec::with_capacity(alloc, blob.len().saturating_add(3))?;
     copy.extend_from_slice(blob)?;
     Ok(Some(copy))
-}
-
-/// What was made, and what is made behind it. It is let go of here, so that no caller's path has to.
-fn pair<A: Drop, B: Drop>(made: A, next: Result<B>) -> Result<(A, B)>
-    ensures ok { IfOk result (λ both. (both.0 ≡ made) × (next ≡ Ok both.1)) }
-    ensures err { IfErr result (λ e. next ≡ Err e) }
-{
-    match next {
-        Ok(next) => Ok((made, next)),
-        Err(error) => Err(error),
-    }
 }

@@ -63,7 +63,7 @@ pub(crate) fn bytes_of(alloc: Global, digits: &str) -> Result<Vec<u8>, AllocErro
 /// Answers a call on the bytes of a file.
 ///
 /// - `glb`: the parts of a container, and the same written again.
-/// - `root MEMBER`: the records of a text; `document` the same held to the rules.
+/// - `root MEMBER`: the records of a text; `document` the same, validated.
 /// - `file MEMBER`, `records MEMBER`: the document of a file, with the rules and without.
 /// - `read TYPE INDEX`: the items of an accessor.
 /// - `over TYPE`: those of the first accessor, where each buffer has the bytes of the blob.

@@ -54,7 +54,7 @@ pub(crate) fn write_walk<T: Item + Debug>(
     }
 }
 
-/// Writes the answers of a walk, which are let go of here.
+/// Writes the answers of a walk, which are dropped here.
 fn tell_walk<T: Debug + Drop>(walked: Result<Walked<T>, AllocError>, line: &mut String) -> Written {
     tell_walk_of(&walked, line)
 }

@@ -14,7 +14,7 @@ pub(crate) trait Told {
     fn tell(&self, alloc: Global, asked: Asked<'_>, line: &mut String) -> Written;
 }
 
-/// Tells of an answer. It is let go of here, under a type parameter and at one exit.
+/// Tells of an answer. It is dropped here, under a type parameter and at one exit.
 pub(crate) fn tell<T: Told + Drop>(
     alloc: Global,
     asked: Asked<'_>,
@@ -37,7 +37,7 @@ fn tell_of<T: Told>(
     }
 }
 
-/// Prints a value, which is let go of here.
+/// Prints a value, which is dropped here.
 pub(crate) fn show<T: Debug + Drop>(
     answer: std::result::Result<T, AllocError>,
     line: &mut String,
@@ -53,7 +53,7 @@ fn show_of<T: Debug>(answer: &std::result::Result<T, AllocError>, line: &mut Str
     }
 }
 
-/// Says where a copy prints otherwise than its source. The copy is let go of here.
+/// Says where a copy prints otherwise than its source. The copy is dropped here.
 pub(crate) fn tell_copy<T: Debug + Drop>(
     alloc: Global,
     copy: std::result::Result<T, AllocError>,

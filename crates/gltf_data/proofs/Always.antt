@@ -6,56 +6,109 @@ use Rattle.gltf_json_geometry.specs.declared.accessor.Accessor.{Accessor}
 use Rattle.gltf_json_geometry.specs.declared.accessor.sparse.Sparse.{Sparse}
 use Rattle.gltf_items.specs.declared.item.Item.{Ghosts}
 use Rattle.gltf_items.specs.Sparse.{sparse}
-use Rattle.gltf_data.specs.Parts.{Part, Answers, base_part, index_part, value_part, index_items, part_items, base_items, PartReadable, BaseReadable, PartsReadable, items_with, items}
-use Rattle.gltf_data.specs.Answers.{Results, Answered, AnsweredFor, AskedParts, Reads, AlwaysAnswers, answer_for, answers_with, answers_by, ReadsAlike}
+use Rattle.gltf_data.specs.Parts.{Part, Answers, base_part, index_part, value_part, index_items}
+use Rattle.gltf_data.specs.Parts.{part_items, base_items, PartReadable, BaseReadable, PartsReadable}
+use Rattle.gltf_data.specs.Parts.{items_with, items}
+use Rattle.gltf_data.specs.Answers.{Results, IsAnswered, IsAnsweredFor, ArePartsAsked, Reads}
+use Rattle.gltf_data.specs.Answers.{AlwaysAnswers, answer_for, answers_with, answers_by, ReadsAlike}
 
-module _ {Gives : Results} {r : Root} {answer : ℕ → Option (List ℕ)} (always : AlwaysAnswers Gives r answer) where
-  same_answer : {i : ℕ} {bytes : Option (List ℕ)} → Answered Gives r i bytes → bytes ≡ answer i
+module _ {Gives : Results} {r : Root} {answer : ℕ → Option (List ℕ)}
+    (always : AlwaysAnswers Gives r answer) where
+  same_answer : {i : ℕ} {bytes : Option (List ℕ)} → IsAnswered Gives r i bytes → bytes ≡ answer i
   same_answer {i = i} h = sym h.is_answer ∙ always h.buffer h.given i h.is_buffer h.result
 
   -- what is said of a part by its answer
-  part_alike : (part : Option Part) (bytes : Option (List ℕ)) → AnsweredFor Gives r part bytes → (PartReadable part bytes → PartReadable part (answer_for answer part)) × (PartReadable part (answer_for answer part) → PartReadable part bytes)
+  part_alike : (part : Option Part) (bytes : Option (List ℕ)) → IsAnsweredFor Gives r part bytes
+      → (PartReadable part bytes → PartReadable part (answer_for answer part))
+      × (PartReadable part (answer_for answer part) → PartReadable part bytes)
   part_alike None bytes h = (λ x. x, λ x. x)
-  part_alike (Some p) bytes h = (λ x. subst (λ b. PartReadable (Some p) b) (same_answer h) x, λ x. subst (λ b. PartReadable (Some p) b) (sym (same_answer h)) x)
+  part_alike (Some p) bytes h = (
+    λ x. subst (λ b. PartReadable (Some p) b) (same_answer h) x,
+    λ x. subst (λ b. PartReadable (Some p) b) (sym (same_answer h)) x,
+  )
 
-  part_same : {X : Type 0} (value : List ℕ → X) (part : Option Part) (bytes : Option (List ℕ)) → AnsweredFor Gives r part bytes → part_items value part bytes ≡ part_items value part (answer_for answer part)
+  part_same : {X : Type 0} (value : List ℕ → X) (part : Option Part) (bytes : Option (List ℕ))
+      → IsAnsweredFor Gives r part bytes
+      → part_items value part bytes ≡ part_items value part (answer_for answer part)
   part_same value None bytes h = refl
   part_same value (Some p) bytes h = ap (λ b. part_items value (Some p) b) (same_answer h)
 
-  base_alike : (count : ℕ) (part : Option Part) (bytes : Option (List ℕ)) → AnsweredFor Gives r part bytes → (BaseReadable count part bytes → BaseReadable count part (answer_for answer part)) × (BaseReadable count part (answer_for answer part) → BaseReadable count part bytes)
+  base_alike : (count : ℕ) (part : Option Part) (bytes : Option (List ℕ))
+      → IsAnsweredFor Gives r part bytes
+      → (BaseReadable count part bytes → BaseReadable count part (answer_for answer part))
+      × (BaseReadable count part (answer_for answer part) → BaseReadable count part bytes)
   base_alike count None bytes h = (λ x. x, λ x. x)
-  base_alike count (Some p) bytes h = (λ x. subst (λ b. BaseReadable count (Some p) b) (same_answer h) x, λ x. subst (λ b. BaseReadable count (Some p) b) (sym (same_answer h)) x)
+  base_alike count (Some p) bytes h = (
+    λ x. subst (λ b. BaseReadable count (Some p) b) (same_answer h) x,
+    λ x. subst (λ b. BaseReadable count (Some p) b) (sym (same_answer h)) x,
+  )
 
-  base_same : {X : Type 0} (value : List ℕ → X) (part : Option Part) (bytes : Option (List ℕ)) → AnsweredFor Gives r part bytes → base_items value part bytes ≡ base_items value part (answer_for answer part)
+  base_same : {X : Type 0} (value : List ℕ → X) (part : Option Part) (bytes : Option (List ℕ))
+      → IsAnsweredFor Gives r part bytes
+      → base_items value part bytes ≡ base_items value part (answer_for answer part)
   base_same value None bytes h = refl
   base_same value (Some p) bytes h = ap (λ b. base_items value (Some p) b) (same_answer h)
 
-  parts_to : (size : ℕ) (a : Accessor) (s : Option Sparse) (o : Answers) → AskedParts Gives size r a s o → PartsReadable size r a s o → PartsReadable size r a s (answers_with answer size r a s)
+  parts_to : (size : ℕ) (a : Accessor) (s : Option Sparse) (o : Answers)
+      → ArePartsAsked Gives size r a s o → PartsReadable size r a s o
+      → PartsReadable size r a s (answers_with answer size r a s)
   parts_to size a None o asked h = (part_alike (base_part size r a) o.base asked).0 h
-  parts_to size a (Some s) o asked h = record { base = (base_alike a.count (base_part size r a) o.base asked.base).0 h.base; indices = (part_alike (index_part r s) o.indices (asked.indices h.base)).0 h.indices; values = (part_alike (value_part size r s) o.values (asked.values h.base h.indices)).0 h.values }
+  parts_to size a (Some s) o asked h =
+      record {
+        base = (base_alike a.count (base_part size r a) o.base asked.base).0 h.base;
+        indices = (part_alike (index_part r s) o.indices (asked.indices h.base)).0 h.indices;
+        values =
+            (part_alike (value_part size r s) o.values (asked.values h.base h.indices)).0 h.values;
+      }
 
-  parts_from : (size : ℕ) (a : Accessor) (s : Option Sparse) (o : Answers) → AskedParts Gives size r a s o → PartsReadable size r a s (answers_with answer size r a s) → PartsReadable size r a s o
+  parts_from : (size : ℕ) (a : Accessor) (s : Option Sparse) (o : Answers)
+      → ArePartsAsked Gives size r a s o → PartsReadable size r a s (answers_with answer size r a s)
+      → PartsReadable size r a s o
   parts_from size a None o asked h = (part_alike (base_part size r a) o.base asked).1 h
   parts_from size a (Some s) o asked h =
-      let base : BaseReadable a.count (base_part size r a) o.base = (base_alike a.count (base_part size r a) o.base asked.base).1 h.base in
-      let indices : PartReadable (index_part r s) o.indices = (part_alike (index_part r s) o.indices (asked.indices base)).1 h.indices in
-      record { base = base; indices = indices; values = (part_alike (value_part size r s) o.values (asked.values base indices)).1 h.values }
+      let base : BaseReadable a.count (base_part size r a) o.base =
+      (base_alike a.count (base_part size r a) o.base asked.base).1 h.base in
+      let indices : PartReadable (index_part r s) o.indices =
+      (part_alike (index_part r s) o.indices (asked.indices base)).1 h.indices in
+      record {
+        base = base;
+        indices = indices;
+        values = (part_alike (value_part size r s) o.values (asked.values base indices)).1 h.values;
+      }
 
-  items_same : {X : Type 0} (t : Ghosts X) (a : Accessor) (s : Option Sparse) (o : Answers) → AskedParts Gives t.size r a s o → PartsReadable t.size r a s o → items_with t r a s o ≡ items_with t r a s (answers_with answer t.size r a s)
+  items_same : {X : Type 0} (t : Ghosts X) (a : Accessor) (s : Option Sparse) (o : Answers)
+      → ArePartsAsked Gives t.size r a s o → PartsReadable t.size r a s o
+      → items_with t r a s o ≡ items_with t r a s (answers_with answer t.size r a s)
   items_same t a None o asked h = part_same t.value (base_part t.size r a) o.base asked
   items_same t a (Some s) o asked h =
-      ap (λ x. sparse t.zero_item x a.count (index_items r s o.indices) (part_items t.value (value_part t.size r s) o.values)) (base_same t.value (base_part t.size r a) o.base asked.base)
-      ∙ ap (λ x. sparse t.zero_item (base_items t.value (base_part t.size r a) (answer_for answer (base_part t.size r a))) a.count x (part_items t.value (value_part t.size r s) o.values)) (part_same _ (index_part r s) o.indices (asked.indices h.base))
-      ∙ ap (λ x. sparse t.zero_item (base_items t.value (base_part t.size r a) (answer_for answer (base_part t.size r a))) a.count (index_items r s (answer_for answer (index_part r s))) x) (part_same t.value (value_part t.size r s) o.values (asked.values h.base h.indices))
+      ap (λ x. sparse t.zero_item x a.count (index_items r s o.indices)
+      (part_items t.value (value_part t.size r s) o.values))
+      (base_same t.value (base_part t.size r a) o.base asked.base)
+      ∙ ap (λ x. sparse t.zero_item (base_items t.value (base_part t.size r a)
+      (answer_for answer (base_part t.size r a))) a.count x
+      (part_items t.value (value_part t.size r s) o.values))
+      (part_same _ (index_part r s) o.indices (asked.indices h.base))
+      ∙ ap (λ x. sparse t.zero_item (base_items t.value (base_part t.size r a)
+      (answer_for answer (base_part t.size r a))) a.count
+      (index_items r s (answer_for answer (index_part r s))) x)
+      (part_same t.value (value_part t.size r s) o.values (asked.values h.base h.indices))
 
-pub same_where : {X P Q : Type 0} (v w : X) (out : Option X) → (P → Q) → (Q → P) → (P → v ≡ w) → SomeIff out P v → SomeIff out Q w
+pub same_where : {X P Q : Type 0} (v w : X) (out : Option X) → (P → Q) → (Q → P) → (P → v ≡ w)
+    → SomeIff out P v → SomeIff out Q w
 same_where v w None to from is h = λ q. h (from q)
 same_where v w (Some x) to from is h = (to h.0, h.1 ∙ is h.0)
 
-pub reads_alike : {X : Type 0} {Gives : Results} (t : Ghosts X) (r : Root) (a : Accessor) (result : Option (List X)) → Reads Gives t r a result → ReadsAlike Gives t r a result
+pub reads_alike : {X : Type 0} {Gives : Results} (t : Ghosts X) (r : Root) (a : Accessor)
+    (result : Option (List X)) → Reads Gives t r a result → ReadsAlike Gives t r a result
 reads_alike t r a result h answer always =
     same_where (items t r a h.answers) (items t r a (answers_by answer t.size r a)) result
-    (λ ready. record { same_size = ready.same_size; parts = parts_to always t.size a a.sparse h.answers (h.asked ready.same_size) ready.parts })
-    (λ ready. record { same_size = ready.same_size; parts = parts_from always t.size a a.sparse h.answers (h.asked ready.same_size) ready.parts })
+    (λ ready. record {
+      same_size = ready.same_size;
+      parts = parts_to always t.size a a.sparse h.answers (h.asked ready.same_size) ready.parts;
+    })
+    (λ ready. record {
+      same_size = ready.same_size;
+      parts = parts_from always t.size a a.sparse h.answers (h.asked ready.same_size) ready.parts;
+    })
     (λ ready. items_same always t a a.sparse h.answers (h.asked ready.same_size) ready.parts)
     h.exactly

@@ -22,14 +22,24 @@ end_bound c Stop = omega arith
 one_more : (n m : ℕ) → suc n * m ≡ m + n * m
 one_more n m = omega arith
 
-steps_bound : (c : ℕ) (steps : List Step) → sum_by (step_reads c) steps ≤ length steps * (digits c + 1)
+steps_bound : (c : ℕ) (steps : List Step)
+    → sum_by (step_reads c) steps ≤ length steps * (digits c + 1)
 steps_bound c [] = omega arith
 steps_bound c (step ∷ steps) =
-    let whole : length (step ∷ steps) * (digits c + 1) ≡ digits c + 1 + length steps * (digits c + 1) = one_more (length steps) (digits c + 1) in
-    omega (arith, whole, sum_by-cons (step_reads c) step steps, step_bound c step, steps_bound c steps)
+    let whole : length (step ∷ steps) * (digits c + 1)
+    ≡ digits c + 1 + length steps * (digits c + 1) = one_more (length steps) (digits c + 1) in
+    omega (
+      arith,
+      whole,
+      sum_by-cons (step_reads c) step steps,
+      step_bound c step,
+      steps_bound c steps,
+    )
 
-pub walk_bound : (c : ℕ) (steps : List Step) (end : End) → most_index_reads c steps end ≤ (length steps + 1) * (digits c + 1)
+pub walk_bound : (c : ℕ) (steps : List Step) (end : End)
+    → most_index_reads c steps end ≤ (length steps + 1) * (digits c + 1)
 walk_bound c steps end =
     let next : length steps + 1 ≡ suc (length steps) = omega arith in
-    let whole : (length steps + 1) * (digits c + 1) ≡ digits c + 1 + length steps * (digits c + 1) = rw next (one_more (length steps) (digits c + 1)) in
+    let whole : (length steps + 1) * (digits c + 1) ≡ digits c + 1 + length steps * (digits c + 1) =
+    rw next (one_more (length steps) (digits c + 1)) in
     omega (arith, whole, steps_bound c steps, end_bound c end)

@@ -1,3 +1,4 @@
+mod Lefts
 mod Positions
 mod Bounds
 mod Addressed

@@ -11,54 +11,94 @@ use Rattle.byteorder.specs.Endian.{little_number}
 use Rattle.gltf_json_record.specs.declared.validation.Checked.{Checked}
 use Rattle.gltf_json_record.specs.declared.validation.Checked.TheVariants.{Invalid, Valid}
 use Rattle.gltf_handles.specs.declared.accessor.sparse.IndexType.{IndexType}
-use Rattle.gltf_handles.specs.Sizes.{Means, coded, index_type, index_size, stored_size}
+use Rattle.gltf_handles.specs.Sizes.{Means, code_of, index_type, index_size, stored_size}
 use Rattle.gltf_handles.specs.Buffers.{IsView}
 use Rattle.gltf_handles.specs.Members.{Follows}
-use Rattle.gltf_data.specs.Parts.{Part, part_of, FitsIn, items_in, view_at, base_part, index_part, value_part, index_items, part_items, base_items, PartReadable, BaseReadable}
+use Rattle.gltf_data.specs.Parts.{Part, part_of, FitsIn, items_in, view_at, base_part, index_part}
+use Rattle.gltf_data.specs.Parts.{value_part, index_items, part_items, base_items, PartReadable}
+use Rattle.gltf_data.specs.Parts.{BaseReadable}
 use Rattle.gltf_data.specs.Answers.{Results, ReadsPart, ReadsAny}
 
-somes : {X : Type 0} (P : Type 0) (v : X) (result : Option X) → SomeIff result P v → SomeIff (option_map (λ x. Some x) result) P (Some v)
+somes : {X : Type 0} (P : Type 0) (v : X) (result : Option X) → SomeIff result P v
+    → SomeIff (option_map (λ x. Some x) result) P (Some v)
 somes P v None h = h
 somes P v (Some x) h = (h.0, ap Some h.1)
 
-module _ {X : Type 0} {Gives : Results} {r : Root} {value : List ℕ → X} {p : Part} {result : Option (List X)} where
-  whole_at : ReadsPart Gives r value p result → ReadsAny Gives r (Some p) (PartReadable (Some p)) (part_items value (Some p)) result
+module _ {X : Type 0} {Gives : Results} {r : Root} {value : List ℕ → X} {p : Part}
+    {result : Option (List X)} where
+  whole_at : ReadsPart Gives r value p result
+      → ReadsAny Gives r (Some p) (PartReadable (Some p)) (part_items value (Some p)) result
   whole_at h = record { answer = h.answer; answered = h.answered; exactly = h.exactly }
 
-  pub whole : (part : Option Part) → part ≡ Some p → ReadsPart Gives r value p result → ReadsAny Gives r part (PartReadable part) (part_items value part) result
-  whole part is h = subst (λ part. ReadsAny Gives r part (PartReadable part) (part_items value part) result) (sym is) (whole_at h)
+  pub whole : (part : Option Part) → part ≡ Some p → ReadsPart Gives r value p result
+      → ReadsAny Gives r part (PartReadable part) (part_items value part) result
+  whole part is h = subst (λ part. ReadsAny Gives r part (PartReadable part)
+      (part_items value part) result) (sym is) (whole_at h)
 
-  base_at : (count : ℕ) → ReadsPart Gives r value p result → ReadsAny Gives r (Some p) (BaseReadable count (Some p)) (base_items value (Some p)) (option_map (λ x. Some x) result)
-  base_at count h = record { answer = h.answer; answered = h.answered; exactly = somes (FitsIn p h.answer) (items_in value p h.answer) result h.exactly }
+  base_at : (count : ℕ) → ReadsPart Gives r value p result
+      → ReadsAny Gives r (Some p) (BaseReadable count (Some p)) (base_items value (Some p))
+      (option_map (λ x. Some x) result)
+  base_at count h = record {
+    answer = h.answer;
+    answered = h.answered;
+    exactly = somes (FitsIn p h.answer) (items_in value p h.answer) result h.exactly;
+  }
 
-  pub base_whole : (part : Option Part) (count : ℕ) (out : Option (Option (List X))) → part ≡ Some p → out ≡ option_map (λ x. Some x) result → ReadsPart Gives r value p result → ReadsAny Gives r part (BaseReadable count part) (base_items value part) out
-  base_whole part count out is out_is h = rw out_is (subst (λ part. ReadsAny Gives r part (BaseReadable count part) (base_items value part) (option_map (λ x. Some x) result)) (sym is) (base_at count h))
+  pub base_whole : (part : Option Part) (count : ℕ) (out : Option (Option (List X))) → part ≡ Some p
+      → out ≡ option_map (λ x. Some x) result → ReadsPart Gives r value p result
+      → ReadsAny Gives r part (BaseReadable count part) (base_items value part) out
+  base_whole part count out is out_is h =
+      rw out_is (subst (λ part. ReadsAny Gives r part (BaseReadable count part)
+      (base_items value part) (option_map (λ x. Some x) result)) (sym is) (base_at count h))
 
 -- in the document of a handle
-pub in_document : {X : Type 0} {Gives : Results} {value : List ℕ → X} {p : Part} {result : Option (List X)} (d r : Root) → d ≡ r → ReadsPart Gives d value p result → ReadsPart Gives r value p result
-in_document {Gives = Gives} {value = value} {p = p} {result = result} d r is h = subst (λ d. ReadsPart Gives d value p result) is h
+pub in_document : {X : Type 0} {Gives : Results} {value : List ℕ → X} {p : Part}
+    {result : Option (List X)} (d r : Root) → d ≡ r → ReadsPart Gives d value p result
+    → ReadsPart Gives r value p result
+in_document {Gives = Gives} {value = value} {p = p} {result = result} d r is h =
+    subst (λ d. ReadsPart Gives d value p result) is h
 
-pub value_part_is : (size : ℕ) (r : Root) (s : Sparse) (v : View) (offset count : ℕ) → view_at r s.values.buffer_view ≡ Some v → offset ≡ s.values.byte_offset → count ≡ s.count → value_part size r s ≡ Some (part_of v offset count size)
+pub value_part_is : (size : ℕ) (r : Root) (s : Sparse) (v : View) (offset count : ℕ)
+    → view_at r s.values.buffer_view ≡ Some v → offset ≡ s.values.byte_offset → count ≡ s.count
+    → value_part size r s ≡ Some (part_of v offset count size)
 value_part_is size r s v offset count at o n = rw (at, o, n) refl
 
-pub index_part_is : (r : Root) (s : Sparse) (v : View) (offset count size : ℕ) → view_at r s.indices.buffer_view ≡ Some v → offset ≡ s.indices.byte_offset → count ≡ s.count → size ≡ stored_size s.indices → index_part r s ≡ Some (part_of v offset count size)
+pub index_part_is : (r : Root) (s : Sparse) (v : View) (offset count size : ℕ)
+    → view_at r s.indices.buffer_view ≡ Some v → offset ≡ s.indices.byte_offset → count ≡ s.count
+    → size ≡ stored_size s.indices → index_part r s ≡ Some (part_of v offset count size)
 index_part_is r s v offset count size at o n z = rw (at, o, n, z) refl
 
-view_is : (r : Root) (o : Option ℕ) (v : ViewHandle) → Follows (IsView r) o (Some v) → (option_and_then (view_at r) o ≡ Some v.json.now) × (v.document.now ≡ r)
+view_is : (r : Root) (o : Option ℕ) (v : ViewHandle) → Follows (IsView r) o (Some v)
+    → (option_and_then (view_at r) o ≡ Some v.json.now) × (v.document.now ≡ r)
 view_is r None v h = absurd h
 view_is r (Some i) v h = (h.json, h.document)
 
-pub base_part_is : (size : ℕ) (r : Root) (a : Accessor) (v : ViewHandle) (offset count : ℕ) → Follows (IsView r) a.buffer_view (Some v) → offset ≡ unwrap_or a.byte_offset 0 → count ≡ a.count → (base_part size r a ≡ Some (part_of v.json.now offset count size)) × (v.document.now ≡ r)
+pub base_part_is : (size : ℕ) (r : Root) (a : Accessor) (v : ViewHandle) (offset count : ℕ)
+    → Follows (IsView r) a.buffer_view (Some v) → offset ≡ unwrap_or a.byte_offset 0
+    → count ≡ a.count → (base_part size r a ≡ Some (part_of v.json.now offset count size))
+    × (v.document.now ≡ r)
 base_part_is size r a v offset count follows o n =
     let view = view_is r a.buffer_view v follows in
     (rw (view.0, o, n) refl, view.1)
 
-size_is : (code : Checked _) (meaning : IndexType) → Means index_type code meaning → index_size meaning ≡ coded (λ c. index_size (index_type c)) code
+size_is : (code : Checked _) (meaning : IndexType) → Means index_type code meaning
+    → index_size meaning ≡ code_of (λ c. index_size (index_type c)) code
 size_is Invalid meaning h = absurd h
 size_is (Valid c) meaning h = ap index_size h
 
-pub indices_whole : {Gives : Results} {r : Root} {result : Option (List ℕ)} (s : Sparse) (v : View) (offset count : ℕ) (meaning : IndexType) → view_at r s.indices.buffer_view ≡ Some v → offset ≡ s.indices.byte_offset → count ≡ s.count → Means index_type s.indices.component_type meaning → ReadsPart Gives r (little_number (index_size meaning)) (part_of v offset count (index_size meaning)) result → ReadsAny Gives r (index_part r s) (PartReadable (index_part r s)) (index_items r s) result
+pub indices_whole : {Gives : Results} {r : Root} {result : Option (List ℕ)} (s : Sparse) (v : View)
+    (offset count : ℕ) (meaning : IndexType) → view_at r s.indices.buffer_view ≡ Some v
+    → offset ≡ s.indices.byte_offset → count ≡ s.count
+    → Means index_type s.indices.component_type meaning
+    → ReadsPart Gives r (little_number (index_size meaning))
+    (part_of v offset count (index_size meaning)) result
+    → ReadsAny Gives r (index_part r s) (PartReadable (index_part r s)) (index_items r s) result
 indices_whole {Gives = Gives} {r = r} {result = result} s v offset count meaning at o n is h =
-    let same : index_size meaning ≡ stored_size s.indices = size_is s.indices.component_type meaning is in
-    let sized : ReadsPart Gives r (little_number (stored_size s.indices)) (part_of v offset count (stored_size s.indices)) result = subst (λ size. ReadsPart Gives r (little_number size) (part_of v offset count size) result) same h in
-    whole (index_part r s) (index_part_is r s v offset count (stored_size s.indices) at o n refl) sized
+    let same : index_size meaning ≡ stored_size s.indices =
+    size_is s.indices.component_type meaning is in
+    let sized : ReadsPart Gives r (little_number (stored_size s.indices))
+    (part_of v offset count (stored_size s.indices)) result =
+    subst (λ size. ReadsPart Gives r (little_number size) (part_of v offset count size) result)
+    same h in
+    whole (index_part r s) (index_part_is r s v offset count (stored_size s.indices) at o n refl)
+    sized

@@ -1,6 +1,8 @@
--- Where the items of an accessor stand in the bytes of buffers, and which accessors can be read (glTF 2.0, section
--- 3.6.2, "Accessors", and 3.6.2.4, "Data Alignment").
-use Rattle.std.specs.Prelude.{◌≡◌, ℕ, ◌+◌, ◌-◌, ◌*◌, ◌<◌, ◌≤◌, List, [], length, drop, map, slice_get, Option, Some, None, unwrap_or, option_and_then}
+-- Where the items of an accessor stand in the bytes of buffers, and which accessors can be read
+-- (glTF 2.0, section 3.6.2, "Accessors", and 3.6.2.4, "Data Alignment", but for the columns of
+-- small matrices).
+use Rattle.std.specs.Prelude.{◌≡◌, ℕ, ◌+◌, ◌-◌, ◌*◌, ◌<◌, ◌≤◌, List, [], length, drop, map}
+use Rattle.std.specs.Prelude.{slice_get, Option, Some, None, unwrap_or, option_and_then}
 use Rattle.std.specs.List.{range_with_len}
 use Rattle.std.specs.Option.{option_map}
 use Rattle.byteorder.specs.Endian.{little_number}
@@ -23,7 +25,8 @@ pub record Part : Type 0 where
 abbrev pub part_of : View → ℕ → ℕ → ℕ → Part
 part_of v o n size = record { view = v; offset = o; count = n; size = size }
 
--- the distance from item to item: the view's stride, or the size of an item where that is absent or 0
+-- the distance from item to item: the view's stride, or the size of an item where that is absent or
+-- 0
 abbrev pub stride : View → ℕ → ℕ
 stride v size = unwrap_or (above_zero v.byte_stride) size
 
@@ -61,15 +64,21 @@ view_at r i = slice_get r.buffer_views.items i
 
 -- its items, where it has a view
 abbrev pub base_part : ℕ → Root → Accessor → Option Part
-base_part size r a = option_map (λ v. part_of v (unwrap_or a.byte_offset 0) a.count size) (option_and_then (view_at r) a.buffer_view)
+base_part size r a =
+    option_map (λ v. part_of v (unwrap_or a.byte_offset 0) a.count size)
+    (option_and_then (view_at r) a.buffer_view)
 
 -- the stored indices
 abbrev pub index_part : Root → Sparse → Option Part
-index_part r s = option_map (λ v. part_of v s.indices.byte_offset s.count (stored_size s.indices)) (view_at r s.indices.buffer_view)
+index_part r s =
+    option_map (λ v. part_of v s.indices.byte_offset s.count (stored_size s.indices))
+    (view_at r s.indices.buffer_view)
 
 -- the values at these
 abbrev pub value_part : ℕ → Root → Sparse → Option Part
-value_part size r s = option_map (λ v. part_of v s.values.byte_offset s.count size) (view_at r s.values.buffer_view)
+value_part size r s =
+    option_map (λ v. part_of v s.values.byte_offset s.count size)
+    (view_at r s.values.buffer_view)
 
 -- the bytes that were answered for the buffers of the three parts
 pub record Answers : Type 0 where
@@ -88,7 +97,8 @@ abbrev pub BaseReadable : ℕ → Option Part → Option (List ℕ) → Type 0
 BaseReadable count None bytes = 0 < count
 BaseReadable count (Some p) bytes = FitsIn p bytes
 
-pub record SparseReadable (size : ℕ) (r : Root) (a : Accessor) (s : Sparse) (o : Answers) : Type 0 where
+pub record SparseReadable (size : ℕ) (r : Root) (a : Accessor) (s : Sparse)
+    (o : Answers) : Type 0 where
   pub base : BaseReadable a.count (base_part size r a) o.base
   pub indices : PartReadable (index_part r s) o.indices
   pub values : PartReadable (value_part size r s) o.values
@@ -108,7 +118,8 @@ abbrev pub part_items : {X : Type 0} → (List ℕ → X) → Option Part → Op
 part_items value None bytes = []
 part_items value (Some p) bytes = items_in value p bytes
 
-abbrev pub base_items : {X : Type 0} → (List ℕ → X) → Option Part → Option (List ℕ) → Option (List X)
+abbrev pub base_items : {X : Type 0} → (List ℕ → X) → Option Part → Option (List ℕ)
+    → Option (List X)
 base_items value None bytes = None
 base_items value (Some p) bytes = Some (items_in value p bytes)
 
@@ -117,10 +128,12 @@ index_items r s bytes = part_items (little_number (stored_size s.indices)) (inde
 
 abbrev pub items_with : {X : Type 0} → Ghosts X → Root → Accessor → Option Sparse → Answers → List X
 items_with t r a None o = part_items t.value (base_part t.size r a) o.base
-items_with t r a (Some s) o = sparse t.zero_item (base_items t.value (base_part t.size r a) o.base) a.count (index_items r s o.indices) (part_items t.value (value_part t.size r s) o.values)
+items_with t r a (Some s) o =
+    sparse t.zero_item (base_items t.value (base_part t.size r a) o.base) a.count
+    (index_items r s o.indices) (part_items t.value (value_part t.size r s) o.values)
 
--- the items of an accessor: those at its addresses, and where it has a sparse part these with the values in place of
--- some of them
+-- the items of an accessor: those at its addresses, and where it has a sparse part these with the
+-- values in place of some of them
 abbrev pub items : {X : Type 0} → Ghosts X → Root → Accessor → Answers → List X
 items t r a o = items_with t r a a.sparse o
 

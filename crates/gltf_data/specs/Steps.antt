@@ -1,6 +1,6 @@
 -- The same as in `Walk`, told by the items that are left.
-use Rattle.std.specs.Prelude.{◌≡◌, ℕ, ◌+◌, ◌-◌, ◌≤◌, List, [], ◌∷◌, length, drop, slice_get}
-use Rattle.gltf_items.specs.Counted.{Counted}
+use Rattle.std.specs.Prelude.{◌≡◌, ℕ, ◌+◌, ◌-◌, ◌≤◌, List, length, drop, slice_get}
+use Rattle.gltf_items.specs.Counted.{CountedItems}
 use Rattle.gltf_data.specs.declared.walk.Step.{Step}
 use Rattle.gltf_data.specs.declared.walk.Step.TheVariants.{Next, Nth, Len}
 use Rattle.gltf_data.specs.declared.walk.End.{End}
@@ -20,21 +20,14 @@ after_step left Next = drop 1 left
 after_step left (Nth n) = drop (n + 1) left
 after_step left Len = left
 
-abbrev pub answers_of : {X : Type 0} → List X → List Step → List (Answer X)
-answers_of left [] = []
-answers_of left (step ∷ steps) = answer_of left step ∷ answers_of (after_step left step) steps
-
-abbrev pub after_steps : {X : Type 0} → List X → List Step → List X
-after_steps left [] = left
-after_steps left (step ∷ steps) = after_steps (after_step left step) steps
-
 abbrev pub end_of : {X : Type 0} → List X → End → outcome.Ended X
 end_of left Last = outcomes.Last (slice_get left (length left - 1))
 end_of left Count = outcomes.Count (length left)
 end_of left Stop = outcomes.Stopped
 
--- from the one to the other at most so many indices were read, and so many items of the base and values
-pub record Takes {X : Type 0} (old new : Counted X) (indices items : ℕ) : Type 0 where
+-- from the one to the other at most so many indices were read, and so many items of the base and
+-- values
+pub record Takes {X : Type 0} (old new : CountedItems X) (indices items : ℕ) : Type 0 where
   pub stored : new.stored ≡ old.stored
   pub index_reads : new.index_reads ≤ old.index_reads + indices
   pub base_reads : new.base_reads ≤ old.base_reads + items

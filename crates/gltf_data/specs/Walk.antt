@@ -1,5 +1,6 @@
 -- What a walk over a list of items answers, by a position in the list.
-use Rattle.std.specs.Prelude.{ℕ, ◌+◌, ◌-◌, nat_lt, min, if◌then◌else◌, List, [], ◌∷◌, length, sum_by, slice_get, None}
+use Rattle.std.specs.Prelude.{ℕ, ◌+◌, ◌-◌, nat_lt, min, if◌then◌else◌, List, [], ◌∷◌, length}
+use Rattle.std.specs.Prelude.{sum_by, slice_get, None}
 use Rattle.gltf_items.specs.Sparse.{digits}
 use Rattle.gltf_data.specs.declared.walk.Step.{Step}
 use Rattle.gltf_data.specs.declared.walk.Step.TheVariants.{Next, Nth, Len}
@@ -25,16 +26,20 @@ behind items position Len = position
 -- what all steps answer
 abbrev pub all_answers : {X : Type 0} → List X → ℕ → List Step → List (Answer X)
 all_answers items position [] = []
-all_answers items position (step ∷ steps) = answer items position step ∷ all_answers items (behind items position step) steps
+all_answers items position (step ∷ steps) =
+    answer items position step ∷ all_answers items (behind items position step) steps
 
 -- the position behind all steps
 abbrev pub position_after : {X : Type 0} → List X → ℕ → List Step → ℕ
 position_after items position [] = position
-position_after items position (step ∷ steps) = position_after items (behind items position step) steps
+position_after items position (step ∷ steps) =
+    position_after items (behind items position step) steps
 
 -- what the end answers at a position
 abbrev pub end_answer : {X : Type 0} → List X → ℕ → End → outcome.Ended X
-end_answer items position Last = outcomes.Last (if nat_lt position (length items) then slice_get items (length items - 1) else None)
+end_answer items position Last =
+    outcomes.Last
+    (if nat_lt position (length items) then slice_get items (length items - 1) else None)
 end_answer items position Count = outcomes.Count (length items - position)
 end_answer items position Stop = outcomes.Stopped
 

@@ -2,9 +2,9 @@
 
 ghost use Rattle.std.specs.Prelude.{◌≡◌, ◌+◌, ◌-◌, ◌*◌, ◌^◌, ◌<◌, take, drop, SomeIff};
 ghost use Rattle.std.specs.Option.{option_copied, option_map};
-ghost use Rattle.gltf_handles.specs.Buffers.{shown_view};
+ghost use Rattle.gltf_handles.specs.Buffers.{view_handle};
 ghost use Rattle.gltf_items.specs.ItemIter.{items_left};
-ghost use Rattle.gltf_data.specs.Answers.{Answered, ReadsPart};
+ghost use Rattle.gltf_data.specs.Answers.{IsAnswered, ReadsPart};
 ghost use Rattle.gltf_data.specs.Parts.{Fits, part_of, stride, view_offset};
 
 use gltf_handles::buffer::{Buffer, View};
@@ -14,14 +14,15 @@ use gltf_items::{Item, ItemIter};
 /// What the closure gives for a view's buffer.
 fn ask<'s, F: Fn(Buffer) -> Option<&'s [u8]>>(view: View, get_buffer_data: &F) -> Option<&'s [u8]>
     requires { F.IsAlwaysCallable get_buffer_data.now }
-    ensures { Answered (λ b o. F.post get_buffer_data.now b o) (shown_view view.entry).document (shown_view view.entry).json.buffer (option_copied result) }
+    ensures { IsAnswered (λ b o. F.post get_buffer_data.now b o) (view_handle view.entry).document
+        (view_handle view.entry).json.buffer (option_copied result) }
 {
     get_buffer_data(view.buffer())
 }
 
 /// The view's stride, or the size of an item.
 fn stride_of(view: View, size: usize) -> usize
-    ensures { result ≡ stride (shown_view view.entry).json size }
+    ensures { result ≡ stride (view_handle view.entry).json size }
 {
     view.stride().unwrap_or(size)
 }
@@ -43,9 +44,9 @@ fn cut<'s>(
     size: usize,
 ) -> Option<&'s [u8]>
     ensures { SomeIff (option_copied result)
-        (Fits (part_of (shown_view view.entry).json offset count size) bytes.entry.now)
-        (take (stride (shown_view view.entry).json size * (count - 1) + size)
-        (drop (view_offset (shown_view view.entry).json + offset) bytes.entry.now)) }
+        (Fits (part_of (view_handle view.entry).json offset count size) bytes.entry.now)
+        (take (stride (view_handle view.entry).json size * (count - 1) + size)
+        (drop (view_offset (view_handle view.entry).json + offset) bytes.entry.now)) }
 {
     let stride = stride_of(view, size);
     if count == 0 || stride < size {
@@ -73,8 +74,9 @@ pub(crate) fn items<'s, T: Item, F: Fn(Buffer) -> Option<&'s [u8]>>(
 ) -> Option<ItemIter<'s, T>>
     requires callable { F.IsAlwaysCallable get_buffer_data.now }
     requires fits { T.size < usize.MAX }
-    ensures { ReadsPart (λ b o. F.post get_buffer_data.now b o) (shown_view view.entry).document T.value
-        (part_of (shown_view view.entry).json offset count T.size) (option_map items_left result) }
+    ensures { ReadsPart (λ b o. F.post get_buffer_data.now b o)
+        (view_handle view.entry).document T.value
+        (part_of (view_handle view.entry).json offset count T.size) (option_map items_left result) }
 {
     // A law that the proof stands on; the call does nothing.
     items_of_a_cut::<T>();

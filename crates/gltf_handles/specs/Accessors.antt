@@ -12,28 +12,28 @@ use Rattle.gltf_handles.specs.declared.accessor.sparse.Values.{Values}
 use Rattle.gltf_handles.specs.Handle.{Handle, IsAt, Inner, IsIn}
 
 -- what they show
-abbrev pub shown_accessor : Accessor → Handle AccessorRecord
-shown_accessor a = record { document = a.document.now; index = a.index; json = a.json.now }
+abbrev pub accessor_handle : Accessor → Handle AccessorRecord
+accessor_handle a = record { document = a.document.now; index = a.index; json = a.json.now }
 
-abbrev pub shown_sparse : Sparse → Inner SparseRecord
-shown_sparse s = record { document = s.document.now; json = s.json.now }
+abbrev pub sparse_handle : Sparse → Inner SparseRecord
+sparse_handle s = record { document = s.document.now; json = s.json.now }
 
-abbrev pub shown_indices : Indices → Inner IndicesRecord
-shown_indices i = record { document = i.document.now; json = i.json.now }
+abbrev pub indices_handle : Indices → Inner IndicesRecord
+indices_handle i = record { document = i.document.now; json = i.json.now }
 
-abbrev pub shown_values : Values → Inner ValuesRecord
-shown_values v = record { document = v.document.now; json = v.json.now }
+abbrev pub values_handle : Values → Inner ValuesRecord
+values_handle v = record { document = v.document.now; json = v.json.now }
 
 -- the handle of accessor i of a document
 abbrev pub IsAccessor : Root → ℕ → Accessor → Type 0
-IsAccessor r i a = IsAt r.accessors.items r i (shown_accessor a)
+IsAccessor r i a = IsAt r.accessors.items r i (accessor_handle a)
 
 -- the handle of a sparse part, of its indices and of its values, by their records
 abbrev pub IsSparse : Root → SparseRecord → Sparse → Type 0
-IsSparse r x s = IsIn r x (shown_sparse s)
+IsSparse r x s = IsIn r x (sparse_handle s)
 
 abbrev pub IsIndices : Root → IndicesRecord → Indices → Type 0
-IsIndices r x i = IsIn r x (shown_indices i)
+IsIndices r x i = IsIn r x (indices_handle i)
 
 abbrev pub IsValues : Root → ValuesRecord → Values → Type 0
-IsValues r x v = IsIn r x (shown_values v)
+IsValues r x v = IsIn r x (values_handle v)

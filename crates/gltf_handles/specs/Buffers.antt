@@ -10,19 +10,19 @@ use Rattle.gltf_handles.specs.declared.buffer.Source.TheVariants.{Bin, Uri}
 use Rattle.gltf_handles.specs.Handle.{Handle, IsAt}
 
 -- what they show
-abbrev pub shown_buffer : Buffer → Handle BufferRecord
-shown_buffer b = record { document = b.document.now; index = b.index; json = b.json.now }
+abbrev pub buffer_handle : Buffer → Handle BufferRecord
+buffer_handle b = record { document = b.document.now; index = b.index; json = b.json.now }
 
-abbrev pub shown_view : View → Handle ViewRecord
-shown_view v = record { document = v.document.now; index = v.index; json = v.json.now }
+abbrev pub view_handle : View → Handle ViewRecord
+view_handle v = record { document = v.document.now; index = v.index; json = v.json.now }
 
 -- the handle of buffer i of a document
 abbrev pub IsBuffer : Root → ℕ → Buffer → Type 0
-IsBuffer r i b = IsAt r.buffers.items r i (shown_buffer b)
+IsBuffer r i b = IsAt r.buffers.items r i (buffer_handle b)
 
 -- the handle of view i of a document
 abbrev pub IsView : Root → ℕ → View → Type 0
-IsView r i v = IsAt r.buffer_views.items r i (shown_view v)
+IsView r i v = IsAt r.buffer_views.items r i (view_handle v)
 
 -- the URI of a source, where it is one
 abbrev pub uri_of : Source → Option (List ℕ)

@@ -15,8 +15,8 @@ abbrev pub text : Option (String Global) → Option (List ℕ)
 text o = option_map string_bytes o
 
 -- the extensions of a record that knows none
-abbrev pub unknown : Option Others → Option (BTreeMap (String Global) Value)
-unknown o = option_map (λ e. e.others) o
+abbrev pub unknown_extensions : Option Others → Option (BTreeMap (String Global) Value)
+unknown_extensions o = option_map (λ e. e.others) o
 
 -- a number, where it is there and above 0
 abbrev pub above_zero : Option ℕ → Option ℕ

@@ -9,7 +9,8 @@ use Rattle.gltf_json_geometry.specs.declared.accessor.sparse.Indices.{Indices}
 use Rattle.gltf_handles.specs.declared.accessor.DataType.{DataType}
 use Rattle.gltf_handles.specs.declared.accessor.DataType.TheVariants.{I8, U8, I16, U16, U32, F32}
 use Rattle.gltf_handles.specs.declared.accessor.Dimensions.{Dimensions}
-use Rattle.gltf_handles.specs.declared.accessor.Dimensions.TheVariants.{Scalar, Vec2, Vec3, Vec4, Mat2, Mat3, Mat4}
+use Rattle.gltf_handles.specs.declared.accessor.Dimensions.TheVariants.{Scalar, Vec2, Vec3, Vec4}
+use Rattle.gltf_handles.specs.declared.accessor.Dimensions.TheVariants.{Mat2, Mat3, Mat4}
 use Rattle.gltf_handles.specs.declared.accessor.sparse.IndexType.{IndexType}
 use Rattle.gltf_handles.specs.declared.accessor.sparse.IndexType.TheVariants as stored
 
@@ -19,9 +20,9 @@ Means meaning Invalid m = ⊥
 Means meaning (Valid c) m = m ≡ meaning c
 
 -- what a table gives for a code, or 0 where the code is in none
-abbrev pub coded : {C : Type 0} → (C → ℕ) → Checked C → ℕ
-coded table Invalid = 0
-coded table (Valid c) = table c
+abbrev pub code_of : {C : Type 0} → (C → ℕ) → Checked C → ℕ
+code_of table Invalid = 0
+code_of table (Valid c) = table c
 
 abbrev pub data_type : code.ComponentType → DataType
 data_type code.TheVariants.I8 = I8
@@ -61,9 +62,12 @@ multiplicity Mat4 = 16
 
 -- the bytes of an item
 abbrev pub item_size : Accessor → ℕ
-item_size a = coded (λ c. component_size (data_type c)) a.component_type * coded (λ c. multiplicity (dimensions c)) a.type_
+item_size a =
+    code_of (λ c. component_size (data_type c)) a.component_type
+    * code_of (λ c. multiplicity (dimensions c)) a.type_
 
--- the type of stored indices: every code but the first two is the third, since rules let no other stand
+-- the type of stored indices: every code but the first two is the third, since rules let no other
+-- stand
 abbrev pub index_type : code.ComponentType → IndexType
 index_type code.TheVariants.U8 = stored.U8
 index_type code.TheVariants.U16 = stored.U16
@@ -76,4 +80,4 @@ index_size stored.U16 = 2
 index_size stored.U32 = 4
 
 abbrev pub stored_size : Indices → ℕ
-stored_size i = coded (λ c. index_size (index_type c)) i.component_type
+stored_size i = code_of (λ c. index_size (index_type c)) i.component_type

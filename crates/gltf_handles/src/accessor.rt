@@ -5,7 +5,7 @@ pub mod sparse;
 ghost use Rattle.std.specs.Prelude.{◌≡◌, ◌<◌, ◌≤◌, length, unwrap_or};
 ghost use Rattle.std.specs.BTreeMap.{get_by_text};
 ghost use Rattle.std.specs.Option.{option_copied, option_and_then};
-ghost use Rattle.gltf_handles.specs.Members.{text, unknown, Follows};
+ghost use Rattle.gltf_handles.specs.Members.{text, unknown_extensions, Follows};
 ghost use Rattle.gltf_validation.specs.Accessors.{accessor_rules};
 ghost use Rattle.gltf_validation.specs.Documents.{counts_of};
 ghost use Rattle.gltf_validation.specs.Rules.{Hold, Hold-prop};
@@ -135,7 +135,7 @@ pub struct Accessor<'a> {
 impl<'a> Accessor<'a> {
     ghost use Rattle.gltf_handles.specs.Buffers.{IsView};
     ghost use Rattle.gltf_handles.specs.Sizes.{data_type, dimensions, item_size, Means};
-    ghost use Rattle.gltf_handles.specs.Accessors.{shown_accessor, IsAccessor, IsSparse};
+    ghost use Rattle.gltf_handles.specs.Accessors.{accessor_handle, IsAccessor, IsSparse};
 
     /// The accessor at an index below the number of accessors.
     pub fn new(document: &'a Valid, index: usize) -> Self
@@ -151,14 +151,15 @@ impl<'a> Accessor<'a> {
 
     /// The position among the accessors of the document.
     pub fn index(&self) -> usize
-        ensures { result ≡ (shown_accessor self.now).index }
+        ensures { result ≡ (accessor_handle self.now).index }
     {
         self.index
     }
 
-    /// The bytes of an item: those of a component, times the components. Columns of matrices are not padded. At most 64.
+    /// The bytes of an item: those of a component, times the components. Columns of matrices are
+    /// not padded. At most 64.
     pub fn size(&self) -> usize
-        ensures gives { result ≡ item_size (shown_accessor self.now).json }
+        ensures gives { result ≡ item_size (accessor_handle self.now).json }
         ensures small { result ≤ 64 }
     {
         self.data_type().size() * self.dimensions().multiplicity()
@@ -166,29 +167,32 @@ impl<'a> Accessor<'a> {
 
     /// The view that the items stand in. A sparse accessor may have none: then they are zeros.
     pub fn view(&self) -> Option<View<'a>>
-        ensures { Follows (IsView (shown_accessor self.now).document) (shown_accessor self.now).json.buffer_view result }
+        ensures { Follows (IsView (accessor_handle self.now).document)
+            (accessor_handle self.now).json.buffer_view result }
     {
         let index = self.json.buffer_view?;
         Some(View::new(self.document, index.value()))
     }
 
-    /// The distance in bytes from the start of the view to the first item: `byteOffset`, 0 where that is absent.
+    /// The distance in bytes from the start of the view to the first item: `byteOffset`, 0 where
+    /// that is absent.
     pub fn offset(&self) -> usize
-        ensures { result ≡ unwrap_or (shown_accessor self.now).json.byte_offset 0 }
+        ensures { result ≡ unwrap_or (accessor_handle self.now).json.byte_offset 0 }
     {
         self.json.byte_offset.unwrap_or(0) as usize
     }
 
-    /// The number of items.
+    /// The number of items. Of a sparse accessor without a view it may be up to 2^64 - 1, whatever
+    /// the size of the file: ask before you make room for them.
     pub fn count(&self) -> usize
-        ensures { result ≡ (shown_accessor self.now).json.count }
+        ensures { result ≡ (accessor_handle self.now).json.count }
     {
         self.json.count as usize
     }
 
     /// The type of each component: `componentType`.
     pub fn data_type(&self) -> DataType
-        ensures { Means data_type (shown_accessor self.now).json.component_type result }
+        ensures { Means data_type (accessor_handle self.now).json.component_type result }
     {
         match self.json.component_type {
             Checked::Valid(code) => DataType::from(code),
@@ -198,7 +202,7 @@ impl<'a> Accessor<'a> {
 
     /// The components of an item: `type`.
     pub fn dimensions(&self) -> Dimensions
-        ensures { Means dimensions (shown_accessor self.now).json.type_ result }
+        ensures { Means dimensions (accessor_handle self.now).json.type_ result }
     {
         match self.json.type_ {
             Checked::Valid(code) => Dimensions::from(code),
@@ -208,66 +212,64 @@ impl<'a> Accessor<'a> {
 
     /// The least value of each component, as it stands: `min`.
     pub fn min(&self) -> Option<&'a Value>
-        ensures { option_copied result ≡ (shown_accessor self.now).json.min }
+        ensures { option_copied result ≡ (accessor_handle self.now).json.min }
     {
         self.json.min.as_ref()
     }
 
     /// The greatest value of each component, as it stands: `max`.
     pub fn max(&self) -> Option<&'a Value>
-        ensures { option_copied result ≡ (shown_accessor self.now).json.max }
+        ensures { option_copied result ≡ (accessor_handle self.now).json.max }
     {
         self.json.max.as_ref()
     }
 
     /// The name given by the user.
     pub fn name(&self) -> Option<&'a str>
-        ensures { option_copied result ≡ text (shown_accessor self.now).json.name }
+        ensures { option_copied result ≡ text (accessor_handle self.now).json.name }
     {
-        match &self.json.name {
-            Some(name) => Some(name.as_str()),
-            None => None,
-        }
+        let name = self.json.name.as_ref()?;
+        Some(name.as_str())
     }
 
     /// Whether whole numbers stand for fractions: `normalized`, false where that is absent.
     pub fn normalized(&self) -> bool
-        ensures { result ≡ (shown_accessor self.now).json.normalized }
+        ensures { result ≡ (accessor_handle self.now).json.normalized }
     {
         self.json.normalized
     }
 
     /// The items that differ from those of the view.
     pub fn sparse(&self) -> Option<Sparse<'a>>
-        ensures { Follows (IsSparse (shown_accessor self.now).document) (shown_accessor self.now).json.sparse result }
+        ensures { Follows (IsSparse (accessor_handle self.now).document)
+            (accessor_handle self.now).json.sparse result }
     {
-        match &self.json.sparse {
-            Some(json) => Some(Sparse::new(self.document, json)),
-            None => None,
-        }
+        let json = self.json.sparse.as_ref()?;
+        Some(Sparse::new(self.document, json))
     }
 
-    /// The extensions, none of which is known at an accessor; None where there is no member `extensions`.
+    /// The extensions, none of which is known at an accessor; None where there is no member
+    /// `extensions`.
     pub fn extensions(&self) -> Option<&'a Map<String, Value>>
-        ensures { option_copied result ≡ unknown (shown_accessor self.now).json.extensions }
+        ensures { option_copied result ≡ unknown_extensions
+            (accessor_handle self.now).json.extensions }
     {
-        match &self.json.extensions {
-            Some(extensions) => Some(&extensions.others),
-            None => None,
-        }
+        let extensions = self.json.extensions.as_ref()?;
+        Some(&extensions.others)
     }
 
     /// The extension of this name.
     pub fn extension_value(&self, name: &str) -> Option<&'a Value>
         ensures { option_copied result
-            ≡ option_and_then (λ m. get_by_text m name.now) (unknown (shown_accessor self.now).json.extensions) }
+            ≡ option_and_then (λ m. get_by_text m name.now)
+            (unknown_extensions (accessor_handle self.now).json.extensions) }
     {
         self.extensions()?.get(name)
     }
 
     /// What the application stores here: `extras`.
     pub fn extras(&self) -> Option<&'a Value>
-        ensures { option_copied result ≡ (shown_accessor self.now).json.extras }
+        ensures { option_copied result ≡ (accessor_handle self.now).json.extras }
     {
         self.json.extras.as_ref()
     }

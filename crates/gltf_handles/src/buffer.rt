@@ -3,7 +3,7 @@
 ghost use Rattle.std.specs.Prelude.{◌≡◌, ◌<◌, length, unwrap_or};
 ghost use Rattle.std.specs.BTreeMap.{get_by_text};
 ghost use Rattle.std.specs.Option.{option_copied, option_and_then};
-ghost use Rattle.gltf_handles.specs.Members.{text, unknown, Follows, IsCode, above_zero};
+ghost use Rattle.gltf_handles.specs.Members.{text, unknown_extensions, Follows, IsCode, above_zero};
 ghost use Rattle.gltf_validation.specs.Buffers.{view_rules};
 ghost use Rattle.gltf_validation.specs.Documents.{counts_of};
 ghost use Rattle.gltf_validation.specs.Rules.{Hold, Hold-prop};
@@ -31,7 +31,7 @@ pub enum Source<'a> {
 }
 
 impl<'a> Buffer<'a> {
-    ghost use Rattle.gltf_handles.specs.Buffers.{shown_buffer, IsBuffer, uri_of};
+    ghost use Rattle.gltf_handles.specs.Buffers.{buffer_handle, IsBuffer, uri_of};
 
     /// The buffer at an index below the number of buffers.
     pub fn new(document: &'a Valid, index: usize) -> Self
@@ -47,14 +47,14 @@ impl<'a> Buffer<'a> {
 
     /// The position among the buffers of the document.
     pub fn index(&self) -> usize
-        ensures { result ≡ (shown_buffer self.now).index }
+        ensures { result ≡ (buffer_handle self.now).index }
     {
         self.index
     }
 
     /// Where the bytes come from: `uri` where it is there, else the binary chunk.
     pub fn source(&self) -> Source<'a>
-        ensures { uri_of result ≡ text (shown_buffer self.now).json.uri }
+        ensures { uri_of result ≡ text (buffer_handle self.now).json.uri }
     {
         match &self.json.uri {
             Some(uri) => Source::Uri(uri.as_str()),
@@ -64,42 +64,41 @@ impl<'a> Buffer<'a> {
 
     /// The length in bytes: `byteLength`.
     pub fn length(&self) -> usize
-        ensures { result ≡ (shown_buffer self.now).json.byte_length }
+        ensures { result ≡ (buffer_handle self.now).json.byte_length }
     {
         self.json.byte_length as usize
     }
 
     /// The name given by the user.
     pub fn name(&self) -> Option<&'a str>
-        ensures { option_copied result ≡ text (shown_buffer self.now).json.name }
+        ensures { option_copied result ≡ text (buffer_handle self.now).json.name }
     {
-        match &self.json.name {
-            Some(name) => Some(name.as_str()),
-            None => None,
-        }
+        let name = self.json.name.as_ref()?;
+        Some(name.as_str())
     }
 
-    /// The extensions, none of which is known at a buffer; None where there is no member `extensions`.
+    /// The extensions, none of which is known at a buffer; None where there is no member
+    /// `extensions`.
     pub fn extensions(&self) -> Option<&'a Map<String, Value>>
-        ensures { option_copied result ≡ unknown (shown_buffer self.now).json.extensions }
+        ensures { option_copied result ≡ unknown_extensions
+            (buffer_handle self.now).json.extensions }
     {
-        match &self.json.extensions {
-            Some(extensions) => Some(&extensions.others),
-            None => None,
-        }
+        let extensions = self.json.extensions.as_ref()?;
+        Some(&extensions.others)
     }
 
     /// The extension of this name.
     pub fn extension_value(&self, name: &str) -> Option<&'a Value>
         ensures { option_copied result
-            ≡ option_and_then (λ m. get_by_text m name.now) (unknown (shown_buffer self.now).json.extensions) }
+            ≡ option_and_then (λ m. get_by_text m name.now)
+            (unknown_extensions (buffer_handle self.now).json.extensions) }
     {
         self.extensions()?.get(name)
     }
 
     /// What the application stores here: `extras`.
     pub fn extras(&self) -> Option<&'a Value>
-        ensures { option_copied result ≡ (shown_buffer self.now).json.extras }
+        ensures { option_copied result ≡ (buffer_handle self.now).json.extras }
     {
         self.json.extras.as_ref()
     }
@@ -115,7 +114,7 @@ pub struct View<'a> {
 }
 
 impl<'a> View<'a> {
-    ghost use Rattle.gltf_handles.specs.Buffers.{shown_view, IsBuffer, IsView};
+    ghost use Rattle.gltf_handles.specs.Buffers.{view_handle, IsBuffer, IsView};
 
     /// The view at an index below the number of views.
     pub fn new(document: &'a Valid, index: usize) -> Self
@@ -131,35 +130,37 @@ impl<'a> View<'a> {
 
     /// The position among the views of the document.
     pub fn index(&self) -> usize
-        ensures { result ≡ (shown_view self.now).index }
+        ensures { result ≡ (view_handle self.now).index }
     {
         self.index
     }
 
     /// The buffer that it is a slice of.
     pub fn buffer(&self) -> Buffer<'a>
-        ensures { IsBuffer (shown_view self.now).document (shown_view self.now).json.buffer result }
+        ensures { IsBuffer (view_handle self.now).document
+            (view_handle self.now).json.buffer result }
     {
         Buffer::new(self.document, self.json.buffer.value())
     }
 
     /// The length in bytes: `byteLength`.
     pub fn length(&self) -> usize
-        ensures { result ≡ (shown_view self.now).json.byte_length }
+        ensures { result ≡ (view_handle self.now).json.byte_length }
     {
         self.json.byte_length as usize
     }
 
     /// The distance in bytes from the start of the buffer: `byteOffset`, 0 where that is absent.
     pub fn offset(&self) -> usize
-        ensures { result ≡ unwrap_or (shown_view self.now).json.byte_offset 0 }
+        ensures { result ≡ unwrap_or (view_handle self.now).json.byte_offset 0 }
     {
         self.json.byte_offset.unwrap_or(0) as usize
     }
 
-    /// The distance in bytes from item to item: `byteStride`. None where that is absent or 0: items are packed.
+    /// The distance in bytes from item to item: `byteStride`. None where that is absent or 0: items
+    /// are packed.
     pub fn stride(&self) -> Option<usize>
-        ensures { result ≡ above_zero (shown_view self.now).json.byte_stride }
+        ensures { result ≡ above_zero (view_handle self.now).json.byte_stride }
     {
         match self.json.byte_stride {
             None | Some(0) => None,
@@ -169,17 +170,15 @@ impl<'a> View<'a> {
 
     /// The name given by the user.
     pub fn name(&self) -> Option<&'a str>
-        ensures { option_copied result ≡ text (shown_view self.now).json.name }
+        ensures { option_copied result ≡ text (view_handle self.now).json.name }
     {
-        match &self.json.name {
-            Some(name) => Some(name.as_str()),
-            None => None,
-        }
+        let name = self.json.name.as_ref()?;
+        Some(name.as_str())
     }
 
     /// What the bytes are for: `target`.
     pub fn target(&self) -> Option<Target>
-        ensures { Follows IsCode (shown_view self.now).json.target result }
+        ensures { Follows IsCode (view_handle self.now).json.target result }
     {
         match self.json.target {
             None => None,
@@ -188,27 +187,27 @@ impl<'a> View<'a> {
         }
     }
 
-    /// The extensions, none of which is known at a view; None where there is no member `extensions`.
+    /// The extensions, none of which is known at a view; None where there is no member
+    /// `extensions`.
     pub fn extensions(&self) -> Option<&'a Map<String, Value>>
-        ensures { option_copied result ≡ unknown (shown_view self.now).json.extensions }
+        ensures { option_copied result ≡ unknown_extensions (view_handle self.now).json.extensions }
     {
-        match &self.json.extensions {
-            Some(extensions) => Some(&extensions.others),
-            None => None,
-        }
+        let extensions = self.json.extensions.as_ref()?;
+        Some(&extensions.others)
     }
 
     /// The extension of this name.
     pub fn extension_value(&self, name: &str) -> Option<&'a Value>
         ensures { option_copied result
-            ≡ option_and_then (λ m. get_by_text m name.now) (unknown (shown_view self.now).json.extensions) }
+            ≡ option_and_then (λ m. get_by_text m name.now)
+            (unknown_extensions (view_handle self.now).json.extensions) }
     {
         self.extensions()?.get(name)
     }
 
     /// What the application stores here: `extras`.
     pub fn extras(&self) -> Option<&'a Value>
-        ensures { option_copied result ≡ (shown_view self.now).json.extras }
+        ensures { option_copied result ≡ (view_handle self.now).json.extras }
     {
         self.json.extras.as_ref()
     }

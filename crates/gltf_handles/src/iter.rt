@@ -1,4 +1,5 @@
-//! The lists of a document: each handle of a kind once, in index order; and the names of extensions, as they stand.
+//! The lists of a document: each handle of a kind once, in index order; and the names of
+//! extensions, as they stand.
 
 ghost use Rattle.std.specs.Prelude.{◌≡◌, length, slice_get, Some, map, string_bytes};
 ghost use Rattle.gltf_handles.specs.Accessors.{IsAccessor};
@@ -20,11 +21,12 @@ pub type Views<'a> = List<AllViews<'a>>;
 /// The accessors of a document (glTF 2.0, section 3.6.2, "Accessors").
 pub type Accessors<'a> = List<AllAccessors<'a>>;
 
-/// The names of the extensions that a document uses: `extensionsUsed` (glTF 2.0, section 3.12, "Specifying Extensions").
+/// The names of the extensions that a document uses: `extensionsUsed` (glTF 2.0, section 3.12,
+/// "Specifying Extensions").
 pub type ExtensionsUsed<'a> = List<Texts<'a>>;
 
-/// The names of the extensions without which a document cannot be shown: `extensionsRequired` (glTF 2.0, section 3.12,
-/// "Specifying Extensions").
+/// The names of the extensions without which a document cannot be shown: `extensionsRequired` (glTF
+/// 2.0, section 3.12, "Specifying Extensions").
 pub type ExtensionsRequired<'a> = List<Texts<'a>>;
 
 /// All buffers of a document.

@@ -1,5 +1,5 @@
-//! Handles of the buffers, buffer views and accessors of a valid document, and the lists that handles come in. A handle
-//! borrows its document: it is made, copied and dropped without memory.
+//! Handles of the buffers, buffer views and accessors of a valid document, and the lists that
+//! handles come in. A handle borrows its document: it is made, copied and dropped without memory.
 #![tactic(auto)]
 
 pub mod accessor;

@@ -1,4 +1,5 @@
-//! Lists of handles. Each is a source and a position in it; this module says once how such a list is walked.
+//! Lists of handles. Each is a source and a position in it; this module says once how such a list
+//! is walked.
 
 ghost use Rattle.std.specs.Prelude.{◌≡◌, ◌≤◌, ◌<◌, Some, IfSome, length, ⊤};
 ghost use Rattle.std.specs.Iterator.{at_most, UpTo};

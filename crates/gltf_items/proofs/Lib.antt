@@ -1,3 +1,4 @@
+pub mod PlainLemmas
 pub mod Lefts
 pub mod Fronts
 pub mod Overridden

@@ -15,7 +15,8 @@ pub record Stands (indices : List ℕ) (n cursor position : ℕ) : Type 0 where
   pub above : (k : ℕ) → cursor ≤ k → k < n → position ≤ slice_index indices k
 
 -- what a sparse iterator keeps of its fields
-pub record Keeps {X : Type 0} (stored : StoredLists X) (end front_len cursor position : ℕ) : Type 0 where
+pub record Keeps {X : Type 0} (stored : StoredLists X)
+    (end front_len cursor position : ℕ) : Type 0 where
   pub front_is : front_len ≡ length (front stored.indices stored.values)
   pub end_is : end ≡ total stored.base end
   pub within : position ≤ end

@@ -3,7 +3,6 @@ pub mod AmountFalls
 pub mod Reading
 pub mod ReadingLemmas
 pub mod Plain
-pub mod PlainLemmas
 pub mod ItemIter
 pub mod SparseIndicesIter
 pub mod Sparse

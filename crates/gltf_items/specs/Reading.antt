@@ -1,6 +1,8 @@
--- How an item is read out of bytes. Numbers stand there with their lowest byte first (glTF 2.0, 3.6.1 "Buffers and
--- Buffer Views"), and the components of a vector one behind the other (3.6.2.4 "Data Alignment").
-use Rattle.std.specs.Prelude.{◌≡◌, ℕ, zero, suc, ◌-◌, ◌*◌, ◌^◌, ◌≤◌, min, List, [], ◌∷◌, length, take, drop}
+-- How an item is read out of bytes. Numbers stand there with their lowest byte first (glTF 2.0,
+-- 3.6.1 "Buffers and Buffer Views"), and the components of a vector one behind the other (3.6.2.4
+-- "Data Alignment", but for the columns of small matrices, which are not padded here).
+use Rattle.std.specs.Prelude.{◌≡◌, ℕ, zero, suc, ◌-◌, ◌*◌, ◌^◌, ◌≤◌, min, List, [], ◌∷◌, length}
+use Rattle.std.specs.Prelude.{take, drop}
 
 -- `value` looks at the first n bytes alone
 abbrev pub ReadsFront : {X : Type 0} → ℕ → (List ℕ → X) → Type 0

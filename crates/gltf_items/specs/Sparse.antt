@@ -1,6 +1,8 @@
--- The items of a sparse accessor: those of a base, or zeros without one, and in place of some of them the values
--- (glTF 2.0, 3.6.2.3 "Sparse Accessors", which asks that the indices strictly increase).
-use Rattle.std.specs.Prelude.{ℕ, ◌+◌, ◌==◌, nat_le, if◌then◌else◌, List, [], ◌∷◌, length, take, map, slice_index_or, Option, Some, None, unwrap_or}
+-- The items of a sparse accessor: those of a base, or zeros without one, and in place of some of
+-- them the values (glTF 2.0, 3.6.2.3 "Sparse Accessors", which asks that the indices strictly
+-- increase).
+use Rattle.std.specs.Prelude.{ℕ, ◌+◌, ◌==◌, nat_le, if◌then◌else◌, List, [], ◌∷◌, length, take, map}
+use Rattle.std.specs.Prelude.{slice_index_or, Option, Some, None, unwrap_or}
 use Rattle.std.specs.List.{range_with_len}
 use Rattle.std.specs.Int.Digits.{digits_of}
 
@@ -31,11 +33,13 @@ total (Some items) n = length items
 
 -- item i
 unfoldable pub sparse_item : {X : Type 0} → X → Option (List X) → List ℕ → List X → ℕ → X
-sparse_item nil base indices values i = unwrap_or (over (front indices values) values i) (under nil base i)
+sparse_item nil base indices values i =
+    unwrap_or (over (front indices values) values i) (under nil base i)
 
 -- all items
 unfoldable pub sparse : {X : Type 0} → X → Option (List X) → ℕ → List ℕ → List X → List X
-sparse nil base n indices values = map (sparse_item nil base indices values) (range_with_len 0 (total base n))
+sparse nil base n indices values =
+    map (sparse_item nil base indices values) (range_with_len 0 (total base n))
 
 -- the number of binary digits of n, 0 for 0
 unfoldable pub digits : ℕ → ℕ

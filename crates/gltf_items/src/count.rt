@@ -44,8 +44,8 @@ impl Model for Amount {
     ghost size_decreases = { λ a h. Prim.omega (arith, amount_falls a.made) };
 }
 
-/// A number without limit that only contracts see, as how often something was read. It takes no bytes when the program
-/// runs.
+/// A number without limit that only contracts see, as how often something was read. It takes no
+/// bytes when the program runs.
 #[derive(Drop)]
 pub struct Count {
     made: Snapshot<Amount>,

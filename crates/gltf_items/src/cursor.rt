@@ -1,13 +1,16 @@
-//! The front of the stored indices, those that count, and the cursor in it: how many of them are below a position.
+//! The front of the stored indices, those that count, and the cursor in it: how many of them are
+//! below a position.
 
-ghost use Rattle.std.specs.Prelude.{◌≡◌, ◌≢◌, ℕ, ◌+◌, ◌-◌, ◌<◌, ◌≤◌, length, slice_index, true, false};
+ghost use Rattle.std.specs.Prelude.{◌≡◌, ◌≢◌, ℕ, ◌+◌, ◌-◌, ◌<◌, ◌≤◌, length, slice_index, true};
+ghost use Rattle.std.specs.Prelude.{false};
 ghost use Rattle.gltf_items.specs.Sparse.{front, sparse_item, total, digits};
 ghost use Rattle.gltf_items.specs.Cursor.{Rises, Stands};
 
 use crate::item::Item;
 use crate::stored::Stored;
 
-/// How many stored indices count: the longest strictly increasing beginning, no longer than the values.
+/// How many stored indices count: the longest strictly increasing beginning, no longer than the
+/// values.
 pub(crate) fn front_len<T: Item>(stored: &mut Stored<T>) -> usize
     ensures gives { result ≡ length (front stored.old.indices stored.old.values) }
     ensures counts { stored.new ≡ record stored.old { index_reads = stored.new.index_reads } }
@@ -62,8 +65,10 @@ fn is_here<T: Item>(
     position: usize,
 ) -> bool
     requires { front_len ≤ length stored.old.indices }
-    ensures hit { result ≡ true → (cursor < front_len) × (slice_index stored.old.indices cursor ≡ position) }
-    ensures miss { result ≡ false → cursor < front_len → slice_index stored.old.indices cursor ≢ position }
+    ensures hit { result ≡ true → (cursor < front_len)
+        × (slice_index stored.old.indices cursor ≡ position) }
+    ensures miss { result ≡ false → cursor < front_len
+        → slice_index stored.old.indices cursor ≢ position }
     ensures counts { stored.new ≡ record stored.old { index_reads = stored.new.index_reads } }
     ensures costs { stored.new.index_reads ≤ stored.old.index_reads + 1 }
 {

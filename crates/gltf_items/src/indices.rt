@@ -4,8 +4,8 @@ ghost use Rattle.std.specs.Prelude.{◌≡◌, ◌+◌, ◌-◌, ◌<◌, length
 
 use crate::item_iter::ItemIter;
 
-/// The indices of the items that a sparse accessor replaces, in one of three widths (glTF 2.0, 5.3 "Accessor Sparse
-/// Indices"). Each is given as a `u32`.
+/// The indices of the items that a sparse accessor replaces, in one of three widths (glTF 2.0, 5.3
+/// "Accessor Sparse Indices"). Each is given as a `u32`.
 #[derive(Clone, Debug, Drop)]
 pub enum SparseIndicesIter<'a> {
     /// Indices of one byte.
@@ -42,7 +42,8 @@ impl<'a> SparseIndicesIter<'a> {
         }
     }
 
-    /// Passes over n indices and gives the next one. Past the end it gives none, and nothing is left.
+    /// Passes over n indices and gives the next one. Past the end it gives none, and nothing is
+    /// left.
     pub fn nth(&mut self, n: usize) -> Option<u32>
         ensures gives { result ≡ slice_get (indices_left self.old) n }
         ensures leaves { indices_left self.new ≡ drop (n + 1) (indices_left self.old) }
@@ -56,7 +57,8 @@ impl<'a> SparseIndicesIter<'a> {
 
     /// The last index, if one is left.
     pub fn last(mut self) -> Option<u32>
-        ensures { result ≡ slice_get (indices_left self.entry) (length (indices_left self.entry) - 1) }
+        ensures { result ≡ slice_get (indices_left self.entry)
+            (length (indices_left self.entry) - 1) }
     {
         let len = self.len();
         if len == 0 { None } else { self.nth(len - 1) }
@@ -90,7 +92,10 @@ impl<'a> Iterator for SparseIndicesIter<'a> {
     fn size_hint(&self) -> (usize, Option<usize>)
         ensures lower { IsWithinCount result.0 (at_most (length (indices_left self.now))) }
         ensures upper { IfSome result.1 (UpTo (at_most (length (indices_left self.now)))) }
-        ensures exact { result ≡ (length (indices_left self.now), Some (length (indices_left self.now))) }
+        ensures exact { result ≡ (
+          length (indices_left self.now),
+          Some (length (indices_left self.now)),
+        ) }
     {
         let len = self.len();
         (len, Some(len))

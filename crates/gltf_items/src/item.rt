@@ -1,17 +1,19 @@
 //! What an item is, and the items that accessors hold (glTF 2.0, 3.6.2.2 "Accessor Data Types").
 
-ghost use Rattle.std.specs.Prelude.{◌≡◌, ℕ, ◌+◌, ◌-◌, ◌*◌, ◌<◌, ◌≤◌, ◌^◌, pos, List, [], ◌∷◌, min, length, take, drop, slice_index, replicate};
+ghost use Rattle.std.specs.Prelude.{◌≡◌, ℕ, ◌+◌, ◌-◌, ◌*◌, ◌<◌, ◌≤◌, ◌^◌, pos, List, [], ◌∷◌, min};
+ghost use Rattle.std.specs.Prelude.{length, take, drop, slice_index, replicate};
 ghost use Rattle.std.specs.Int.{w8, w16, cast_signed};
 ghost use Rattle.std.proofs.Common.{arith};
 ghost use Rattle.byteorder.specs.Endian.{little_number};
 ghost use Rattle.gltf_items.specs.Reading.{ReadsFront, in_row, row_size};
-ghost use Rattle.gltf_items.specs.ReadingLemmas.{number-reads_front, of-reads_front, take-reads_front, row-positive, row-reads_front};
+ghost use Rattle.gltf_items.specs.ReadingLemmas.{number-reads_front, of-reads_front};
+ghost use Rattle.gltf_items.specs.ReadingLemmas.{take-reads_front, row-positive, row-reads_front};
 
 use byteorder::{ByteOrder, LE};
 use std::marker::Model;
 
-/// What can be read from the bytes of an accessor. A type of a caller's own may be one: it says how many bytes an item
-/// takes and what these spell, and shows that its own bytes alone decide it.
+/// What can be read from the bytes of an accessor. A type of a caller's own may be one: it says how
+/// many bytes an item takes and what these spell, and shows that its own bytes alone decide it.
 pub trait Item: Drop {
     /// The number of bytes of an item, or the greatest `usize` where that is too small.
     ghost size: { ℕ };
@@ -22,19 +24,20 @@ pub trait Item: Drop {
     /// The item whose numbers are zero.
     ghost zero_item: { Self };
 
-    /// How many bytes an item takes, at least one, or the greatest `usize` where that many do not fit.
+    /// How many bytes an item takes, at least one, or the greatest `usize` where that many do not
+    /// fit.
     fn size() -> usize
         ensures { result ≡ size };
 
-    /// The item that the first `size` bytes of the slice spell, the lowest byte of a number first. The slice has at
-    /// least that many; bytes behind them are not looked at.
+    /// The item that the first `size` bytes of the slice spell, the lowest byte of a number first.
+    /// The slice has at least that many; bytes behind them are not looked at.
     fn from_slice(slice: &[u8]) -> Self
         requires fits { size < usize.MAX }
         requires room { size ≤ length slice.now }
         ensures { result ≡ value slice.now };
 
-    /// The item whose numbers are zero, which a sparse accessor without a view holds (glTF 2.0, 3.6.2.3 "Sparse
-    /// Accessors").
+    /// The item whose numbers are zero, which a sparse accessor without a view holds (glTF 2.0,
+    /// 3.6.2.3 "Sparse Accessors").
     fn zero() -> Self
         ensures { result ≡ zero_item };
 
@@ -78,7 +81,8 @@ impl Item for i8 {
 
     ghost positive = { Prim.omega arith };
 
-    ghost reads_front = { λ _. of-reads_front (cast_signed w8) 1 (little_number 1) (number-reads_front 1) };
+    ghost reads_front = { λ _. of-reads_front (cast_signed w8) 1 (little_number 1)
+        (number-reads_front 1) };
 
     fn size() -> usize {
         1
@@ -126,7 +130,8 @@ impl Item for i16 {
 
     ghost positive = { Prim.omega arith };
 
-    ghost reads_front = { λ _. of-reads_front (cast_signed w16) 2 (little_number 2) (number-reads_front 2) };
+    ghost reads_front = { λ _. of-reads_front (cast_signed w16) 2 (little_number 2)
+        (number-reads_front 2) };
 
     fn size() -> usize {
         2
@@ -165,8 +170,8 @@ impl Item for u32 {
     }
 }
 
-/// Four bytes that spell a number of single precision (glTF 2.0, component type 5126). They are kept as they stand, the
-/// lowest byte first, and two are equal exactly where their bytes are.
+/// Four bytes that spell a number of single precision (glTF 2.0, component type 5126). They are
+/// kept as they stand, the lowest byte first, and two are equal exactly where their bytes are.
 #[derive(Clone, Copy, Debug, PartialEq, Eq)]
 pub struct F32 {
     bytes: [u8; 4],

@@ -6,7 +6,8 @@ use crate::item::Item;
 use std::alloc::AllocError;
 use std::marker::PhantomData;
 
-/// The items that stand in bytes, one at each multiple of a stride (glTF 2.0, 3.6.2.4 "Data Alignment").
+/// The items that stand in bytes, one at each multiple of a stride (glTF 2.0, 3.6.2.4 "Data
+/// Alignment").
 #[derive_where(Debug)]
 pub struct ItemIter<'a, T: Item> {
     bytes: &'a [u8],
@@ -43,8 +44,9 @@ impl<'a, T: Item> ItemIter<'a, T> {
     ghost use Rattle.gltf_items.specs.Plain.{plain};
     ghost use Rattle.gltf_items.specs.ItemIter.{items_left};
 
-    /// The items of a slice: item i stands in the bytes from i strides on, for each i whose bytes are all there. The
-    /// stride is in bytes and at least the size of an item; the last item need not be followed by a whole stride.
+    /// The items of a slice: item i stands in the bytes from i strides on, for each i whose bytes
+    /// are all there. The stride is in bytes and at least the size of an item; the last item need
+    /// not be followed by a whole stride.
     pub fn new(slice: &'a [u8], stride: usize) -> Self
         requires fits { T.size < usize.MAX }
         requires apart { T.size ≤ stride }
@@ -151,7 +153,10 @@ impl<'a, T: Item> Iterator for ItemIter<'a, T> {
     fn size_hint(&self) -> (usize, Option<usize>)
         ensures lower { IsWithinCount result.0 (at_most (length (items_left self.now))) }
         ensures upper { IfSome result.1 (UpTo (at_most (length (items_left self.now)))) }
-        ensures exact { result ≡ (length (items_left self.now), Some (length (items_left self.now))) }
+        ensures exact { result ≡ (
+          length (items_left self.now),
+          Some (length (items_left self.now)),
+        ) }
     {
         let len = self.len();
         (len, Some(len))

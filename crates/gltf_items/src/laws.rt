@@ -1,7 +1,8 @@
-//! Laws of the definitions that the contracts of this crate name. Each function's contract is the law. It needs no
-//! body, but for the equality, which is asked there.
+//! Laws of the definitions that the contracts of this crate name. Each function's contract is the
+//! law. It needs no body, but for the equality, which is asked there.
 
-ghost use Rattle.std.specs.Prelude.{◌≡◌, ℕ, ◌+◌, ◌-◌, ◌*◌, ◌<◌, ◌≤◌, ◌↔◌, IsTrue, List, Option, length, map, take, drop, slice_get, SomeIff};
+ghost use Rattle.std.specs.Prelude.{◌≡◌, ℕ, ◌+◌, ◌-◌, ◌*◌, ◌<◌, ◌≤◌, ◌↔◌, IsTrue, List, Option};
+ghost use Rattle.std.specs.Prelude.{length, map, take, drop, slice_get, SomeIff};
 ghost use Rattle.std.specs.List.{range_with_len};
 ghost use Rattle.gltf_items.specs.Plain.{plain};
 ghost use Rattle.gltf_items.specs.Sparse.{front, total, sparse, sparse_item};
@@ -9,14 +10,16 @@ ghost use Rattle.gltf_items.specs.Laws.{NthIsNext, IsFront, Overrides};
 
 use crate::item::{F32, Item};
 
-/// `nth(n)` answers what the last of n + 1 calls of `next` answers, and leaves what they leave. This holds of every
-/// list, and so of each iterator, whose contracts say that `next` answers the first item of the list that is left and
-/// leaves the others, and `nth` the item at a place and those behind it.
+/// `nth(n)` answers what the last of n + 1 calls of `next` answers, and leaves what they leave.
+/// This holds of every list, and so of each iterator, whose contracts say that `next` answers the
+/// first item of the list that is left and leaves the others, and `nth` the item at a place and
+/// those behind it.
 pub fn nth_is_next<T: Item>()
     ensures { (items : List T) (n : ℕ) → NthIsNext items n }
 {}
 
-/// Item i at the steps of a stride is there exactly where its bytes are, and is what the bytes from i strides on spell.
+/// Item i at the steps of a stride is there exactly where its bytes are, and is what the bytes from
+/// i strides on spell.
 pub fn plain_by_position<T: Item>()
     ensures { (bytes : List ℕ) (stride i : ℕ) → T.size ≤ stride →
         SomeIff (slice_get (plain T.size T.value bytes stride) i)
@@ -24,8 +27,8 @@ pub fn plain_by_position<T: Item>()
         (T.value (drop (i * stride) bytes)) }
 {}
 
-/// Where bytes begin with the first of some items and end with the last one, these are all items there, and each is what
-/// stands so many strides behind the start.
+/// Where bytes begin with the first of some items and end with the last one, these are all items
+/// there, and each is what stands so many strides behind the start.
 pub fn items_of_a_cut<T: Item>()
     requires fits { T.size < usize.MAX }
     ensures { (bytes : List ℕ) (stride start count : ℕ) → T.size ≤ stride → 0 < count
@@ -34,13 +37,15 @@ pub fn items_of_a_cut<T: Item>()
         ≡ map (λ i. T.value (drop (start + i * stride) bytes)) (range_with_len 0 count) }
 {}
 
-/// The stored indices that count are their longest strictly increasing beginning that is no longer than the values.
+/// The stored indices that count are their longest strictly increasing beginning that is no longer
+/// than the values.
 pub fn front_is_longest<T: Item>()
     ensures { (indices : List ℕ) (values : List T) → IsFront indices values (front indices values) }
 {}
 
-/// The items of a sparse accessor are as many as the base's, or `n` without a base. The item at the k-th index that
-/// counts is the k-th value, and each item at no such index is the base's, or zero without a base.
+/// The items of a sparse accessor are as many as the base's, or `n` without a base. The item at the
+/// k-th index that counts is the k-th value, and each item at no such index is the base's, or zero
+/// without a base.
 pub fn sparse_by_position<T: Item>()
     ensures items { (base : Option (List T)) (n : ℕ) (indices : List ℕ) (values : List T) (i : ℕ) →
         SomeIff (slice_get (sparse T.zero_item base n indices values) i)

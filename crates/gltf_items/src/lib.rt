@@ -1,5 +1,5 @@
-//! The items of accessors, read out of bytes: plain ones at the steps of a stride, and sparse ones, with values in
-//! place of some items of a base.
+//! The items of accessors, read out of bytes: plain ones at the steps of a stride, and sparse ones,
+//! with values in place of some items of a base.
 #![tactic(auto)]
 
 mod count;

@@ -11,9 +11,10 @@ use crate::item_iter::ItemIter;
 use crate::stored::Stored;
 use std::marker::Model;
 
-/// The items of a base, or zeros without one, with values in place of some of them (glTF 2.0, 3.6.2.3 "Sparse
-/// Accessors"). The stored indices that count are their longest strictly increasing beginning that is no longer than
-/// the values: the k-th of them gives its item the k-th value. A jump reads few of them.
+/// The items of a base, or zeros without one, with values in place of some of them (glTF 2.0,
+/// 3.6.2.3 "Sparse Accessors"). The stored indices that count are their longest strictly increasing
+/// beginning that is no longer than the values: the k-th of them gives its item the k-th value. A
+/// jump reads few of them.
 #[derive(Drop)]
 #[derive_where(Clone, Debug)]
 pub struct SparseIter<'a, T: Item> {
@@ -27,10 +28,10 @@ pub struct SparseIter<'a, T: Item> {
 impl<'a, T: Item> Model for SparseIter<'a, T> {
     ghost use Rattle.std.specs.Prelude.{length, drop};
     ghost use Rattle.gltf_items.specs.Sparse.{sparse};
-    ghost use Rattle.gltf_items.specs.Counted.{Counted};
+    ghost use Rattle.gltf_items.specs.Counted.{CountedItems};
     ghost use Rattle.gltf_items.specs.Cursor.{Keeps};
 
-    ghost Value = { Counted T };
+    ghost Value = { CountedItems T };
 
     ghost view = { λ s. record {
       items = drop s.position
@@ -48,10 +49,11 @@ impl<'a, T: Item> SparseIter<'a, T> {
     ghost use Rattle.std.specs.Option.{option_map};
     ghost use Rattle.gltf_items.specs.ItemIter.{items_left};
     ghost use Rattle.gltf_items.specs.SparseIndicesIter.{indices_left};
-    ghost use Rattle.gltf_items.specs.Counted.{Costs};
+    ghost use Rattle.gltf_items.specs.Counted.{Costs, IsFresh};
 
-    /// The base's items with the values in their places, over what is left in the arguments. Without a base there are
-    /// no items. Each stored index is read at most once, and no item of the base and no value.
+    /// The base's items with the values in their places, over what is left in the arguments.
+    /// Without a base there are no items. Each stored index is read at most once, and no item of
+    /// the base and no value.
     pub fn new(
         base: Option<ItemIter<'a, T>>,
         indices: SparseIndicesIter<'a>,
@@ -60,10 +62,7 @@ impl<'a, T: Item> SparseIter<'a, T> {
         ensures items { result.items
             ≡ sparse T.zero_item (option_map items_left base.entry) 0
             (indices_left indices.entry) (items_left values.entry) }
-        ensures stored { result.stored ≡ length (indices_left indices.entry) }
-        ensures index_reads { result.index_reads ≤ result.stored }
-        ensures base_reads { result.base_reads ≡ 0 }
-        ensures value_reads { result.value_reads ≡ 0 }
+        ensures fresh { IsFresh result (length (indices_left indices.entry)) }
     {
         SparseIter::with_base_count(base, 0, indices, values)
     }
@@ -78,10 +77,7 @@ impl<'a, T: Item> SparseIter<'a, T> {
         ensures items { result.items
             ≡ sparse T.zero_item (option_map items_left base.entry) base_count
             (indices_left indices.entry) (items_left values.entry) }
-        ensures stored { result.stored ≡ length (indices_left indices.entry) }
-        ensures index_reads { result.index_reads ≤ result.stored }
-        ensures base_reads { result.base_reads ≡ 0 }
-        ensures value_reads { result.value_reads ≡ 0 }
+        ensures fresh { IsFresh result (length (indices_left indices.entry)) }
     {
         let mut stored = Stored::new(base, indices, values);
         let end = stored.total(base_count);
@@ -123,8 +119,8 @@ impl<'a, T: Item> SparseIter<'a, T> {
         }
     }
 
-    /// Passes over n items and gives the next one. Past the end it gives none, and nothing is left. Over c stored
-    /// indices it reads at most as many of them as c has binary digits, and one more.
+    /// Passes over n items and gives the next one. Past the end it gives none, and nothing is left.
+    /// Over c stored indices it reads at most as many of them as c has binary digits, and one more.
     pub fn nth(&mut self, n: usize) -> Option<T>
         ensures gives { result ≡ slice_get self.old.items n }
         ensures leaves { self.new.items ≡ drop (n + 1) self.old.items }
@@ -143,7 +139,8 @@ impl<'a, T: Item> SparseIter<'a, T> {
         }
     }
 
-    /// The last item, if one is left. Then nothing is left. It reads as many indices as `nth` at most.
+    /// The last item, if one is left. Then nothing is left. It reads as many indices as `nth` at
+    /// most.
     pub fn take_last(&mut self) -> Option<T>
         ensures gives { result ≡ slice_get self.old.items (length self.old.items - 1) }
         ensures leaves { self.new.items ≡ [] }

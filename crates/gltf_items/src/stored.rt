@@ -1,5 +1,5 @@
-//! What a sparse iterator stores. Each read of an index, of an item of the base and of a value is counted, and nothing
-//! else reaches their bytes.
+//! What a sparse iterator stores. Each read of an index, of an item of the base and of a value is
+//! counted, and nothing else reaches their bytes.
 
 ghost use Rattle.std.specs.Prelude.{◌≡◌, ◌+◌, ◌<◌, length, slice_get, slice_index};
 ghost use Rattle.gltf_items.specs.Sparse.{total, under};

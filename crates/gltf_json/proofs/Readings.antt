@@ -7,17 +7,20 @@ use Rattle.gltf_json.specs.Documents.{root}
 use Rattle.gltf_json.specs.Reading.{Reads}
 use Rattle.gltf_json.specs.declared.root.Root.{Root}
 
-pub read_alike : (d : Data) (result : Result Root Error) → IfOk result (root.is d) → IfOk result (λ r. (s : Root) → root.is d s → root.seen s ≡ root.seen r)
+pub read_alike : (d : Data) (result : Result Root Error) → IfOk result (root.is d)
+    → IfOk result (λ r. (s : Root) → root.is d s → root.content s ≡ root.content r)
 read_alike d (Ok r) is = λ s other. root.alike d s r other is
 read_alike d (Err e) is = tt
 
-pub refused_unread : (d : Data) (result : Result Root Error) → IfErr result (λ e. e ≢ Memory → root.fits d → ⊥)
+pub refused_unread : (d : Data) (result : Result Root Error)
+    → IfErr result (λ e. e ≢ Memory → root.fits d → ⊥)
     → IfErr result (λ e. e ≢ Memory → (r : Root) → root.is d r → ⊥)
 refused_unread d (Ok r) refused = tt
 refused_unread d (Err e) refused = λ other r is. refused other (root.needs d r is)
 
 -- a text has one value
-pub texts_alike : (bytes : List ℕ) (d e : Data) (r s : Root) → Reads bytes d → Reads bytes e → root.is d r → root.is e s → root.seen r ≡ root.seen s
+pub texts_alike : (bytes : List ℕ) (d e : Data) (r s : Root) → Reads bytes d → Reads bytes e
+    → root.is d r → root.is e s → root.content r ≡ root.content s
 texts_alike bytes d e r s first second is other =
     let IsReading : Data → Type 0 = λ v. root.is v s in
     let one : e ≡ d = cc (first.1, second.1) in

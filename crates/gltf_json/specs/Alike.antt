@@ -21,11 +21,11 @@ use Rattle.gltf_json.specs.declared.root.Root.{Root}
 
 -- two lists show the same, element by element
 abbrev pub AreAlike : {T : Type 0} → Kind T → Vec T Global → Vec T Global → Type 0
-AreAlike K v w = map K.seen v.items ≡ map K.seen w.items
+AreAlike K v w = map K.content v.items ≡ map K.content w.items
 
 -- each member of two documents shows the same
 pub record AreAlikeInEachMember (r s : Root) : Type 0 where
-  pub asset : asset.seen r.asset ≡ asset.seen s.asset
+  pub asset : asset.content r.asset ≡ asset.content s.asset
   pub accessors : AreAlike accessor r.accessors s.accessors
   pub animations : AreAlike animation r.animations s.animations
   pub buffers : AreAlike buffer r.buffers s.buffers
@@ -42,8 +42,9 @@ pub record AreAlikeInEachMember (r s : Root) : Type 0 where
   pub textures : AreAlike texture r.textures s.textures
   pub extensions_used : AreAlike text r.extensions_used s.extensions_used
   pub extensions_required : AreAlike text r.extensions_required s.extensions_required
-  pub extensions : option_map root_extensions.seen r.extensions ≡ option_map root_extensions.seen s.extensions
-  pub extras : option_map any.seen r.extras ≡ option_map any.seen s.extras
+  pub extensions : option_map root_extensions.content r.extensions
+      ≡ option_map root_extensions.content s.extensions
+  pub extras : option_map any.content r.extras ≡ option_map any.content s.extras
 
 first : {A B : Type 0} {p q : A × B} → p ≡ q → p.0 ≡ q.0
 first same = ap (λ p. p.0) same
@@ -51,7 +52,7 @@ first same = ap (λ p. p.0) same
 rest : {A B : Type 0} {p q : A × B} → p ≡ q → p.1 ≡ q.1
 rest same = ap (λ p. p.1) same
 
-pub alike_in_each_member : (r s : Root) → root.seen r ≡ root.seen s → AreAlikeInEachMember r s
+pub alike_in_each_member : (r s : Root) → root.content r ≡ root.content s → AreAlikeInEachMember r s
 unfolding root
 alike_in_each_member r s same =
     let after_asset = rest same in

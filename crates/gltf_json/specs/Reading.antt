@@ -7,13 +7,13 @@ use Rattle.gltf_json_record.specs.declared.error.Error.{Error}
 use Rattle.gltf_json_record.specs.declared.error.Error.TheVariants.{Text, Record, Memory}
 use Rattle.gltf_json.specs.Documents.{root}
 
--- the bytes are JSON text in UTF-8, and d is its value (glTF 2.0, section 2.7, "File Extensions and
--- Media Types", asks for JSON; what a JSON text is, is said by the specs of `serde_json`)
+-- the bytes are JSON text in UTF-8, and d is its value (glTF 2.0, section 2.7, "JSON Encoding";
+-- what a JSON text is, is said by the specs of `serde_json`)
 abbrev pub Reads : List ℕ → Data → Type 0
 Reads bytes d = IsUtf8 bytes × (read bytes ≡ Some d)
 
--- the error tells why the bytes are no document: they are no JSON text, or the fault stands in their
--- value at that place; want of memory tells nothing of them
+-- the error tells why the bytes are no document: they are no JSON text, or the fault stands in
+-- their value at that place; out of memory tells nothing of them
 abbrev pub Refuses : List ℕ → Error → Type 0
 Refuses bytes (Text refused) = ¬ IsMemory refused × ((d : Data) → Reads bytes d → ⊥)
 Refuses bytes (Record path fault) = (d : Data) × Reads bytes d × root.fault d path fault

@@ -15,13 +15,14 @@ use serde_json::Value;
 use std::alloc::Global;
 
 /// The document that a JSON value is (glTF 2.0, section 5.17, "glTF"). It is answered exactly where
-/// the value fits the tables of the format, want of memory aside; any other document that the value is
-/// shows the same. Otherwise the answer is a `Record` with a fault that stands in the value at its
-/// path, and the value is no document; or `Memory`.
+/// the value fits the tables of the format, out of memory aside; any other document that the value
+/// is shows the same. Otherwise the answer is a `Record` with a fault that stands in the value at
+/// its path, and the value is no document; or `Memory`.
 #[tactic(auto, using(crate::proofs::Readings::read_alike, crate::proofs::Readings::refused_unread))]
 pub fn from_value(alloc: Global, value: &Value) -> Result<Root, Error>
     ensures ok { IfOk result (root.is (view value.now)) }
-    ensures alike { IfOk result (λ r. (s : Root) → root.is (view value.now) s → root.seen s ≡ root.seen r) }
+    ensures alike { IfOk result (λ r. (s : Root) → root.is (view value.now) s
+        → root.content s ≡ root.content r) }
     ensures fits { IfOk result (λ _. root.fits (view value.now)) }
     ensures fault { IfErr result (Tells (root.fault (view value.now))) }
     ensures refused { IfErr result (λ e. e ≢ Memory → root.fits (view value.now) → ⊥) }
@@ -36,9 +37,11 @@ pub fn from_value(alloc: Global, value: &Value) -> Result<Root, Error>
 /// enough, in `serde_json` or here.
 pub fn from_slice(alloc: Global, bytes: &[u8]) -> Result<Root, Error>
     ensures ok { IfOk result (λ r. (d : Data) × Reads bytes.now d × root.is d r) }
-    ensures alike { IfOk result (λ r. (d : Data) (s : Root) → Reads bytes.now d → root.is d s → root.seen s ≡ root.seen r) }
+    ensures alike { IfOk result (λ r. (d : Data) (s : Root) → Reads bytes.now d → root.is d s
+        → root.content s ≡ root.content r) }
     ensures refused { IfErr result (Refuses bytes.now) }
-    ensures exact { IfErr result (λ e. e ≢ Memory → (d : Data) → Reads bytes.now d → root.fits d → ⊥) }
+    ensures exact { IfErr result (λ e. e ≢ Memory → (d : Data) → Reads bytes.now d → root.fits d
+        → ⊥) }
 {
     let value = Value::from_slice(alloc, bytes)?;
     from_value(alloc, &value)

@@ -23,13 +23,14 @@ pub fn a_document_fits()
     ensures { (d : Data) (r : Root) → root.is d r → root.fits d }
 {}
 
-/// Any two documents that one text is show the same: texts, numbers, lists, values kept as they stand,
-/// the members of `others`; not capacities.
+/// Any two documents that one text is show the same: texts, numbers, lists, values kept as they
+/// stand, the members of `others`; not capacities.
 pub fn two_readings_of_a_text_are_alike()
-    ensures { (bytes : List ℕ) (d e : Data) (r s : Root) → Reads bytes d → Reads bytes e → root.is d r → root.is e s → root.seen r ≡ root.seen s }
+    ensures { (bytes : List ℕ) (d e : Data) (r s : Root) → Reads bytes d → Reads bytes e
+        → root.is d r → root.is e s → root.content r ≡ root.content s }
 {}
 
 /// Two documents that show the same do so in each member: their lists element by element.
 pub fn what_shows_the_same_is_alike_in_each_member()
-    ensures { (r s : Root) → root.seen r ≡ root.seen s → AreAlikeInEachMember r s }
+    ensures { (r s : Root) → root.content r ≡ root.content s → AreAlikeInEachMember r s }
 {}

@@ -42,7 +42,7 @@ impl<T: Copies> Lent for Maybe<'_, T> {
     type Owned = Option<T>;
 
     ghost is_copied = { λ member copy.
-        option_map T.kind.seen copy ≡ option_map T.kind.seen member.0.now };
+        option_map T.kind.content copy ≡ option_map T.kind.content member.0.now };
 
     fn copied(&self, alloc: Global) -> Result<Option<T>, AllocError> {
         option_copy(alloc, self.0)

@@ -13,7 +13,8 @@ use gltf_json_record::{kinds, read_record, record};
 use serde_json::Value;
 use std::alloc::{AllocError, Global};
 
-/// How values between two keyframes are made (glTF 2.0, section 5.8.2, `animation.sampler.interpolation`).
+/// How values between two keyframes are made (glTF 2.0, section 5.8.2,
+/// `animation.sampler.interpolation`).
 #[derive(Clone, Copy, Debug, PartialEq, Eq)]
 pub enum Interpolation {
     /// On a line between the two values: the code `LINEAR`.

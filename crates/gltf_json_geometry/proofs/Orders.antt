@@ -1,12 +1,16 @@
 -- The order that is derived for attributes is the stated one.
-use Rattle.std.proofs.Common.{◌≡◌, ℕ, ◌∷◌, [], ◌&&◌, Bool, true, false, refl, subst, sym, ◌∙◌, nat_eq, string_bytes}
+use Rattle.std.proofs.Common.{◌≡◌, ℕ, ◌∷◌, [], ◌&&◌, Bool, true, false, refl, subst, sym, ◌∙◌}
+use Rattle.std.proofs.Common.{nat_eq, string_bytes}
 use Rattle.std.proofs.Math.Path.{fun_ext}
 use Rattle.std.specs.Ordering.{nat_cmp, ordering_then, is_eq}
 use Rattle.std.specs.declared.cmp.Ordering.{Ordering}
 use Rattle.std.specs.declared.cmp.Ordering.TheVariants.{Less, Equal, Greater}
 use Rattle.gltf_json_geometry.specs.Semantics.{semantic_cmp}
 use Rattle.gltf_json_geometry.specs.declared.semantic.Semantic.{Semantic}
-use Rattle.gltf_json_geometry.specs.declared.semantic.Semantic.TheVariants.{Extras, Positions, Normals, Tangents, Colors, TexCoords, Joints, Weights}
+use Rattle.gltf_json_geometry.specs.declared.semantic.Semantic.TheVariants.{Extras, Positions}
+use Rattle.gltf_json_geometry.specs.declared.semantic.Semantic.TheVariants.{Normals, Tangents}
+use Rattle.gltf_json_geometry.specs.declared.semantic.Semantic.TheVariants.{Colors, TexCoords}
+use Rattle.gltf_json_geometry.specs.declared.semantic.Semantic.TheVariants.{Joints, Weights}
 use Rattle.gltf_json_geometry.specs.contracts.semantic.SemanticOrd.TheImpl as ord
 use Rattle.gltf_json_geometry.specs.contracts.semantic.SemanticPartialEq.TheImpl as same
 use Rattle.std.proofs.lemmas.Map.Text.{is_eq-slice_cmp}

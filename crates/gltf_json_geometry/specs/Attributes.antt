@@ -1,7 +1,10 @@
--- The attributes of a primitive: an object that gives accessors to names (glTF 2.0, section 3.7.2.1).
-use Rattle.std.specs.Prelude.{◌≡◌, ◌⊎◌, ◌∷◌, ℕ, List, [], Option, None, MatchOption, IsSome, IsNone, option_and_then, string_bytes, if◌then◌else◌, map, ⊤}
+-- The attributes of a primitive: an object that gives accessors to names (glTF 2.0, section
+-- 3.7.2.1).
+use Rattle.std.specs.Prelude.{◌≡◌, ◌⊎◌, ◌∷◌, ℕ, List, [], Option, None, MatchOption, IsSome, IsNone}
+use Rattle.std.specs.Prelude.{option_and_then, string_bytes, if◌then◌else◌, map, ⊤}
 use Rattle.std.specs.BTreeMap.{get, IsOrdered}
-use Rattle.serde_json.specs.Data.{Data, null, boolean, number, string, array, object, Members, no_members, member}
+use Rattle.serde_json.specs.Data.{Data, null, boolean, number, string, array, object, Members}
+use Rattle.serde_json.specs.Data.{no_members, member}
 use Rattle.serde_json.specs.Find.{as_object}
 use Rattle.gltf_json_record.specs.Kind.{IsWrongKind, Within}
 use Rattle.gltf_json_record.specs.Member.{member_at}
@@ -14,7 +17,8 @@ use Rattle.gltf_json_geometry.specs.declared.attributes.Attributes.{Attributes}
 
 -- the index that d has for the attribute s; none where d has no member of its name, or null there
 abbrev pub attribute_at : Data → Semantic → Option ℕ
-attribute_at d s = if is_numbered s then option_and_then as_n32 (member_at (semantic_name s) d) else None
+attribute_at d s =
+    if is_numbered s then option_and_then as_n32 (member_at (semantic_name s) d) else None
 
 -- d has a member of this name, and it is the name of no attribute
 abbrev pub IsUnknownAt : Data → List ℕ → Type 0
@@ -24,7 +28,8 @@ IsUnknownAt d name = IsSome (member_at name d) × ((s : Semantic) → Names s na
 abbrev pub AreUnknown : Data → List (List ℕ) → List (List ℕ) → Type 0
 AreUnknown d [] unknown = unknown ≡ []
 AreUnknown d (name ∷ names) unknown =
-    (IsUnknownAt d name × ((rest : List (List ℕ)) × (unknown ≡ name ∷ rest) × AreUnknown d names rest))
+    (IsUnknownAt d name × ((rest : List (List ℕ)) × (unknown ≡ name ∷ rest)
+    × AreUnknown d names rest))
     ⊎ ((IsUnknownAt d name → ⊥) × AreUnknown d names unknown)
 
 abbrev pub member_names : Members → List (List ℕ)
@@ -45,7 +50,8 @@ pub record FitAttributes (d : Data) : Type 0 where
   pub is_object : IsSome (as_object d)
   pub indices : (name : List ℕ) → MatchOption (member_at name d) ⊤ index.fits
 
--- a fits, and a has its attributes: the known ones by what they mean, in order, and the names of the others
+-- a fits, and a has its attributes: the known ones by what they mean, in order, and the names of
+-- the others
 pub record AreAttributes (d : Data) (a : Attributes) : Type 0 where
   pub fit : FitAttributes d
   pub known : (s : Semantic) → get semantic_cmp a.known s ≡ attribute_at d s
@@ -56,4 +62,5 @@ pub record AreAttributes (d : Data) (a : Attributes) : Type 0 where
 abbrev pub AttributeFault : Data → List Place → RecordFault → Type 0
 AttributeFault d p f =
     (IsNone (as_object d) × IsWrongKind p f)
-    ⊎ ((name : List ℕ) × MatchOption (member_at name d) ⊥ (λ e. Within (keyed name) (index.fault e) p f))
+    ⊎ ((name : List ℕ) × MatchOption (member_at name d) ⊥
+    (λ e. Within (keyed name) (index.fault e) p f))

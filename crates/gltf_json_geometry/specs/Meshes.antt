@@ -13,7 +13,9 @@ use Rattle.gltf_json_geometry.specs.declared.mesh.MorphTarget.{MorphTarget}
 use Rattle.gltf_json_geometry.specs.declared.mesh.Primitive.{Primitive}
 use Rattle.gltf_json_geometry.specs.declared.mesh.Mesh.{Mesh}
 use Rattle.gltf_json_geometry.specs.declared.extensions.mesh.Mapping.{Mapping}
-use Rattle.gltf_json_geometry.specs.declared.extensions.mesh.KhrMaterialsVariants.{KhrMaterialsVariants}
+use Rattle.gltf_json_geometry.specs.declared.extensions.mesh.KhrMaterialsVariants.{
+  KhrMaterialsVariants,
+}
 use Rattle.gltf_json_geometry.specs.declared.extensions.mesh.Primitive as extended
 
 unfoldable pub morph_target : Kind MorphTarget
@@ -39,7 +41,8 @@ primitive_extensions = table
 
 unfoldable pub primitive : Kind Primitive
 primitive = table
-    (required (codes "attributes") (λ r. record { known = r.attributes; unknown = r.unknown_attributes }) attributes
+    (required (codes "attributes")
+    (λ r. record { known = r.attributes; unknown = r.unknown_attributes }) attributes
     & optional (codes "indices") (λ r. r.indices) index
     & optional (codes "material") (λ r. r.material) index
     & defaulted (codes "mode") (λ r. r.mode) (Valid Triangles) (code mode)

@@ -1,5 +1,6 @@
 -- A name is that of one attribute at most.
-use Rattle.std.specs.Prelude.{◌≡◌, ◌≢◌, ◌<◌, ◌^◌, ℕ, List, [], ◌∷◌, ◌++◌, nat_eq, nat_lt, IsTrue, Bool, true, if◌then◌else◌, codes}
+use Rattle.std.specs.Prelude.{◌≡◌, ◌≢◌, ◌<◌, ◌^◌, ℕ, List, [], ◌∷◌, ◌++◌, nat_eq, nat_lt, IsTrue}
+use Rattle.std.specs.Prelude.{Bool, true, if◌then◌else◌, codes}
 use Rattle.std.proofs.Common.{sym, ap, ◌∙◌, refl, drop, get_or, arith}
 use Rattle.std.proofs.lemmas.Fmt.{decimal_injective}
 use Rattle.std.proofs.lemmas.Bool.{ltb-true}
@@ -10,7 +11,10 @@ use Rattle.std.specs.declared.cmp.Ordering.TheVariants.{Equal}
 use Rattle.std.specs.Fmt.{decimal}
 use Rattle.gltf_json_geometry.specs.Semantics.{semantic_name, is_numbered, order_key, semantic_cmp}
 use Rattle.gltf_json_geometry.specs.declared.semantic.Semantic.{Semantic}
-use Rattle.gltf_json_geometry.specs.declared.semantic.Semantic.TheVariants.{Extras, Positions, Normals, Tangents, Colors, TexCoords, Joints, Weights}
+use Rattle.gltf_json_geometry.specs.declared.semantic.Semantic.TheVariants.{Extras, Positions}
+use Rattle.gltf_json_geometry.specs.declared.semantic.Semantic.TheVariants.{Normals, Tangents}
+use Rattle.gltf_json_geometry.specs.declared.semantic.Semantic.TheVariants.{Colors, TexCoords}
+use Rattle.gltf_json_geometry.specs.declared.semantic.Semantic.TheVariants.{Joints, Weights}
 
 -- the first letters tell the kind
 kind_told : List ℕ → ℕ
@@ -35,20 +39,24 @@ told (TexCoords set) = refl
 told (Joints set) = refl
 told (Weights set) = refl
 
-same_kind : (s t : Semantic) → semantic_name s ≡ semantic_name t → get_or (order_key s) 0 0 ≡ get_or (order_key t) 0 0
+same_kind : (s t : Semantic) → semantic_name s ≡ semantic_name t
+    → get_or (order_key s) 0 0 ≡ get_or (order_key t) 0 0
 same_kind s t same = sym (told s) ∙ ap kind_told same ∙ told t
 
-two_kinds : (s t : Semantic) → (get_or (order_key s) 0 0 ≢ get_or (order_key t) 0 0) → semantic_name s ≡ semantic_name t → ⊥
+two_kinds : (s t : Semantic) → (get_or (order_key s) 0 0 ≢ get_or (order_key t) 0 0)
+    → semantic_name s ≡ semantic_name t → ⊥
 two_kinds s t other same = other (same_kind s t same)
 
-same_set : (k a b : ℕ) → IsTrue (nat_lt a (2 ^ 32)) → IsTrue (nat_lt b (2 ^ 32)) → decimal a ≡ decimal b → ◌≡◌ {A = List ℕ} (k ∷ a ∷ []) (k ∷ b ∷ [])
+same_set : (k a b : ℕ) → IsTrue (nat_lt a (2 ^ 32)) → IsTrue (nat_lt b (2 ^ 32))
+    → decimal a ≡ decimal b → ◌≡◌ {A = List ℕ} (k ∷ a ∷ []) (k ∷ b ∷ [])
 same_set k a b x y same =
     let small : a < 2 ^ 32 = ltb-true a (2 ^ 32) x in
     let little : b < 2 ^ 32 = ltb-true b (2 ^ 32) y in
     ap (λ n. k ∷ n ∷ []) (decimal_injective a b (omega arith) (omega arith) same)
 
 -- two attributes with one name stand at the same place
-pub same_key : (s t : Semantic) → IsTrue (is_numbered s) → IsTrue (is_numbered t) → semantic_name s ≡ semantic_name t → order_key s ≡ order_key t
+pub same_key : (s t : Semantic) → IsTrue (is_numbered s) → IsTrue (is_numbered t)
+    → semantic_name s ≡ semantic_name t → order_key s ≡ order_key t
 same_key (Extras a) (Extras b) x y same = cc same
 same_key Positions Positions x y same = refl
 same_key Normals Normals x y same = refl

@@ -94,8 +94,8 @@ impl Code for Type {
 pub struct Accessor {
     /// The view that the items stand in: `bufferView`.
     pub buffer_view: Option<Index<kinds::View>>,
-    /// The distance in bytes from the start of the view to the first item: `byteOffset`. It stands for 0
-    /// where absent.
+    /// The distance in bytes from the start of the view to the first item: `byteOffset`. It stands
+    /// for 0 where absent.
     pub byte_offset: Option<u64>,
     /// The type of each component: `componentType`.
     pub component_type: Checked<ComponentType>,

@@ -100,7 +100,8 @@ pub struct View {
     pub buffer: Index<kinds::Buffer>,
     /// The length in bytes: `byteLength`.
     pub byte_length: u64,
-    /// The distance in bytes from the start of the buffer: `byteOffset`. It stands for 0 where absent.
+    /// The distance in bytes from the start of the buffer: `byteOffset`. It stands for 0 where
+    /// absent.
     pub byte_offset: Option<u64>,
     /// The distance in bytes from item to item: `byteStride`. Items are packed where it is absent.
     pub byte_stride: Option<u64>,

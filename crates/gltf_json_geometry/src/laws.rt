@@ -21,5 +21,6 @@ pub fn equality_agrees_with_order(left: &Semantic, right: &Semantic) -> bool
 
 /// A name in JSON is that of one attribute at most.
 pub fn one_attribute_has_a_name()
-    ensures { (s t : Semantic) (name : List ℕ) → Names s name → Names t name → order_key s ≡ order_key t }
+    ensures { (s t : Semantic) (name : List ℕ) → Names s name → Names t name
+        → order_key s ≡ order_key t }
 {}

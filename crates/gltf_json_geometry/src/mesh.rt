@@ -56,7 +56,8 @@ impl Code for Mode {
     }
 }
 
-/// What a morph target adds to the vertices of a primitive (glTF 2.0, section 3.7.2.2, "Morph Targets").
+/// What a morph target adds to the vertices of a primitive (glTF 2.0, section 3.7.2.2, "Morph
+/// Targets").
 #[derive(Debug, Drop)]
 pub struct MorphTarget {
     /// What is added to positions: `POSITION`.
@@ -109,7 +110,8 @@ impl FromValue for MorphTarget {
 pub struct Primitive {
     /// The known members of `attributes`, in the order of `Semantic`.
     pub attributes: BTreeMap<Semantic, Index<kinds::Accessor>>,
-    /// The names of the other members of `attributes`, in the order of their bytes. Rules refuse them.
+    /// The names of the other members of `attributes`, in the order of their bytes. Rules refuse
+    /// them.
     pub unknown_attributes: Vec<String>,
     /// The accessor of the vertex indices: `indices`.
     pub indices: Option<Index<kinds::Accessor>>,

@@ -1,5 +1,7 @@
-//! What the attributes of a primitive mean, by their names (glTF 2.0, section 3.7.2.1, "Meshes: Overview").
-ghost use Rattle.std.specs.Prelude.{◌≡◌, ◌<◌, ◌^◌, ◌++◌, List, ℕ, IfOk, IfSome, IsNone, MatchOption, codes};
+//! What the attributes of a primitive mean, by their names (glTF 2.0, section 3.7.2.1, "Meshes:
+//! Overview").
+ghost use Rattle.std.specs.Prelude.{◌≡◌, ◌<◌, ◌^◌, ◌++◌, List, ℕ, IfOk, IfSome, IsNone};
+ghost use Rattle.std.specs.Prelude.{MatchOption, codes};
 ghost use Rattle.std.specs.Fmt.{decimal};
 ghost use Rattle.gltf_json_geometry.specs.declared.semantic.Semantic.{Semantic};
 ghost use Rattle.gltf_json_geometry.specs.Semantics.{Names, order_key, semantic_cmp};
@@ -8,8 +10,8 @@ use std::alloc::{AllocError, Global};
 use std::cmp::Ordering;
 use std::fmt;
 
-/// What an attribute means. Attributes are ordered as they stand here, those of one kind by their text or
-/// the number of their set.
+/// What an attribute means. Attributes are ordered as they stand here, those of one kind by their
+/// text or the number of their set.
 #[derive(Debug, Drop, PartialEq, Eq, PartialOrd, Ord)]
 pub enum Semantic {
     /// An attribute of the application: the text behind the underscore of its name.
@@ -72,11 +74,12 @@ impl Clone for Semantic {
 }
 
 impl Semantic {
-    /// The attribute that has this name in JSON; None where no attribute has it, as `COLOR_01`, where a
-    /// digit is too many, and `COLOR_4294967296`, whose number has more than 32 bits.
+    /// The attribute that has this name in JSON; None where no attribute has it, as `COLOR_01`,
+    /// where a digit is too many, and `COLOR_4294967296`, whose number has more than 32 bits.
     pub fn of_name(alloc: Global, name: &str) -> Result<Option<Semantic>, AllocError>
         ensures known { IfOk result (λ found. IfSome found (λ s. Names s name.now)) }
-        ensures unknown { IfOk result (λ found. IsNone found → (s : Semantic) → Names s name.now → ⊥) }
+        ensures unknown { IfOk result (λ found. IsNone found → (s : Semantic) → Names s name.now
+            → ⊥) }
     {
         if let Some(rest) = name.strip_prefix("_") {
             return Ok(Some(Semantic::Extras(String::from_str(alloc, rest)?)));
@@ -133,7 +136,8 @@ fn numbered(name: &str, prefix: &str) -> Option<u32>
 
 // The number that decimal digits write, with none too many.
 fn number(digits: &str) -> Option<u32>
-    ensures { MatchOption result ((n : ℕ) → n < 2 ^ 32 → digits.now ≡ decimal n → ⊥) (λ n. digits.now ≡ decimal n) }
+    ensures { MatchOption result ((n : ℕ) → n < 2 ^ 32 → digits.now ≡ decimal n → ⊥)
+        (λ n. digits.now ≡ decimal n) }
 {
     if digits == "0" {
         Some(0)

@@ -4,7 +4,9 @@ use Rattle.gltf_json_record.specs.Kind.{Kind}
 use Rattle.gltf_json_record.specs.Scalars.{any}
 use Rattle.gltf_json_record.specs.Table.{optional, others, no_rows, ◌&◌, table}
 use Rattle.gltf_json_material.specs.Textures.{texture_info}
-use Rattle.gltf_json_material.specs.declared.extensions.material.PbrSpecularGlossiness.{PbrSpecularGlossiness}
+use Rattle.gltf_json_material.specs.declared.extensions.material.PbrSpecularGlossiness.{
+  PbrSpecularGlossiness,
+}
 use Rattle.gltf_json_material.specs.declared.extensions.material.Unlit.{Unlit}
 use Rattle.gltf_json_material.specs.declared.extensions.material.Transmission.{Transmission}
 use Rattle.gltf_json_material.specs.declared.extensions.material.Ior.{Ior}
@@ -67,11 +69,13 @@ specular = table
 -- the member `extensions` of a material
 unfoldable pub material_extensions : Kind Material
 material_extensions = table
-    (optional (codes "KHR_materials_pbrSpecularGlossiness") (λ r. r.pbr_specular_glossiness) pbr_specular_glossiness
+    (optional (codes "KHR_materials_pbrSpecularGlossiness")
+    (λ r. r.pbr_specular_glossiness) pbr_specular_glossiness
     & optional (codes "KHR_materials_unlit") (λ r. r.unlit) unlit
     & optional (codes "KHR_materials_transmission") (λ r. r.transmission) transmission
     & optional (codes "KHR_materials_ior") (λ r. r.ior) ior
-    & optional (codes "KHR_materials_emissive_strength") (λ r. r.emissive_strength) emissive_strength
+    & optional (codes "KHR_materials_emissive_strength")
+    (λ r. r.emissive_strength) emissive_strength
     & optional (codes "KHR_materials_volume") (λ r. r.volume) volume
     & optional (codes "KHR_materials_specular") (λ r. r.specular) specular
     & others

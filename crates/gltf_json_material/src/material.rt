@@ -41,8 +41,8 @@ impl Code for AlphaMode {
     }
 }
 
-/// The colour, metalness and roughness of a material (glTF 2.0, section 5.22, "Material PBR Metallic
-/// Roughness").
+/// The colour, metalness and roughness of a material (glTF 2.0, section 5.22, "Material PBR
+/// Metallic Roughness").
 #[derive(Debug, Drop)]
 pub struct PbrMetallicRoughness {
     /// The factors of the base colour, as they stand: `baseColorFactor`.
@@ -113,7 +113,8 @@ pub struct NormalTexture {
     pub index: Index<kinds::Texture>,
     /// The factor of each normal's x and y, as it stands: `scale`.
     pub scale: Option<Value>,
-    /// The set of texture coordinates, as in the attribute `TEXCOORD_n`: `texCoord`. It is 0 where absent.
+    /// The set of texture coordinates, as in the attribute `TEXCOORD_n`: `texCoord`. It is 0 where
+    /// absent.
     pub tex_coord: u32,
     /// The extensions: `extensions`. None is known here.
     pub extensions: Option<Others>,
@@ -170,7 +171,8 @@ pub struct OcclusionTexture {
     pub index: Index<kinds::Texture>,
     /// How much of the occlusion is applied, as it stands: `strength`.
     pub strength: Option<Value>,
-    /// The set of texture coordinates, as in the attribute `TEXCOORD_n`: `texCoord`. It is 0 where absent.
+    /// The set of texture coordinates, as in the attribute `TEXCOORD_n`: `texCoord`. It is 0 where
+    /// absent.
     pub tex_coord: u32,
     /// The extensions: `extensions`. None is known here.
     pub extensions: Option<Others>,

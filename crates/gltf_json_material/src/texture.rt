@@ -17,7 +17,8 @@ use std::alloc::{AllocError, Global};
 pub struct Info {
     /// The texture: `index`.
     pub index: Index<kinds::Texture>,
-    /// The set of texture coordinates, as in the attribute `TEXCOORD_n`: `texCoord`. It is 0 where absent.
+    /// The set of texture coordinates, as in the attribute `TEXCOORD_n`: `texCoord`. It is 0 where
+    /// absent.
     pub tex_coord: u32,
     /// The extensions: `extensions`.
     pub extensions: Option<extensions::texture::Info>,

@@ -1,5 +1,6 @@
 -- Copies of lists and of members, one after the other.
-use Rattle.std.proofs.Common.{◌≡◌, ℕ, ◌+◌, ◌<◌, List, [], ◌∷◌, ◌++◌, length, take, get_or, map, refl, ap, sym, ◌∙◌, string_bytes, BTreeMap, String, Global}
+use Rattle.std.proofs.Common.{◌≡◌, ℕ, ◌+◌, ◌<◌, List, [], ◌∷◌, ◌++◌, length, take, get_or, map}
+use Rattle.std.proofs.Common.{refl, ap, string_bytes, BTreeMap, String, Global}
 use Rattle.std.specs.List.{AllZip}
 use Rattle.std.specs.declared.alloc.AllocError.{AllocError}
 use Rattle.std.specs.Prelude.{Result, Ok, Err, IfOk, MatchResult}
@@ -28,7 +29,8 @@ found_alike m n same =
     ap (λ ms name. get_member name ms) (members_copied m.entries n.entries same)
 
 -- one more element is copied
-pub copied_more : {T S : Type 0} (content : T → S) (xs : List T) (i : ℕ) (x : T) (ys : List T) (y : T)
+pub copied_more : {T S : Type 0} (content : T → S) (xs : List T) (i : ℕ) (x : T) (ys : List T)
+    (y : T)
     → i < length xs → x ≡ get_or xs i x → map content ys ≡ map content (take i xs)
     → content y ≡ content x → map content (ys ++ y ∷ []) ≡ map content (take (i + 1) xs)
 copied_more content xs i x ys y below at so_far same =

@@ -4,4 +4,4 @@ use Rattle.gltf_json_record.specs.Kind.{Kind}
 
 -- the copy shows what the original shows
 abbrev pub IsCopy : {T : Type 0} → Kind T → T → T → Type 0
-IsCopy K x copy = K.seen copy ≡ K.seen x
+IsCopy K x copy = K.content copy ≡ K.content x

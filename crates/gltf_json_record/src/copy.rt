@@ -1,4 +1,5 @@
-//! Copies of what was read. A copy shows what the original shows: its texts, numbers, lists and values.
+//! Copies of what was read. A copy shows what the original shows: its texts, numbers, lists and
+//! values.
 ghost use Rattle.std.specs.Prelude.{◌≡◌, IfOk, option_map};
 ghost use Rattle.gltf_json_record.specs.Found.{found_in};
 
@@ -48,7 +49,8 @@ impl<T: Copies> Copies for Vec<T> {
 
 /// A copy of a member that may be absent.
 pub fn option_copy<T: Copies>(alloc: Global, member: &Option<T>) -> Result<Option<T>, AllocError>
-    ensures { IfOk result (λ copy. option_map T.kind.seen copy ≡ option_map T.kind.seen member.now) }
+    ensures { IfOk result (λ copy. option_map T.kind.content copy
+        ≡ option_map T.kind.content member.now) }
 {
     match member {
         Some(value) => Ok(Some(value.copy(alloc)?)),

@@ -9,7 +9,8 @@ use crate::{read_record, record};
 use serde_json::{Map, Value};
 use std::alloc::{AllocError, Global};
 
-/// The extensions of a record at which none is known (glTF 2.0, section 3.12, "Specifying Extensions").
+/// The extensions of a record at which none is known (glTF 2.0, section 3.12, "Specifying
+/// Extensions").
 #[derive(Debug, Drop)]
 pub struct Others {
     /// Every member of `extensions`, as it stands.

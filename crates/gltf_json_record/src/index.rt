@@ -9,7 +9,8 @@ use serde_json::Value;
 use std::alloc::{AllocError, Global};
 use std::marker::{Model, PhantomData};
 
-/// A position in the list that the marker T of `kinds` names, counted from 0. Contracts see its number.
+/// A position in the list that the marker T of `kinds` names, counted from 0. Contracts see its
+/// number.
 #[derive_where(Clone, Copy, Debug, PartialEq, Eq)]
 pub struct Index<T> {
     value: u32,

@@ -38,7 +38,8 @@ pub fn list_or_empty<T: FromValue>(
     name: &'static str,
 ) -> Result<Vec<T>, Error>
     ensures ok { IfOk result ((listed name.now (λ x. x) T.kind).is (view value.now)) }
-    ensures err { IfErr result (Tells ((listed name.now (λ (x : Vec T Global). x) T.kind).fault (view value.now))) }
+    ensures err { IfErr result (Tells ((listed name.now (λ (x : Vec T Global). x) T.kind).fault
+        (view value.now))) }
 {
     or_default(alloc, value, name, Vec::new(alloc))
 }

@@ -1,5 +1,6 @@
 //! How the members of a record are read from a JSON object.
-ghost use Rattle.std.specs.Prelude.{◌≡◌, ◌≢◌, Ok, Err, IfOk, IfErr, IsNone, IsSome, option_map, Option};
+ghost use Rattle.std.specs.Prelude.{◌≡◌, ◌≢◌, Ok, Err, IfOk, IfErr, IsNone, IsSome, option_map};
+ghost use Rattle.std.specs.Prelude.{Option};
 ghost use Rattle.serde_json.specs.Find.{as_object};
 ghost use Rattle.serde_json.specs.View.{view};
 ghost use Rattle.gltf_json_record.specs.Fault.{Tells, IsUnder};
@@ -14,8 +15,8 @@ use crate::path::{Path, Step};
 use serde_json::Value;
 use std::alloc::Global;
 
-/// A type that is read from a JSON value. Its `kind` says which values it is the reading of, and which
-/// faults stand in the others.
+/// A type that is read from a JSON value. Its `kind` says which values it is the reading of, and
+/// which faults stand in the others.
 pub trait FromValue: Drop {
     ghost use Rattle.std.specs.Prelude.{IfOk, IfErr};
     ghost use Rattle.serde_json.specs.View.{view};
@@ -24,7 +25,7 @@ pub trait FromValue: Drop {
 
     ghost kind: { Kind Self };
 
-    /// The reading of a value, or a fault that stands in it, or want of memory.
+    /// The reading of a value, or a fault that stands in it, or out of memory.
     fn from_value(alloc: Global, value: &Value) -> Result<Self, Error>
     where
         Self: Sized,
@@ -32,8 +33,8 @@ pub trait FromValue: Drop {
         ensures err { IfErr result (Tells (kind.fault (view value.now))) };
 }
 
-/// The reading of a value. It is answered exactly where the value fits its kind, want of memory aside;
-/// otherwise a fault that stands in the value is told.
+/// The reading of a value. It is answered exactly where the value fits its kind, out of memory
+/// aside; otherwise a fault that stands in the value is told.
 pub fn read<T: FromValue>(alloc: Global, value: &Value) -> Result<T, Error>
     ensures ok { IfOk result (T.kind.is (view value.now)) }
     ensures fits { IfOk result (λ _. T.kind.fits (view value.now)) }
@@ -54,7 +55,7 @@ pub fn wrong_kind(alloc: Global) -> Error
     }
 }
 
-/// The same error, seen from one step further out; or want of memory for that step.
+/// The same error, seen from one step further out; or out of memory for that step.
 #[cold]
 #[inline(never)]
 pub fn under(step: Step, error: Error) -> Error
@@ -87,7 +88,8 @@ pub fn optional<T: FromValue>(
     name: &'static str,
 ) -> Result<Option<T>, Error>
     ensures ok { IfOk result ((optional name.now (λ x. x) T.kind).is (view value.now)) }
-    ensures err { IfErr result (Tells ((optional name.now (λ (x : Option T). x) T.kind).fault (view value.now))) }
+    ensures err { IfErr result (Tells ((optional name.now (λ (x : Option T). x) T.kind).fault
+        (view value.now))) }
 {
     match member(value, name) {
         Some(found) => match T::from_value(alloc, found) {
@@ -102,7 +104,8 @@ pub fn optional<T: FromValue>(
 #[inline(always)]
 pub fn required<T: FromValue>(alloc: Global, value: &Value, name: &'static str) -> Result<T, Error>
     ensures ok { IfOk result ((required name.now (λ x. x) T.kind).is (view value.now)) }
-    ensures err { IfErr result (Tells ((required name.now (λ (x : T). x) T.kind).fault (view value.now))) }
+    ensures err { IfErr result (Tells ((required name.now (λ (x : T). x) T.kind).fault
+        (view value.now))) }
 {
     match optional(alloc, value, name)? {
         Some(read) => Ok(read),
@@ -134,7 +137,8 @@ pub fn or_default<T: FromValue>(
     default: T,
 ) -> Result<T, Error>
     ensures ok { IfOk result ((defaulted name.now (λ x. x) default T.kind).is (view value.now)) }
-    ensures err { IfErr result (Tells ((defaulted name.now (λ x. x) default T.kind).fault (view value.now))) }
+    ensures err { IfErr result (Tells ((defaulted name.now (λ x. x) default T.kind).fault
+        (view value.now))) }
 {
     Ok(optional(alloc, value, name)?.unwrap_or(default))
 }
@@ -152,8 +156,8 @@ pub fn object(alloc: Global, value: &Value) -> Result<(), Error>
     }
 }
 
-/// What was made, and what is made behind it. `record!` hands over by it what it has, so that no exit of
-/// the caller's has to let go of that.
+/// What was made, and what is made behind it. `record!` hands over by it what it has, so that no
+/// exit of the caller's has to drop that.
 pub fn and<A: Drop, B: Drop, E: Drop>(made: A, next: Result<B, E>) -> Result<(A, B), E>
     ensures ok { IfOk result (λ both. (both.0 ≡ made) × (next ≡ Ok both.1)) }
     ensures err { IfErr result (λ e. next ≡ Err e) }

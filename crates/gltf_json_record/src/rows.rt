@@ -1,5 +1,5 @@
-//! The rows of the tables of records. A record is read by one call, whose rows stand as in its table; their
-//! names go beside them, one behind the other.
+//! The rows of the tables of records. A record is read by one call, whose rows stand as in its
+//! table; their names go beside them, one behind the other.
 ghost use Rattle.std.specs.Prelude.{IfOk, IfErr, map};
 ghost use Rattle.serde_json.specs.View.{view};
 ghost use Rattle.gltf_json_record.specs.Fault.{Tells};

@@ -14,7 +14,8 @@ use std::alloc::{AllocError, Global};
 /// What a document says of itself (glTF 2.0, section 5.9, "Asset").
 #[derive(Debug, Drop)]
 pub struct Asset {
-    /// The version of glTF that the document is written for, as `2.0`: `version`. Its text is not looked at.
+    /// The version of glTF that the document is written for, as `2.0`: `version`. Its text is not
+    /// looked at.
     pub version: String,
     /// The program that wrote the document: `generator`.
     pub generator: Option<String>,

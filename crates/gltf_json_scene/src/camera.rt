@@ -35,8 +35,8 @@ impl Code for Type {
     }
 }
 
-/// An orthographic projection (glTF 2.0, section 5.13, "Camera Orthographic"). Its numbers are kept as
-/// they stand, of any kind.
+/// An orthographic projection (glTF 2.0, section 5.13, "Camera Orthographic"). Its numbers are kept
+/// as they stand, of any kind.
 #[derive(Debug, Drop)]
 pub struct Orthographic {
     /// Half the width of what is seen: `xmag`.
@@ -96,8 +96,8 @@ impl FromValue for Orthographic {
     }
 }
 
-/// A perspective projection (glTF 2.0, section 5.14, "Camera Perspective"). Its numbers are kept as they
-/// stand, of any kind.
+/// A perspective projection (glTF 2.0, section 5.14, "Camera Perspective"). Its numbers are kept as
+/// they stand, of any kind.
 #[derive(Debug, Drop)]
 pub struct Perspective {
     /// The width of the view by its height: `aspectRatio`.

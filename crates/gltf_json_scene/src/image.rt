@@ -1,4 +1,4 @@
-//! Images (glTF 2.0, section 3.8.4, "Images").
+//! Images (glTF 2.0, section 3.8.3, "Images").
 ghost use Rattle.std.specs.Prelude.{IfOk};
 ghost use Rattle.gltf_json_record.specs.Copy.{IsCopy};
 

@@ -13,8 +13,8 @@ use gltf_json_record::{kinds, read_record, record};
 use serde_json::Value;
 use std::alloc::{AllocError, Global};
 
-/// A node of the node hierarchy (glTF 2.0, section 5.25, "Node"). The numbers of its transform and its
-/// weights are kept as they stand, of any kind.
+/// A node of the node hierarchy (glTF 2.0, section 5.25, "Node"). The numbers of its transform and
+/// its weights are kept as they stand, of any kind.
 #[derive(Debug, Drop)]
 pub struct Node {
     /// The camera at this node: `camera`.

@@ -71,8 +71,8 @@ impl Code for MinFilter {
     }
 }
 
-/// What stands beyond the edge of a texture (glTF 2.0, sections 5.26.3 and 5.26.4, `sampler.wrapS` and
-/// `sampler.wrapT`).
+/// What stands beyond the edge of a texture (glTF 2.0, sections 5.26.3 and 5.26.4, `sampler.wrapS`
+/// and `sampler.wrapT`).
 #[derive(Clone, Copy, Debug, PartialEq, Eq)]
 pub enum WrappingMode {
     /// The texels of the edge: the code 33071.

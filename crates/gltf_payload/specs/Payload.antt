@@ -13,16 +13,16 @@ abbrev pub padding_sign : ℕ
 padding_sign = 61
 
 -- how many `=` are put behind a text of n bytes
-abbrev pub missing : ℕ → ℕ
-missing n = if n % 4 == 2 then 2 else if n % 4 == 3 then 1 else 0
+abbrev pub missing_signs : ℕ → ℕ
+missing_signs n = if n % 4 == 2 then 2 else if n % 4 == 3 then 1 else 0
 
 -- the text with these behind it
-abbrev pub completed : List ℕ → List ℕ
-completed text = text ++ replicate (missing (length text)) padding_sign
+abbrev pub completed_text : List ℕ → List ℕ
+completed_text text = text ++ replicate (missing_signs (length text)) padding_sign
 
 -- the bytes that it spells then, or the fault
 unfoldable pub payload_bytes : List ℕ → Result (List ℕ) DecodeError
-payload_bytes text = decode_of standard (completed text)
+payload_bytes text = decode_of standard (completed_text text)
 
 -- what an error says of the payload
 abbrev pub IsFailure : List ℕ → DecodeAllocError → Type 0

@@ -3,7 +3,8 @@ ghost use Rattle.std.specs.Prelude.{◌≡◌, ◌≤◌, Ok, Err, IfOk, IfErr, 
 ghost use Rattle.std.specs.Cow.{cow_slice_items, IsBorrowedSlice};
 ghost use Rattle.base64.specs.GeneralPurpose.{decode_of, IsDecodedInto, IsDecodeFailure};
 ghost use Rattle.base64.specs.Decode.{decoded_estimate};
-ghost use Rattle.gltf_payload.specs.Payload.{missing, completed, payload_bytes, IsFailure};
+ghost use Rattle.gltf_payload.specs.Payload.{missing_signs, completed_text, payload_bytes};
+ghost use Rattle.gltf_payload.specs.Payload.{IsFailure};
 
 use base64::engine::general_purpose::{GeneralPurpose, STANDARD};
 use base64::{DecodeAllocError, DecodeError, DecodeSliceError, decoded_len_estimate};
@@ -46,9 +47,10 @@ fn decoded(
 }
 
 /// A text with the `=` that it lacks; it is lent where it lacks none.
-fn completed(alloc: Global, text: &[u8]) -> Result<CowSlice<'_, u8>, AllocError>
-    ensures items { IfOk result (λ whole. cow_slice_items whole ≡ completed text.now) }
-    ensures lent { IfOk result (λ whole. missing (length text.now) ≡ 0 → IsBorrowedSlice whole) }
+fn completed_text(alloc: Global, text: &[u8]) -> Result<CowSlice<'_, u8>, AllocError>
+    ensures items { IfOk result (λ whole. cow_slice_items whole ≡ completed_text text.now) }
+    ensures lent { IfOk result (λ whole. missing_signs (length text.now) ≡ 0
+        → IsBorrowedSlice whole) }
 {
     let marks: &[u8] = match text.len() % 4 {
         2 => b"==",
@@ -74,6 +76,6 @@ pub fn decode(alloc: Global, payload: &str) -> Result<Vec<u8>, DecodeAllocError>
     ensures ok { IfOk result (λ bytes. payload_bytes payload.now ≡ Ok bytes.items) }
     ensures err { IfErr result (IsFailure payload.now) }
 {
-    let text = completed(alloc, payload.as_bytes())?;
+    let text = completed_text(alloc, payload.as_bytes())?;
     decoded(alloc, &STANDARD, text.as_slice())
 }

@@ -1,5 +1,6 @@
 -- Where the rules of a list hold, those of each element do.
-use Rattle.std.proofs.Common.{ℕ, ◌≡◌, ◌<◌, ◌+◌, suc, zero, List, [], ◌∷◌, length, get_or, true, refl, sym, arith, subst}
+use Rattle.std.proofs.Common.{ℕ, ◌≡◌, ◌<◌, ◌+◌, suc, zero, List, [], ◌∷◌, length, get_or, true}
+use Rattle.std.proofs.Common.{refl, sym, arith, subst}
 use Rattle.std.specs.Prelude.{◌==◌}
 use Rattle.std.proofs.lemmas.Bool.Decides.{nat_tests}
 use Rattle.std.proofs.lemmas.Grind.{common_steps}

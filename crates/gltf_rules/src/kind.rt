@@ -1,5 +1,6 @@
 //! The list of records that each kind of index points into.
 ghost use Rattle.std.specs.Prelude.{◌≡◌};
+ghost use Rattle.gltf_rules.specs.Lists.{in_lists};
 
 use gltf_json::accessor::Accessor;
 use gltf_json::animation::Animation;
@@ -35,7 +36,8 @@ pub trait Kind {
         ensures { result.now ≡ list root.now };
 
     /// Where the rules of a document hold, those of the list do.
-    ghost hold: { (r : Root) → Hold (root_rules (counts_of r) r) → Hold (list_rules (record_rules (counts_of r)) (list r)) };
+    ghost hold: { (r : Root) → Hold (root_rules (counts_of r) r)
+        → Hold (list_rules (record_rules (counts_of r)) (list r)) };
 }
 
 impl Kind for kinds::Accessor {
@@ -47,7 +49,7 @@ impl Kind for kinds::Accessor {
 
     ghost record_rules = { λ c r. accessor_rules c r };
 
-    ghost hold = { λ r h. h.0.0 };
+    ghost hold = { λ r h. (in_lists r h).accessors };
 
     fn list(root: &Root) -> &[Accessor] {
         root.accessors.as_slice()
@@ -63,7 +65,7 @@ impl Kind for kinds::Animation {
 
     ghost record_rules = { λ c r. animation_rules c r };
 
-    ghost hold = { λ r h. h.0.1.0 };
+    ghost hold = { λ r h. (in_lists r h).animations };
 
     fn list(root: &Root) -> &[Animation] {
         root.animations.as_slice()
@@ -79,7 +81,7 @@ impl Kind for kinds::Buffer {
 
     ghost record_rules = { λ c r. buffer_rules c r };
 
-    ghost hold = { λ r h. h.0.1.1.0 };
+    ghost hold = { λ r h. (in_lists r h).buffers };
 
     fn list(root: &Root) -> &[Buffer] {
         root.buffers.as_slice()
@@ -95,7 +97,7 @@ impl Kind for kinds::View {
 
     ghost record_rules = { λ c r. view_rules c r };
 
-    ghost hold = { λ r h. h.0.1.1.1.0 };
+    ghost hold = { λ r h. (in_lists r h).buffer_views };
 
     fn list(root: &Root) -> &[View] {
         root.buffer_views.as_slice()
@@ -111,7 +113,7 @@ impl Kind for kinds::Camera {
 
     ghost record_rules = { λ c r. camera_rules c r };
 
-    ghost hold = { λ r h. h.0.1.1.1.1.0 };
+    ghost hold = { λ r h. (in_lists r h).cameras };
 
     fn list(root: &Root) -> &[Camera] {
         root.cameras.as_slice()
@@ -127,7 +129,7 @@ impl Kind for kinds::Image {
 
     ghost record_rules = { λ c r. image_rules c r };
 
-    ghost hold = { λ r h. h.0.1.1.1.1.1.0 };
+    ghost hold = { λ r h. (in_lists r h).images };
 
     fn list(root: &Root) -> &[Image] {
         root.images.as_slice()
@@ -143,7 +145,7 @@ impl Kind for kinds::Material {
 
     ghost record_rules = { λ c r. material_rules c r };
 
-    ghost hold = { λ r h. h.0.1.1.1.1.1.1.0 };
+    ghost hold = { λ r h. (in_lists r h).materials };
 
     fn list(root: &Root) -> &[Material] {
         root.materials.as_slice()
@@ -159,7 +161,7 @@ impl Kind for kinds::Mesh {
 
     ghost record_rules = { λ c r. mesh_rules c r };
 
-    ghost hold = { λ r h. h.0.1.1.1.1.1.1.1.0 };
+    ghost hold = { λ r h. (in_lists r h).meshes };
 
     fn list(root: &Root) -> &[Mesh] {
         root.meshes.as_slice()
@@ -175,7 +177,7 @@ impl Kind for kinds::Node {
 
     ghost record_rules = { λ c r. node_rules c r };
 
-    ghost hold = { λ r h. h.0.1.1.1.1.1.1.1.1.0 };
+    ghost hold = { λ r h. (in_lists r h).nodes };
 
     fn list(root: &Root) -> &[Node] {
         root.nodes.as_slice()
@@ -191,7 +193,7 @@ impl Kind for kinds::Sampler {
 
     ghost record_rules = { λ c r. sampler_rules c r };
 
-    ghost hold = { λ r h. h.0.1.1.1.1.1.1.1.1.1 };
+    ghost hold = { λ r h. (in_lists r h).samplers };
 
     fn list(root: &Root) -> &[Sampler] {
         root.samplers.as_slice()
@@ -207,7 +209,7 @@ impl Kind for kinds::Scene {
 
     ghost record_rules = { λ c r. scene_rules c r };
 
-    ghost hold = { λ r h. h.1.1.0 };
+    ghost hold = { λ r h. (in_lists r h).scenes };
 
     fn list(root: &Root) -> &[Scene] {
         root.scenes.as_slice()
@@ -223,7 +225,7 @@ impl Kind for kinds::Skin {
 
     ghost record_rules = { λ c r. skin_rules c r };
 
-    ghost hold = { λ r h. h.1.1.1.0 };
+    ghost hold = { λ r h. (in_lists r h).skins };
 
     fn list(root: &Root) -> &[Skin] {
         root.skins.as_slice()
@@ -239,7 +241,7 @@ impl Kind for kinds::Texture {
 
     ghost record_rules = { λ c r. texture_rules c r };
 
-    ghost hold = { λ r h. h.1.1.1.1.0 };
+    ghost hold = { λ r h. (in_lists r h).textures };
 
     fn list(root: &Root) -> &[Texture] {
         root.textures.as_slice()

@@ -7,7 +7,7 @@ ghost use Rattle.gltf_validation.specs.Rules.{Hold};
 
 /// Documents that show the same break the same rules, at the same places.
 pub fn what_shows_the_same_breaks_the_same_rules()
-    ensures { (r s : Root) → root.seen r ≡ root.seen s → Faults r ≡ Faults s }
+    ensures { (r s : Root) → root.content r ≡ root.content s → Faults r ≡ Faults s }
 {
     gltf_validation::laws::what_shows_the_same_breaks_the_same_rules()
 }

@@ -65,7 +65,7 @@ impl Model for Valid {
 
 impl Valid {
     ghost use Rattle.gltf_json.specs.Documents.{root as root_kind};
-    ghost use Rattle.gltf_json.specs.declared.root.Root.{Root};
+    ghost use Rattle.gltf_json_record.specs.Copy.{IsCopy};
     ghost use Rattle.gltf_rules.specs.Refusals.{IsRefusal};
 
     /// The document, where it breaks no rule; else all that it breaks, in order.
@@ -73,10 +73,7 @@ impl Valid {
         ensures same { IfOk result (λ valid. valid ≡ root) }
         ensures valid { OnOk result (Faults root ≡ []) }
         ensures refused { IfErr result (IsRefusal root) }
-        // Whether it breaks a rule is a matter of what it shows.
-        ensures alike { (s : Root) → root_kind.seen s ≡ root_kind.seen root → Faults s ≡ Faults root }
     {
-        what_shows_the_same_breaks_the_same_rules();
         no_rule_is_broken_where_all_hold();
         let faults = validate(alloc, &root)?;
         if faults.is_empty() {
@@ -86,13 +83,14 @@ impl Valid {
         }
     }
 
-    /// A copy of the document. It is held to the rules anew, since no contract says that a copied record shows the same.
-    pub fn clone(&self, alloc: Global) -> Result<Valid, AllocError> {
-        let root = self.root.clone(alloc)?;
-        match Valid::new(alloc, root) {
-            Ok(valid) => Ok(valid),
-            Err(_) => Err(AllocError),
-        }
+    /// A copy of the document. It shows what this one shows, and so breaks no rule either.
+    pub fn clone(&self, alloc: Global) -> Result<Valid, AllocError>
+        ensures { IfOk result (IsCopy root_kind self.now) }
+    {
+        what_shows_the_same_breaks_the_same_rules();
+        no_rule_is_broken_where_all_hold();
+        let root = self.as_root().clone(alloc)?;
+        Ok(Valid { root })
     }
 
     /// The document.

@@ -3,6 +3,7 @@
 mod bounds;
 mod copies;
 mod every_list;
+mod first_steps;
 mod items;
 mod iterators;
 mod names;

@@ -7,7 +7,7 @@ use Rattle.std.specs.Str.Pattern.{FindsTextPrefix, StripsPrefix as StripsText}
 use Rattle.std.proofs.lemmas.Slice.Eq.{starts_is}
 use Rattle.std.proofs.lemmas.Bool.{false_from_ne_true}
 use Rattle.std.proofs.lemmas.Bool.Decides.{Decides-eqb}
-use Rattle.gltf_uri.specs.Uri.{stripped}
+use Rattle.gltf_uri.specs.Uri.{text_behind}
 use Rattle.gltf_uri.specs.Laws.{StripsPrefix}
 
 pub begins : (n s rest : List ℕ) → s ≡ n ++ rest → starts_with nat_eq s n ≡ true
@@ -36,6 +36,6 @@ strips_prefix n s = strip n s (starts_with nat_eq s n) refl
 -- what std's search for a prefix gives
 pub strip_text : (n s : List ℕ) (r : Option (Bor (List ℕ)))
     → MatchOption r (FindsTextPrefix n s None) (λ x. StripsText (FindsTextPrefix n) s x.now)
-    → option_copied r ≡ stripped n s
+    → option_copied r ≡ text_behind n s
 strip_text n s None lacks = rw (begins_not n s lacks) refl
 strip_text n s (Some x) (k, (is, cut, _), rest, _) = rw (begins n s (drop k s) cut, rest, is) refl

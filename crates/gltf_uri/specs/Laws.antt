@@ -1,6 +1,6 @@
 -- Laws over the definitions.
 use Rattle.std.specs.Prelude.{◌≡◌, ◌≢◌, ℕ, ◌<◌, ◌≤◌, List, ◌++◌, length, MatchOption}
-use Rattle.gltf_uri.specs.Uri.{cut_at, stripped}
+use Rattle.gltf_uri.specs.Uri.{cut_at, text_behind}
 
 -- n stands in s between these parts, and nowhere with less before it
 pub record IsFirstCut (n s front back : List ℕ) : Type 0 where
@@ -21,4 +21,4 @@ CutsAtFirst =
 abbrev pub StripsPrefix : Type 0
 StripsPrefix =
     (n s : List ℕ)
-    → MatchOption (stripped n s) ((rest : List ℕ) → s ≢ n ++ rest) (λ rest. s ≡ n ++ rest)
+    → MatchOption (text_behind n s) ((rest : List ℕ) → s ≢ n ++ rest) (λ rest. s ≡ n ++ rest)

@@ -30,8 +30,8 @@ abbrev pub before : List ℕ → List ℕ → List ℕ
 before n s = unwrap_or (option_map (λ parts. parts.0) (cut_at n s)) s
 
 -- what stands behind n, where s begins with n
-abbrev pub stripped : List ℕ → List ℕ → Option (List ℕ)
-stripped n s = if starts_with nat_eq s n then Some (drop (length n) s) else None
+abbrev pub text_behind : List ℕ → List ℕ → Option (List ℕ)
+text_behind n s = if starts_with nat_eq s n then Some (drop (length n) s) else None
 
 -- of the text behind `data:`: from the first mark up to the next one or the end; where there is no
 -- mark, all
@@ -46,9 +46,9 @@ first_of (Some m) _ = m
 -- a text with a scheme: by its prefix, compared as it stands
 abbrev pub absolute : List ℕ → Meaning
 absolute t =
-    first_of (option_map (λ rest. Payload (payload_of rest)) (stripped (codes "data:") t))
-    (first_of (option_map File (stripped (codes "file://") t))
-    (first_of (option_map File (stripped (codes "file:") t)) Unsupported))
+    first_of (option_map (λ rest. Payload (payload_of rest)) (text_behind (codes "data:") t))
+    (first_of (option_map File (text_behind (codes "file://") t))
+    (first_of (option_map File (text_behind (codes "file:") t)) Unsupported))
 
 -- the bytes of a relative reference: they are to be text
 abbrev pub relative : List ℕ → Meaning

@@ -1,7 +1,7 @@
 //! Where a URI leads.
 ghost use Rattle.std.specs.Prelude.{◌≡◌, ◌<◌, length, IfOk, IsOk, IsOkAnd, IsTrue, Option, is_some};
 ghost use Rattle.std.specs.Prelude.{option_map, option_copied, codes};
-ghost use Rattle.gltf_uri.specs.Uri.{cut_at, behind, before, stripped, payload_of, absolute};
+ghost use Rattle.gltf_uri.specs.Uri.{cut_at, behind, before, text_behind, payload_of, absolute};
 ghost use Rattle.gltf_uri.specs.Uri.{relative, uri_of, HasNoPercentSign};
 ghost use Rattle.gltf_uri.specs.Meanings.{meaning, IsLent};
 ghost use Rattle.percent_encoding.specs.Percent.{percent_decode};
@@ -58,8 +58,8 @@ fn before<'a>(text: &'a str, mark: &str) -> &'a str
 
 /// What follows the prefix.
 #[tactic(auto, using(crate::proofs::Prefixes::strip_text))]
-fn stripped<'a>(text: &'a str, prefix: &str) -> Option<&'a str>
-    ensures { option_copied result ≡ stripped prefix.now text.now }
+fn text_behind<'a>(text: &'a str, prefix: &str) -> Option<&'a str>
+    ensures { option_copied result ≡ text_behind prefix.now text.now }
 {
     text.strip_prefix(prefix)
 }
@@ -77,13 +77,13 @@ fn absolute(text: &str) -> Uri<'_>
     ensures meaning { meaning result ≡ absolute text.now }
     ensures lent { IsLent result }
 {
-    if let Some(rest) = stripped(text, "data:") {
+    if let Some(rest) = text_behind(text, "data:") {
         return Uri::Data(payload_of(rest));
     }
-    if let Some(path) = stripped(text, "file://") {
+    if let Some(path) = text_behind(text, "file://") {
         return Uri::File(path);
     }
-    if let Some(path) = stripped(text, "file:") {
+    if let Some(path) = text_behind(text, "file:") {
         return Uri::File(path);
     }
     Uri::Unsupported

@@ -34,7 +34,9 @@ use Rattle.gltf_validation.specs.Meshes.{mesh_rules}
 use Rattle.gltf_validation.specs.Scenes.{node_rules, scene_rules}
 use Rattle.gltf_validation.specs.Skins.{skin_rules}
 use Rattle.gltf_validation.specs.Textures.{sampler_rules, texture_rules}
-use Rattle.gltf_validation.specs.Documents.{lights_in, light_count, counts_of, supported_extensions, supported_rules, root_lights_rules, root_extensions_rules, root_rules, Faults}
+use Rattle.gltf_validation.specs.Documents.{lights_in, light_count, counts_of, supported_extensions}
+use Rattle.gltf_validation.specs.Documents.{supported_rules, root_lights_rules}
+use Rattle.gltf_validation.specs.Documents.{root_extensions_rules, root_rules, Faults}
 use Rattle.gltf_validation.proofs.Alike.{at, both, optional_alike, list_alike, length_alike}
 use Rattle.gltf_validation.proofs.AlikeAccessors.{accessor_rules-alike}
 use Rattle.gltf_validation.proofs.AlikeAnimations.{animation_rules-alike}
@@ -50,72 +52,99 @@ use Rattle.gltf_validation.proofs.AlikeTextures.{sampler_rules-alike, texture_ru
 
 -- ---- the lights
 
-lights_in-alike : (o p : Option KhrLightsPunctual) → option_map root_lights.seen o ≡ option_map root_lights.seen p → lights_in o ≡ lights_in p
+lights_in-alike : (o p : Option KhrLightsPunctual)
+    → option_map root_lights.content o ≡ option_map root_lights.content p
+    → lights_in o ≡ lights_in p
 unfolding root_lights
 lights_in-alike None None e = refl
 lights_in-alike None (Some y) e = cc
 lights_in-alike (Some x) None e = cc
-lights_in-alike (Some x) (Some y) e = length_alike light.seen x.lights.items y.lights.items cc
+lights_in-alike (Some x) (Some y) e = length_alike light.content x.lights.items y.lights.items cc
 
-light_count-alike : (o p : Option extended.Root) → option_map root_extensions.seen o ≡ option_map root_extensions.seen p → light_count o ≡ light_count p
+light_count-alike : (o p : Option extended.Root)
+    → option_map root_extensions.content o ≡ option_map root_extensions.content p
+    → light_count o ≡ light_count p
 unfolding root_extensions
 light_count-alike None None e = refl
 light_count-alike None (Some y) e = cc
 light_count-alike (Some x) None e = cc
 light_count-alike (Some x) (Some y) e =
-    let shown : root_extensions.seen x ≡ root_extensions.seen y = cc in
+    let shown : root_extensions.content x ≡ root_extensions.content y = cc in
     lights_in-alike x.khr_lights_punctual y.khr_lights_punctual (ap (λ s. s.0) shown)
 
-root_lights_rules-alike : (c : Counts) (x y : KhrLightsPunctual) → root_lights.seen x ≡ root_lights.seen y → root_lights_rules c x ≡ root_lights_rules c y
+root_lights_rules-alike : (c : Counts) (x y : KhrLightsPunctual)
+    → root_lights.content x ≡ root_lights.content y → root_lights_rules c x ≡ root_lights_rules c y
 unfolding root_lights
 root_lights_rules-alike c x y e =
-    at (codes "lights") (list_alike light.seen (light_rules c) (light_rules-alike c) x.lights.items y.lights.items e)
+    at (codes "lights") (list_alike light.content (light_rules c)
+    (light_rules-alike c) x.lights.items y.lights.items e)
 
-root_extensions_rules-alike : (c : Counts) (x y : extended.Root) → root_extensions.seen x ≡ root_extensions.seen y → root_extensions_rules c x ≡ root_extensions_rules c y
+root_extensions_rules-alike : (c : Counts) (x y : extended.Root)
+    → root_extensions.content x ≡ root_extensions.content y
+    → root_extensions_rules c x ≡ root_extensions_rules c y
 unfolding root_extensions
 root_extensions_rules-alike c x y e =
     at (codes "KHR_lights_punctual")
-    (optional_alike root_lights.seen (root_lights_rules c) (root_lights_rules-alike c) x.khr_lights_punctual y.khr_lights_punctual (ap (λ s. s.0) e))
+    (optional_alike root_lights.content (root_lights_rules c)
+    (root_lights_rules-alike c) x.khr_lights_punctual y.khr_lights_punctual (ap (λ s. s.0) e))
 
 -- ---- the whole
 
 counts_of-alike : (r s : Root) → AreAlikeInEachMember r s → counts_of r ≡ counts_of s
 counts_of-alike r s same =
     rw (
-      length_alike accessor.seen r.accessors.items s.accessors.items same.accessors,
-      length_alike buffer.seen r.buffers.items s.buffers.items same.buffers,
-      length_alike camera.seen r.cameras.items s.cameras.items same.cameras,
-      length_alike image.seen r.images.items s.images.items same.images,
+      length_alike accessor.content r.accessors.items s.accessors.items same.accessors,
+      length_alike buffer.content r.buffers.items s.buffers.items same.buffers,
+      length_alike camera.content r.cameras.items s.cameras.items same.cameras,
+      length_alike image.content r.images.items s.images.items same.images,
       light_count-alike r.extensions s.extensions same.extensions,
-      length_alike material.seen r.materials.items s.materials.items same.materials,
-      length_alike mesh.seen r.meshes.items s.meshes.items same.meshes,
-      length_alike node.seen r.nodes.items s.nodes.items same.nodes,
-      length_alike sampler.seen r.samplers.items s.samplers.items same.samplers,
-      length_alike scene.seen r.scenes.items s.scenes.items same.scenes,
-      length_alike skin.seen r.skins.items s.skins.items same.skins,
-      length_alike texture.seen r.textures.items s.textures.items same.textures,
-      length_alike buffer_view.seen r.buffer_views.items s.buffer_views.items same.buffer_views,
+      length_alike material.content r.materials.items s.materials.items same.materials,
+      length_alike mesh.content r.meshes.items s.meshes.items same.meshes,
+      length_alike node.content r.nodes.items s.nodes.items same.nodes,
+      length_alike sampler.content r.samplers.items s.samplers.items same.samplers,
+      length_alike scene.content r.scenes.items s.scenes.items same.scenes,
+      length_alike skin.content r.skins.items s.skins.items same.skins,
+      length_alike texture.content r.textures.items s.textures.items same.textures,
+      length_alike buffer_view.content r.buffer_views.items s.buffer_views.items same.buffer_views,
     ) refl
 
-root_rules-alike : (c : Counts) (r s : Root) → AreAlikeInEachMember r s → root_rules c r ≡ root_rules c s
+root_rules-alike : (c : Counts) (r s : Root) → AreAlikeInEachMember r s
+    → root_rules c r ≡ root_rules c s
 root_rules-alike c r s same =
     both
-    (both (at (codes "accessors") (list_alike accessor.seen (accessor_rules c) (accessor_rules-alike c) r.accessors.items s.accessors.items same.accessors))
-    (both (at (codes "animations") (list_alike animation.seen (animation_rules c) (animation_rules-alike c) r.animations.items s.animations.items same.animations))
-    (both (at (codes "buffers") (list_alike buffer.seen (buffer_rules c) (buffer_rules-alike c) r.buffers.items s.buffers.items same.buffers))
-    (both (at (codes "bufferViews") (list_alike buffer_view.seen (view_rules c) (view_rules-alike c) r.buffer_views.items s.buffer_views.items same.buffer_views))
-    (both (at (codes "cameras") (list_alike camera.seen (camera_rules c) (camera_rules-alike c) r.cameras.items s.cameras.items same.cameras))
-    (both (at (codes "images") (list_alike image.seen (image_rules c) (image_rules-alike c) r.images.items s.images.items same.images))
-    (both (at (codes "materials") (list_alike material.seen (material_rules c) (material_rules-alike c) r.materials.items s.materials.items same.materials))
-    (both (at (codes "meshes") (list_alike mesh.seen (mesh_rules c) (mesh_rules-alike c) r.meshes.items s.meshes.items same.meshes))
-    (both (at (codes "nodes") (list_alike node.seen (node_rules c) (node_rules-alike c) r.nodes.items s.nodes.items same.nodes))
-    (at (codes "samplers") (list_alike sampler.seen (sampler_rules c) (sampler_rules-alike c) r.samplers.items s.samplers.items same.samplers)))))))))))
+    (both (at (codes "accessors") (list_alike accessor.content (accessor_rules c)
+    (accessor_rules-alike c) r.accessors.items s.accessors.items same.accessors))
+    (both (at (codes "animations") (list_alike animation.content (animation_rules c)
+    (animation_rules-alike c) r.animations.items s.animations.items same.animations))
+    (both (at (codes "buffers") (list_alike buffer.content (buffer_rules c)
+    (buffer_rules-alike c) r.buffers.items s.buffers.items same.buffers))
+    (both (at (codes "bufferViews") (list_alike buffer_view.content (view_rules c)
+    (view_rules-alike c) r.buffer_views.items s.buffer_views.items same.buffer_views))
+    (both (at (codes "cameras") (list_alike camera.content (camera_rules c)
+    (camera_rules-alike c) r.cameras.items s.cameras.items same.cameras))
+    (both (at (codes "images") (list_alike image.content (image_rules c)
+    (image_rules-alike c) r.images.items s.images.items same.images))
+    (both (at (codes "materials") (list_alike material.content (material_rules c)
+    (material_rules-alike c) r.materials.items s.materials.items same.materials))
+    (both (at (codes "meshes") (list_alike mesh.content (mesh_rules c)
+    (mesh_rules-alike c) r.meshes.items s.meshes.items same.meshes))
+    (both (at (codes "nodes") (list_alike node.content (node_rules c)
+    (node_rules-alike c) r.nodes.items s.nodes.items same.nodes))
+    (at (codes "samplers") (list_alike sampler.content (sampler_rules c)
+    (sampler_rules-alike c) r.samplers.items s.samplers.items same.samplers)))))))))))
     (both (at (codes "scene") (ap (λ o. optional_rules (index_rules c.scenes) o) same.scene))
-    (both (at (codes "scenes") (list_alike scene.seen (scene_rules c) (scene_rules-alike c) r.scenes.items s.scenes.items same.scenes))
-    (both (at (codes "skins") (list_alike skin.seen (skin_rules c) (skin_rules-alike c) r.skins.items s.skins.items same.skins))
-    (both (at (codes "textures") (list_alike texture.seen (texture_rules c) (texture_rules-alike c) r.textures.items s.textures.items same.textures))
-    (both (at (codes "extensionsRequired") (list_alike text.seen supported_rules (λ x y. ap (λ t. Condition (is_one_of supported_extensions t) Unsupported)) r.extensions_required.items s.extensions_required.items same.extensions_required))
-    (at (codes "extensions") (optional_alike root_extensions.seen (root_extensions_rules c) (root_extensions_rules-alike c) r.extensions s.extensions same.extensions)))))))
+    (both (at (codes "scenes") (list_alike scene.content (scene_rules c)
+    (scene_rules-alike c) r.scenes.items s.scenes.items same.scenes))
+    (both (at (codes "skins") (list_alike skin.content (skin_rules c)
+    (skin_rules-alike c) r.skins.items s.skins.items same.skins))
+    (both (at (codes "textures") (list_alike texture.content (texture_rules c)
+    (texture_rules-alike c) r.textures.items s.textures.items same.textures))
+    (both (at (codes "extensionsRequired")
+    (list_alike text.content supported_rules
+    (λ x y. ap (λ t. Condition (is_one_of supported_extensions t) Unsupported))
+    r.extensions_required.items s.extensions_required.items same.extensions_required))
+    (at (codes "extensions") (optional_alike root_extensions.content (root_extensions_rules c)
+    (root_extensions_rules-alike c) r.extensions s.extensions same.extensions)))))))
 
 pub faults_alike : (r s : Root) → AreAlikeInEachMember r s → Faults r ≡ Faults s
 unfolding Faults

@@ -1,15 +1,19 @@
--- What a walk reports is what is broken, and nothing is broken exactly where every condition is true.
-use Rattle.std.proofs.Common.{◌≡◌, true, false, if◌then◌else◌, List, [], ◌∷◌, ◌++◌, refl, sym, ◌∙◌, ap, append_assoc, arith}
+-- What a walk reports is what is broken, and nothing is broken exactly where every condition is
+-- true.
+use Rattle.std.proofs.Common.{◌≡◌, true, false, if◌then◌else◌, List, [], ◌∷◌, ◌++◌, refl, sym, ◌∙◌}
+use Rattle.std.proofs.Common.{ap, append_assoc, arith}
 use Rattle.std.proofs.lemmas.Grind.{common_steps}
 use Rattle.gltf_json_record.specs.Place.{Place}
 use Rattle.gltf_validation.specs.declared.error.Error.{Error}
-use Rattle.gltf_validation.specs.Rules.{Rules, Nothing, Condition, At, Both, Check, checks_at, broken, report_after, Hold}
+use Rattle.gltf_validation.specs.Rules.{Rules, Nothing, Condition, At, Both, Check, checks_at}
+use Rattle.gltf_validation.specs.Rules.{broken, report_after, Hold}
 
 pub broken-append : (a b : List Check) → broken (a ++ b) ≡ broken a ++ broken b
 broken-append [] b = refl
 broken-append (c ∷ cs) b =
     let step : broken (cs ++ b) ≡ broken cs ++ broken b = broken-append cs b in
-    elim (c.holds) as (λ h. (if h then broken (cs ++ b) else (c.path, c.error) ∷ broken (cs ++ b)) ≡ (if h then broken cs else (c.path, c.error) ∷ broken cs) ++ broken b)
+    elim (c.holds) as (λ h. (if h then broken (cs ++ b) else (c.path, c.error) ∷ broken (cs ++ b))
+    ≡ (if h then broken cs else (c.path, c.error) ∷ broken cs) ++ broken b)
     [ true ↦ step | false ↦ ap (λ xs. (c.path, c.error) ∷ xs) step ]
 
 -- a walk adds what is broken behind what it had
@@ -20,7 +24,11 @@ report_after-broken report path (Condition true e) = grind (arith, common_steps)
 report_after-broken report path (Condition false e) = refl
 report_after-broken report path (At s t) = report_after-broken report (path ++ s ∷ []) t
 report_after-broken report path (Both t u) =
-    rw (report_after-broken (report_after report path t) path u, report_after-broken report path t, broken-append (checks_at path t) (checks_at path u))
+    rw (
+      report_after-broken (report_after report path t) path u,
+      report_after-broken report path t,
+      broken-append (checks_at path t) (checks_at path u),
+    )
     (append_assoc report (broken (checks_at path t)) (broken (checks_at path u)))
 
 nil_left : {A : Type 0} (xs ys : List A) → xs ++ ys ≡ [] → xs ≡ []
@@ -38,9 +46,12 @@ hold-where_none path (Condition true x) e = refl
 hold-where_none path (Condition false x) e = cc
 hold-where_none path (At s t) e = hold-where_none (path ++ s ∷ []) t e
 hold-where_none path (Both t u) e =
-    let both : broken (checks_at path t) ++ broken (checks_at path u) ≡ [] = sym (broken-append (checks_at path t) (checks_at path u)) ∙ e in (
-      hold-where_none path t (nil_left (broken (checks_at path t)) (broken (checks_at path u)) both),
-      hold-where_none path u (nil_right (broken (checks_at path t)) (broken (checks_at path u)) both),
+    let both : broken (checks_at path t) ++ broken (checks_at path u) ≡ [] =
+    sym (broken-append (checks_at path t) (checks_at path u)) ∙ e in (
+      hold-where_none path t (nil_left (broken (checks_at path t))
+          (broken (checks_at path u)) both),
+      hold-where_none path u (nil_right (broken (checks_at path t))
+          (broken (checks_at path u)) both),
     )
 
 -- and the other way round
@@ -50,4 +61,8 @@ none-where_hold path (Condition true x) h = refl
 none-where_hold path (Condition false x) h = cc
 none-where_hold path (At s t) h = none-where_hold (path ++ s ∷ []) t h
 none-where_hold path (Both t u) h =
-    rw (broken-append (checks_at path t) (checks_at path u), none-where_hold path t h.0, none-where_hold path u h.1) refl
+    rw (
+      broken-append (checks_at path t) (checks_at path u),
+      none-where_hold path t h.0,
+      none-where_hold path u h.1,
+    ) refl

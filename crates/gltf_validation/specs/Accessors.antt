@@ -1,4 +1,5 @@
--- The rules of accessors and their sparse parts (glTF 2.0, section 3.6.2), in the order of their members.
+-- The rules of accessors and their sparse parts (glTF 2.0, section 3.6.2), in the order of their
+-- members.
 use Rattle.std.specs.Prelude.{codes, Bool, true, false}
 use Rattle.gltf_json_record.specs.declared.validation.Checked.{Checked}
 use Rattle.gltf_json_record.specs.declared.validation.Checked.TheVariants.{Valid}
@@ -11,7 +12,8 @@ use Rattle.gltf_json_geometry.specs.declared.accessor.sparse.Sparse.{Sparse}
 use Rattle.gltf_json_geometry.specs.declared.accessor.Accessor.{Accessor}
 use Rattle.gltf_validation.specs.declared.counts.Counts.{Counts}
 use Rattle.gltf_validation.specs.Rules.{Rules, Condition, ◌&◌}
-use Rattle.gltf_validation.specs.Members.{member, code_rules, index_rules, optional_rules, size_rules}
+use Rattle.gltf_validation.specs.Members.{member, code_rules, index_rules, optional_rules}
+use Rattle.gltf_validation.specs.Members.{size_rules}
 
 -- the code is in the table of stored indices, which are unsigned numbers (section 5.3.3)
 abbrev pub is_index_type : Checked ComponentType → Bool

@@ -31,4 +31,5 @@ within_animation c r = record c { animation_samplers = length r.samplers.items }
 abbrev pub animation_rules : Counts → Animation → Rules
 animation_rules c r =
     member (codes "channels") (list_rules (channel_rules (within_animation c r)) r.channels.items)
-    & member (codes "samplers") (list_rules (animation_sampler_rules (within_animation c r)) r.samplers.items)
+    & member (codes "samplers")
+    (list_rules (animation_sampler_rules (within_animation c r)) r.samplers.items)

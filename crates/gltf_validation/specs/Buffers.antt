@@ -4,7 +4,8 @@ use Rattle.gltf_json_geometry.specs.declared.buffer.Buffer.{Buffer}
 use Rattle.gltf_json_geometry.specs.declared.buffer.View.{View}
 use Rattle.gltf_validation.specs.declared.counts.Counts.{Counts}
 use Rattle.gltf_validation.specs.Rules.{Rules, ◌&◌}
-use Rattle.gltf_validation.specs.Members.{member, code_rules, index_rules, optional_rules, size_rules}
+use Rattle.gltf_validation.specs.Members.{member, code_rules, index_rules, optional_rules}
+use Rattle.gltf_validation.specs.Members.{size_rules}
 
 abbrev pub buffer_rules : Counts → Buffer → Rules
 buffer_rules c r =

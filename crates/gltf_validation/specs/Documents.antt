@@ -81,7 +81,8 @@ root_lights_rules c r =
 
 abbrev pub root_extensions_rules : Counts → extended.Root → Rules
 root_extensions_rules c r =
-    member (codes "KHR_lights_punctual") (optional_rules (root_lights_rules c) r.khr_lights_punctual)
+    member (codes "KHR_lights_punctual")
+    (optional_rules (root_lights_rules c) r.khr_lights_punctual)
 
 -- the members in their order, in two parts
 abbrev pub first_members_rules : Counts → Root → Rules

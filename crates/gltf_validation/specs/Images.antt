@@ -1,4 +1,4 @@
--- The rules of images (glTF 2.0, section 3.8.4), in the order of their members.
+-- The rules of images (glTF 2.0, section 3.8.3), in the order of their members.
 use Rattle.std.specs.Prelude.{codes, is_none, is_some}
 use Rattle.gltf_json_scene.specs.declared.image.Image.{Image}
 use Rattle.gltf_validation.specs.declared.counts.Counts.{Counts}

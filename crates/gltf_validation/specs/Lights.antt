@@ -1,9 +1,18 @@
--- The rules of lights, and of the light at a node (KHR_lights_punctual), in the order of their members.
+-- The rules of lights, and of the light at a node (KHR_lights_punctual), in the order of their
+-- members.
 use Rattle.std.specs.Prelude.{Bool, codes, false, true}
 use Rattle.gltf_json_scene.specs.declared.extensions.scene.khr_lights_punctual.Light.{Light}
 use Rattle.gltf_json_scene.specs.declared.extensions.scene.KhrLightsPunctual.{KhrLightsPunctual}
 use Rattle.gltf_json_scene.specs.declared.extensions.scene.khr_lights_punctual.«Type» as light
-use Rattle.gltf_json_scene.specs.declared.extensions.scene.khr_lights_punctual.«Type».TheVariants.{Directional, Point, Spot}
+use Rattle.gltf_json_scene.specs.declared.extensions.scene.khr_lights_punctual.«Type».TheVariants.{
+  Directional,
+}
+use Rattle.gltf_json_scene.specs.declared.extensions.scene.khr_lights_punctual.«Type».TheVariants.{
+  Point,
+}
+use Rattle.gltf_json_scene.specs.declared.extensions.scene.khr_lights_punctual.«Type».TheVariants.{
+  Spot,
+}
 use Rattle.gltf_json_record.specs.declared.validation.Checked.{Checked}
 use Rattle.gltf_json_record.specs.declared.validation.Checked.TheVariants.{Invalid, Valid}
 use Rattle.gltf_validation.specs.declared.counts.Counts.{Counts}

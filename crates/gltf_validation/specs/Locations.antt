@@ -2,7 +2,8 @@
 use Rattle.std.specs.Prelude.{List, [], ◌∷◌, ◌++◌}
 use Rattle.gltf_json_record.specs.Place.{Place, named, numbered, keyed}
 use Rattle.gltf_json_geometry.specs.Semantics.{semantic_name}
-use Rattle.gltf_validation.specs.declared.location.Location.{Location, Whole, Member', Item', Attribute', UnknownAttribute'}
+use Rattle.gltf_validation.specs.declared.location.Location.{Location, Whole, Member', Item'}
+use Rattle.gltf_validation.specs.declared.location.Location.{Attribute', UnknownAttribute'}
 
 abbrev pub places_of : Location → List Place
 places_of Whole = []

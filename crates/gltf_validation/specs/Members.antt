@@ -1,9 +1,11 @@
 -- The rules of indices, codes, sizes, members that may be absent, and lists.
-use Rattle.std.specs.Prelude.{ℕ, ◌+◌, ◌^◌, Bool, false, nat_lt, List, [], ◌∷◌, Option, Some, None, is_some, not, ◌||◌}
+use Rattle.std.specs.Prelude.{ℕ, ◌+◌, ◌^◌, Bool, false, nat_lt, List, [], ◌∷◌, Option, Some, None}
+use Rattle.std.specs.Prelude.{is_some, not, ◌||◌}
 use Rattle.gltf_json_record.specs.Place.{named, numbered}
 use Rattle.gltf_json_record.specs.declared.validation.Checked.{Checked}
 use Rattle.gltf_json_record.specs.declared.validation.Checked.TheVariants as code
-use Rattle.gltf_validation.specs.declared.error.Error.TheVariants.{IndexOutOfBounds, Invalid, Missing, Oversize}
+use Rattle.gltf_validation.specs.declared.error.Error.TheVariants.{IndexOutOfBounds, Invalid}
+use Rattle.gltf_validation.specs.declared.error.Error.TheVariants.{Missing, Oversize}
 use Rattle.gltf_validation.specs.Rules.{Rules, Nothing, Condition, At, ◌&◌}
 
 -- the rules of what stands at a member

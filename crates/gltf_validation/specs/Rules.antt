@@ -4,8 +4,8 @@ use Rattle.std.specs.Coded.{×_prop, Unit-prop, Coded-set, coded_bool}
 use Rattle.gltf_json_record.specs.Place.{Place}
 use Rattle.gltf_validation.specs.declared.error.Error.{Error}
 
--- the rules of a value: none, a condition with the error where it is false, those of what stands one step
--- further in, or some and then others
+-- the rules of a value: none, a condition with the error where it is false, those of what stands
+-- one step further in, or some and then others
 pub data Rules : Type 0 where
   Nothing : Rules
   Condition : Bool → Error → Rules
@@ -32,14 +32,17 @@ checks_at path (Both some others) = checks_at path some ++ checks_at path others
 -- those whose condition is false, as path and error
 abbrev pub broken : List Check → List (List Place × Error)
 broken [] = []
-broken (check ∷ checks) = if check.holds then broken checks else (check.path, check.error) ∷ broken checks
+broken (check ∷ checks) =
+    if check.holds then broken checks else (check.path, check.error) ∷ broken checks
 
 -- what a walk has reported once it has passed these rules too
 abbrev pub report_after : List (List Place × Error) → List Place → Rules → List (List Place × Error)
 report_after report path Nothing = report
-report_after report path (Condition holds error) = if holds then report else report ++ (path, error) ∷ []
+report_after report path (Condition holds error) =
+    if holds then report else report ++ (path, error) ∷ []
 report_after report path (At step rules) = report_after report (path ++ step ∷ []) rules
-report_after report path (Both some others) = report_after (report_after report path some) path others
+report_after report path (Both some others) =
+    report_after (report_after report path some) path others
 
 -- every condition is true
 abbrev pub Hold : Rules → Type 0

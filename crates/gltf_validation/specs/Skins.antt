@@ -7,6 +7,7 @@ use Rattle.gltf_validation.specs.Members.{member, index_rules, list_rules, optio
 
 abbrev pub skin_rules : Counts → Skin → Rules
 skin_rules c r =
-    member (codes "inverseBindMatrices") (optional_rules (index_rules c.accessors) r.inverse_bind_matrices)
+    member (codes "inverseBindMatrices")
+    (optional_rules (index_rules c.accessors) r.inverse_bind_matrices)
     & member (codes "joints") (list_rules (index_rules c.nodes) r.joints.items)
     & member (codes "skeleton") (optional_rules (index_rules c.nodes) r.skeleton)

@@ -1,4 +1,5 @@
--- The rules of textures, their samplers and their uses (glTF 2.0, section 3.8), in the order of their members.
+-- The rules of textures, their samplers and their uses (glTF 2.0, section 3.8), in the order of
+-- their members.
 use Rattle.std.specs.Prelude.{codes}
 use Rattle.gltf_json_scene.specs.declared.texture.Sampler.{Sampler}
 use Rattle.gltf_json_scene.specs.declared.texture.Texture.{Texture}

@@ -1,11 +1,12 @@
 //! The rules of accessors and their sparse parts (glTF 2.0, section 3.6.2).
 ghost use Rattle.std.specs.Prelude.{◌≡◌};
-ghost use Rattle.gltf_validation.specs.Accessors.{is_index_type, indices_rules, values_rules, sparse_rules, accessor_rules};
+ghost use Rattle.gltf_validation.specs.Accessors.{is_index_type, indices_rules, values_rules};
+ghost use Rattle.gltf_validation.specs.Accessors.{sparse_rules, accessor_rules};
 
 use crate::counts::Counts;
 use crate::error::Error;
 use crate::location::Location;
-use crate::members::member;
+use crate::members::members;
 use crate::report::Report;
 use crate::validate::Validate;
 use gltf_json_geometry::accessor::sparse::{Indices, Sparse, Values};
@@ -22,8 +23,10 @@ impl Validate for Indices {
         location: &Location<'_>,
         report: &mut Report,
     ) -> Result<(), AllocError> {
-        member(&self.buffer_view, "bufferView", counts, location, report)?;
-        member(&self.byte_offset, "byteOffset", counts, location, report)?;
+        members!(self, counts, location, report; {
+            buffer_view: "bufferView",
+            byte_offset: "byteOffset",
+        })?;
         if is_index_type(self.component_type) {
             Ok(())
         } else {
@@ -32,7 +35,8 @@ impl Validate for Indices {
     }
 }
 
-/// Whether a code is one of stored indices, which are unsigned numbers. A text gives no other, a record that is made may.
+/// Whether a code is one of stored indices, which are unsigned numbers. A text gives no other, a
+/// record that is made may.
 fn is_index_type(code: Checked<ComponentType>) -> bool
     ensures { result ≡ is_index_type code }
 {
@@ -51,8 +55,10 @@ impl Validate for Values {
         location: &Location<'_>,
         report: &mut Report,
     ) -> Result<(), AllocError> {
-        member(&self.buffer_view, "bufferView", counts, location, report)?;
-        member(&self.byte_offset, "byteOffset", counts, location, report)
+        members!(self, counts, location, report; {
+            buffer_view: "bufferView",
+            byte_offset: "byteOffset",
+        })
     }
 }
 
@@ -65,9 +71,11 @@ impl Validate for Sparse {
         location: &Location<'_>,
         report: &mut Report,
     ) -> Result<(), AllocError> {
-        member(&self.count, "count", counts, location, report)?;
-        member(&self.indices, "indices", counts, location, report)?;
-        member(&self.values, "values", counts, location, report)
+        members!(self, counts, location, report; {
+            count: "count",
+            indices: "indices",
+            values: "values",
+        })
     }
 }
 
@@ -80,17 +88,13 @@ impl Validate for Accessor {
         location: &Location<'_>,
         report: &mut Report,
     ) -> Result<(), AllocError> {
-        member(&self.buffer_view, "bufferView", counts, location, report)?;
-        member(&self.byte_offset, "byteOffset", counts, location, report)?;
-        member(
-            &self.component_type,
-            "componentType",
-            counts,
-            location,
-            report,
-        )?;
-        member(&self.count, "count", counts, location, report)?;
-        member(&self.type_, "type", counts, location, report)?;
-        member(&self.sparse, "sparse", counts, location, report)
+        members!(self, counts, location, report; {
+            buffer_view: "bufferView",
+            byte_offset: "byteOffset",
+            component_type: "componentType",
+            count: "count",
+            type_: "type",
+            sparse: "sparse",
+        })
     }
 }

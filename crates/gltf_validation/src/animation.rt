@@ -1,9 +1,10 @@
 //! The rules of animations (glTF 2.0, section 3.11).
-ghost use Rattle.gltf_validation.specs.Animations.{target_rules, channel_rules, animation_sampler_rules, animation_rules};
+ghost use Rattle.gltf_validation.specs.Animations.{target_rules, channel_rules};
+ghost use Rattle.gltf_validation.specs.Animations.{animation_sampler_rules, animation_rules};
 
 use crate::counts::Counts;
 use crate::location::Location;
-use crate::members::member;
+use crate::members::{member, members};
 use crate::report::Report;
 use crate::validate::Validate;
 use gltf_json_animation::animation::{Animation, Channel, Sampler, Target};
@@ -18,8 +19,10 @@ impl Validate for Target {
         location: &Location<'_>,
         report: &mut Report,
     ) -> Result<(), AllocError> {
-        member(&self.node, "node", counts, location, report)?;
-        member(&self.path, "path", counts, location, report)
+        members!(self, counts, location, report; {
+            node: "node",
+            path: "path",
+        })
     }
 }
 
@@ -32,8 +35,10 @@ impl Validate for Channel {
         location: &Location<'_>,
         report: &mut Report,
     ) -> Result<(), AllocError> {
-        member(&self.sampler, "sampler", counts, location, report)?;
-        member(&self.target, "target", counts, location, report)
+        members!(self, counts, location, report; {
+            sampler: "sampler",
+            target: "target",
+        })
     }
 }
 
@@ -46,15 +51,11 @@ impl Validate for Sampler {
         location: &Location<'_>,
         report: &mut Report,
     ) -> Result<(), AllocError> {
-        member(&self.input, "input", counts, location, report)?;
-        member(
-            &self.interpolation,
-            "interpolation",
-            counts,
-            location,
-            report,
-        )?;
-        member(&self.output, "output", counts, location, report)
+        members!(self, counts, location, report; {
+            input: "input",
+            interpolation: "interpolation",
+            output: "output",
+        })
     }
 }
 

@@ -3,7 +3,7 @@ ghost use Rattle.gltf_validation.specs.Buffers.{buffer_rules, view_rules};
 
 use crate::counts::Counts;
 use crate::location::Location;
-use crate::members::member;
+use crate::members::{member, members};
 use crate::report::Report;
 use crate::validate::Validate;
 use gltf_json_geometry::buffer::{Buffer, View};
@@ -31,10 +31,12 @@ impl Validate for View {
         location: &Location<'_>,
         report: &mut Report,
     ) -> Result<(), AllocError> {
-        member(&self.buffer, "buffer", counts, location, report)?;
-        member(&self.byte_length, "byteLength", counts, location, report)?;
-        member(&self.byte_offset, "byteOffset", counts, location, report)?;
-        member(&self.byte_stride, "byteStride", counts, location, report)?;
-        member(&self.target, "target", counts, location, report)
+        members!(self, counts, location, report; {
+            buffer: "buffer",
+            byte_length: "byteLength",
+            byte_offset: "byteOffset",
+            byte_stride: "byteStride",
+            target: "target",
+        })
     }
 }

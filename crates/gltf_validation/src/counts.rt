@@ -3,8 +3,8 @@ ghost use Rattle.std.specs.Prelude.{◌≡◌};
 
 use gltf_json_record::kinds;
 
-/// The length of each list of a document that an index may point into. This is all that a rule of an
-/// index looks at.
+/// The length of each list of a document that an index may point into. This is all that a rule of
+/// an index looks at.
 #[derive(Clone, Copy)]
 pub struct Counts {
     /// `accessors` of the root.

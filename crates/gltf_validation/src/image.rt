@@ -1,4 +1,4 @@
-//! The rules of images (glTF 2.0, section 3.8.4).
+//! The rules of images (glTF 2.0, section 3.8.3).
 ghost use Rattle.gltf_validation.specs.Images.{image_rules};
 
 use crate::counts::Counts;

@@ -6,8 +6,8 @@ use gltf_json_geometry::semantic::Semantic;
 use gltf_json_record::path::{Path, Step};
 use std::alloc::{AllocError, Global};
 
-/// A place in a document, tied to the places above it. It lies on the stack of the walk and takes no
-/// memory: a path is made of it only where a rule is broken.
+/// A place in a document, tied to the places above it. It lies on the stack of the walk and takes
+/// no memory: a path is made of it only where a rule is broken.
 #[derive(Clone, Copy)]
 pub enum Location<'a> {
     /// The whole document.

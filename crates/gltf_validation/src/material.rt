@@ -1,9 +1,13 @@
 //! The rules of materials and their extensions (glTF 2.0, section 3.9).
-ghost use Rattle.gltf_validation.specs.Materials.{normal_texture_rules, occlusion_texture_rules, pbr_metallic_roughness_rules, pbr_specular_glossiness_rules, transmission_rules, volume_rules, specular_rules, material_extensions_rules, material_rules};
+ghost use Rattle.gltf_validation.specs.Materials.{normal_texture_rules, occlusion_texture_rules};
+ghost use Rattle.gltf_validation.specs.Materials.{pbr_metallic_roughness_rules};
+ghost use Rattle.gltf_validation.specs.Materials.{pbr_specular_glossiness_rules};
+ghost use Rattle.gltf_validation.specs.Materials.{transmission_rules, volume_rules, specular_rules};
+ghost use Rattle.gltf_validation.specs.Materials.{material_extensions_rules, material_rules};
 
 use crate::counts::Counts;
 use crate::location::Location;
-use crate::members::member;
+use crate::members::{member, members};
 use crate::report::Report;
 use crate::validate::Validate;
 use gltf_json_material::extensions::material as extended;
@@ -47,20 +51,10 @@ impl Validate for PbrMetallicRoughness {
         location: &Location<'_>,
         report: &mut Report,
     ) -> Result<(), AllocError> {
-        member(
-            &self.base_color_texture,
-            "baseColorTexture",
-            counts,
-            location,
-            report,
-        )?;
-        member(
-            &self.metallic_roughness_texture,
-            "metallicRoughnessTexture",
-            counts,
-            location,
-            report,
-        )
+        members!(self, counts, location, report; {
+            base_color_texture: "baseColorTexture",
+            metallic_roughness_texture: "metallicRoughnessTexture",
+        })
     }
 }
 
@@ -73,20 +67,10 @@ impl Validate for extended::PbrSpecularGlossiness {
         location: &Location<'_>,
         report: &mut Report,
     ) -> Result<(), AllocError> {
-        member(
-            &self.diffuse_texture,
-            "diffuseTexture",
-            counts,
-            location,
-            report,
-        )?;
-        member(
-            &self.specular_glossiness_texture,
-            "specularGlossinessTexture",
-            counts,
-            location,
-            report,
-        )
+        members!(self, counts, location, report; {
+            diffuse_texture: "diffuseTexture",
+            specular_glossiness_texture: "specularGlossinessTexture",
+        })
     }
 }
 
@@ -99,13 +83,9 @@ impl Validate for extended::Transmission {
         location: &Location<'_>,
         report: &mut Report,
     ) -> Result<(), AllocError> {
-        member(
-            &self.transmission_texture,
-            "transmissionTexture",
-            counts,
-            location,
-            report,
-        )
+        members!(self, counts, location, report; {
+            transmission_texture: "transmissionTexture",
+        })
     }
 }
 
@@ -118,13 +98,9 @@ impl Validate for extended::Volume {
         location: &Location<'_>,
         report: &mut Report,
     ) -> Result<(), AllocError> {
-        member(
-            &self.thickness_texture,
-            "thicknessTexture",
-            counts,
-            location,
-            report,
-        )
+        members!(self, counts, location, report; {
+            thickness_texture: "thicknessTexture",
+        })
     }
 }
 
@@ -137,20 +113,10 @@ impl Validate for extended::Specular {
         location: &Location<'_>,
         report: &mut Report,
     ) -> Result<(), AllocError> {
-        member(
-            &self.specular_texture,
-            "specularTexture",
-            counts,
-            location,
-            report,
-        )?;
-        member(
-            &self.specular_color_texture,
-            "specularColorTexture",
-            counts,
-            location,
-            report,
-        )
+        members!(self, counts, location, report; {
+            specular_texture: "specularTexture",
+            specular_color_texture: "specularColorTexture",
+        })
     }
 }
 
@@ -163,34 +129,12 @@ impl Validate for extended::Material {
         location: &Location<'_>,
         report: &mut Report,
     ) -> Result<(), AllocError> {
-        member(
-            &self.pbr_specular_glossiness,
-            "KHR_materials_pbrSpecularGlossiness",
-            counts,
-            location,
-            report,
-        )?;
-        member(
-            &self.transmission,
-            "KHR_materials_transmission",
-            counts,
-            location,
-            report,
-        )?;
-        member(
-            &self.volume,
-            "KHR_materials_volume",
-            counts,
-            location,
-            report,
-        )?;
-        member(
-            &self.specular,
-            "KHR_materials_specular",
-            counts,
-            location,
-            report,
-        )
+        members!(self, counts, location, report; {
+            pbr_specular_glossiness: "KHR_materials_pbrSpecularGlossiness",
+            transmission: "KHR_materials_transmission",
+            volume: "KHR_materials_volume",
+            specular: "KHR_materials_specular",
+        })
     }
 }
 
@@ -203,35 +147,13 @@ impl Validate for Material {
         location: &Location<'_>,
         report: &mut Report,
     ) -> Result<(), AllocError> {
-        member(&self.alpha_mode, "alphaMode", counts, location, report)?;
-        member(
-            &self.pbr_metallic_roughness,
-            "pbrMetallicRoughness",
-            counts,
-            location,
-            report,
-        )?;
-        member(
-            &self.normal_texture,
-            "normalTexture",
-            counts,
-            location,
-            report,
-        )?;
-        member(
-            &self.occlusion_texture,
-            "occlusionTexture",
-            counts,
-            location,
-            report,
-        )?;
-        member(
-            &self.emissive_texture,
-            "emissiveTexture",
-            counts,
-            location,
-            report,
-        )?;
-        member(&self.extensions, "extensions", counts, location, report)
+        members!(self, counts, location, report; {
+            alpha_mode: "alphaMode",
+            pbr_metallic_roughness: "pbrMetallicRoughness",
+            normal_texture: "normalTexture",
+            occlusion_texture: "occlusionTexture",
+            emissive_texture: "emissiveTexture",
+            extensions: "extensions",
+        })
     }
 }

@@ -2,7 +2,8 @@
 ghost use Rattle.std.specs.Prelude.{◌≡◌, OnOk};
 ghost use Rattle.gltf_validation.specs.Locations.{places_of};
 ghost use Rattle.gltf_validation.specs.Rules.{report_after};
-ghost use Rattle.gltf_validation.specs.Members.{member, index_rules, code_rules, size_rules, optional_rules, list_rules, needed_rules};
+ghost use Rattle.gltf_validation.specs.Members.{member, index_rules, code_rules, size_rules};
+ghost use Rattle.gltf_validation.specs.Members.{optional_rules, list_rules, needed_rules};
 
 use crate::counts::{Counted, Counts};
 use crate::error::Error;
@@ -103,10 +104,28 @@ pub(crate) fn member<T: Validate>(
     location: &Location<'_>,
     report: &mut Report,
 ) -> Result<(), AllocError>
-    ensures { OnOk result (report.new ≡ report_after report.old (places_of location.now) (member name.now (T.rules counts.now value.now))) }
+    ensures { OnOk result (report.new ≡ report_after report.old (places_of location.now)
+        (member name.now (T.rules counts.now value.now))) }
 {
     value.validate(counts, &Location::Member(location, name), report)
 }
+
+/// Reports the rules of several members of a record, in order: a line `field: "name",` a member.
+macro_rules! members {
+    ($record:ident, $counts:ident, $location:ident, $report:ident; {
+        $field:ident: $name:expr,
+    }) => {
+        $crate::members::member(&$record.$field, $name, $counts, $location, $report)
+    };
+    ($record:ident, $counts:ident, $location:ident, $report:ident; {
+        $field:ident: $name:expr, $($rest:tt)+
+    }) => {{
+        $crate::members::member(&$record.$field, $name, $counts, $location, $report)?;
+        members!($record, $counts, $location, $report; { $($rest)+ })
+    }};
+}
+
+pub(crate) use members;
 
 /// A member that has to be there in some cases.
 pub(crate) fn needed<T>(
@@ -116,7 +135,8 @@ pub(crate) fn needed<T>(
     location: &Location<'_>,
     report: &mut Report,
 ) -> Result<(), AllocError>
-    ensures { OnOk result (report.new ≡ report_after report.old (places_of location.now) (member name.now (needed_rules is_needed value.now))) }
+    ensures { OnOk result (report.new ≡ report_after report.old (places_of location.now)
+        (member name.now (needed_rules is_needed value.now))) }
 {
     if is_needed && value.is_none() {
         report.add(&Location::Member(location, name), Error::Missing)

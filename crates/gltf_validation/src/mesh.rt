@@ -2,12 +2,13 @@
 ghost use Rattle.std.specs.Prelude.{◌≡◌, OnOk};
 ghost use Rattle.gltf_validation.specs.Locations.{places_of};
 ghost use Rattle.gltf_validation.specs.Rules.{report_after};
-ghost use Rattle.gltf_validation.specs.Meshes.{morph_target_rules, entries_rules, unknown_rules, primitive_rules, mesh_rules};
+ghost use Rattle.gltf_validation.specs.Meshes.{morph_target_rules, entries_rules, unknown_rules};
+ghost use Rattle.gltf_validation.specs.Meshes.{primitive_rules, mesh_rules};
 
 use crate::counts::Counts;
 use crate::error::Error;
 use crate::location::Location;
-use crate::members::member;
+use crate::members::{member, members};
 use crate::report::Report;
 use crate::validate::Validate;
 use gltf_json_geometry::mesh::{Mesh, MorphTarget, Primitive};
@@ -24,9 +25,11 @@ impl Validate for MorphTarget {
         location: &Location<'_>,
         report: &mut Report,
     ) -> Result<(), AllocError> {
-        member(&self.positions, "POSITION", counts, location, report)?;
-        member(&self.normals, "NORMAL", counts, location, report)?;
-        member(&self.tangents, "TANGENT", counts, location, report)
+        members!(self, counts, location, report; {
+            positions: "POSITION",
+            normals: "NORMAL",
+            tangents: "TANGENT",
+        })
     }
 }
 
@@ -42,10 +45,12 @@ impl Validate for Primitive {
         let attributes = Location::Member(location, "attributes");
         validate_attributes(&self.attributes, counts, &attributes, report)?;
         validate_unknown(&self.unknown_attributes, &attributes, report)?;
-        member(&self.indices, "indices", counts, location, report)?;
-        member(&self.material, "material", counts, location, report)?;
-        member(&self.mode, "mode", counts, location, report)?;
-        member(&self.targets, "targets", counts, location, report)
+        members!(self, counts, location, report; {
+            indices: "indices",
+            material: "material",
+            mode: "mode",
+            targets: "targets",
+        })
     }
 }
 
@@ -69,7 +74,8 @@ fn validate_attributes<T: Validate>(
     location: &Location<'_>,
     report: &mut Report,
 ) -> Result<(), AllocError>
-    ensures { OnOk result (report.new ≡ report_after report.old (places_of location.now) (entries_rules (T.rules counts.now) attributes.now.entries)) }
+    ensures { OnOk result (report.new ≡ report_after report.old (places_of location.now)
+        (entries_rules (T.rules counts.now) attributes.now.entries)) }
 {
     for (semantic, value) in attributes {
         value.validate(counts, &Location::Attribute(&*location, semantic), report)?;
@@ -83,7 +89,8 @@ fn validate_unknown(
     location: &Location<'_>,
     report: &mut Report,
 ) -> Result<(), AllocError>
-    ensures { OnOk result (report.new ≡ report_after report.old (places_of location.now) (unknown_rules names.now)) }
+    ensures { OnOk result (report.new ≡ report_after report.old (places_of location.now)
+        (unknown_rules names.now)) }
 {
     for name in names {
         report.add(

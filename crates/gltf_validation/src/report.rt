@@ -8,7 +8,8 @@ use gltf_json_record::path::Path;
 use std::alloc::{AllocError, Global};
 use std::marker::Model;
 
-/// The broken rules that a walk has met so far, in the order of the walk. Contracts see the list of them.
+/// The broken rules that a walk has met so far, in the order of the walk. Contracts see the list of
+/// them.
 #[derive(Debug, Drop)]
 pub struct Report {
     alloc: Global,

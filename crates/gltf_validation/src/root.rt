@@ -3,12 +3,15 @@ ghost use Rattle.std.specs.Prelude.{◌≡◌, OnOk};
 ghost use Rattle.gltf_json_record.specs.Member.{is_one_of};
 ghost use Rattle.gltf_validation.specs.Locations.{places_of};
 ghost use Rattle.gltf_validation.specs.Rules.{report_after};
-ghost use Rattle.gltf_validation.specs.Documents.{counts_of, supported_extensions, required_rules, root_lights_rules, light_count, first_members_rules, later_members_rules, root_extensions_rules, root_rules};
+ghost use Rattle.gltf_validation.specs.Documents.{counts_of, supported_extensions, required_rules};
+ghost use Rattle.gltf_validation.specs.Documents.{root_lights_rules, light_count};
+ghost use Rattle.gltf_validation.specs.Documents.{first_members_rules, later_members_rules};
+ghost use Rattle.gltf_validation.specs.Documents.{root_extensions_rules, root_rules};
 
 use crate::counts::Counts;
 use crate::error::Error;
 use crate::location::Location;
-use crate::members::member;
+use crate::members::{member, members};
 use crate::report::Report;
 use crate::validate::Validate;
 use gltf_json::extensions::root as extended;
@@ -73,13 +76,9 @@ impl Validate for extended::Root {
         location: &Location<'_>,
         report: &mut Report,
     ) -> Result<(), AllocError> {
-        member(
-            &self.khr_lights_punctual,
-            "KHR_lights_punctual",
-            counts,
-            location,
-            report,
-        )
+        members!(self, counts, location, report; {
+            khr_lights_punctual: "KHR_lights_punctual",
+        })
     }
 }
 
@@ -103,18 +102,21 @@ fn first_members(
     location: &Location<'_>,
     report: &mut Report,
 ) -> Result<(), AllocError>
-    ensures { OnOk result (report.new ≡ report_after report.old (places_of location.now) (first_members_rules counts.now root.now)) }
+    ensures { OnOk result (report.new ≡ report_after report.old (places_of location.now)
+        (first_members_rules counts.now root.now)) }
 {
-    member(&root.accessors, "accessors", counts, location, report)?;
-    member(&root.animations, "animations", counts, location, report)?;
-    member(&root.buffers, "buffers", counts, location, report)?;
-    member(&root.buffer_views, "bufferViews", counts, location, report)?;
-    member(&root.cameras, "cameras", counts, location, report)?;
-    member(&root.images, "images", counts, location, report)?;
-    member(&root.materials, "materials", counts, location, report)?;
-    member(&root.meshes, "meshes", counts, location, report)?;
-    member(&root.nodes, "nodes", counts, location, report)?;
-    member(&root.samplers, "samplers", counts, location, report)
+    members!(root, counts, location, report; {
+        accessors: "accessors",
+        animations: "animations",
+        buffers: "buffers",
+        buffer_views: "bufferViews",
+        cameras: "cameras",
+        images: "images",
+        materials: "materials",
+        meshes: "meshes",
+        nodes: "nodes",
+        samplers: "samplers",
+    })
 }
 
 fn later_members(
@@ -123,12 +125,15 @@ fn later_members(
     location: &Location<'_>,
     report: &mut Report,
 ) -> Result<(), AllocError>
-    ensures { OnOk result (report.new ≡ report_after report.old (places_of location.now) (later_members_rules counts.now root.now)) }
+    ensures { OnOk result (report.new ≡ report_after report.old (places_of location.now)
+        (later_members_rules counts.now root.now)) }
 {
-    member(&root.scene, "scene", counts, location, report)?;
-    member(&root.scenes, "scenes", counts, location, report)?;
-    member(&root.skins, "skins", counts, location, report)?;
-    member(&root.textures, "textures", counts, location, report)?;
+    members!(root, counts, location, report; {
+        scene: "scene",
+        scenes: "scenes",
+        skins: "skins",
+        textures: "textures",
+    })?;
     let required = Location::Member(location, "extensionsRequired");
     validate_required(&root.extensions_required, &required, report)?;
     member(&root.extensions, "extensions", counts, location, report)
@@ -159,7 +164,8 @@ fn validate_required(
     location: &Location<'_>,
     report: &mut Report,
 ) -> Result<(), AllocError>
-    ensures { OnOk result (report.new ≡ report_after report.old (places_of location.now) (required_rules names.now)) }
+    ensures { OnOk result (report.new ≡ report_after report.old (places_of location.now)
+        (required_rules names.now)) }
 {
     for (i, name) in names.iter().enumerate() {
         if !is_supported(name) {

@@ -3,7 +3,7 @@ ghost use Rattle.gltf_validation.specs.Scenes.{node_extensions_rules, node_rules
 
 use crate::counts::Counts;
 use crate::location::Location;
-use crate::members::member;
+use crate::members::{member, members};
 use crate::report::Report;
 use crate::validate::Validate;
 use gltf_json_scene::extensions::scene as extended;
@@ -19,13 +19,9 @@ impl Validate for extended::Node {
         location: &Location<'_>,
         report: &mut Report,
     ) -> Result<(), AllocError> {
-        member(
-            &self.khr_lights_punctual,
-            "KHR_lights_punctual",
-            counts,
-            location,
-            report,
-        )
+        members!(self, counts, location, report; {
+            khr_lights_punctual: "KHR_lights_punctual",
+        })
     }
 }
 
@@ -38,11 +34,13 @@ impl Validate for Node {
         location: &Location<'_>,
         report: &mut Report,
     ) -> Result<(), AllocError> {
-        member(&self.camera, "camera", counts, location, report)?;
-        member(&self.children, "children", counts, location, report)?;
-        member(&self.mesh, "mesh", counts, location, report)?;
-        member(&self.skin, "skin", counts, location, report)?;
-        member(&self.extensions, "extensions", counts, location, report)
+        members!(self, counts, location, report; {
+            camera: "camera",
+            children: "children",
+            mesh: "mesh",
+            skin: "skin",
+            extensions: "extensions",
+        })
     }
 }
 

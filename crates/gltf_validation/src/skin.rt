@@ -3,7 +3,7 @@ ghost use Rattle.gltf_validation.specs.Skins.{skin_rules};
 
 use crate::counts::Counts;
 use crate::location::Location;
-use crate::members::member;
+use crate::members::members;
 use crate::report::Report;
 use crate::validate::Validate;
 use gltf_json_scene::skin::Skin;
@@ -18,14 +18,10 @@ impl Validate for Skin {
         location: &Location<'_>,
         report: &mut Report,
     ) -> Result<(), AllocError> {
-        member(
-            &self.inverse_bind_matrices,
-            "inverseBindMatrices",
-            counts,
-            location,
-            report,
-        )?;
-        member(&self.joints, "joints", counts, location, report)?;
-        member(&self.skeleton, "skeleton", counts, location, report)
+        members!(self, counts, location, report; {
+            inverse_bind_matrices: "inverseBindMatrices",
+            joints: "joints",
+            skeleton: "skeleton",
+        })
     }
 }

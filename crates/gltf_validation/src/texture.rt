@@ -3,7 +3,7 @@ ghost use Rattle.gltf_validation.specs.Textures.{sampler_rules, texture_rules, i
 
 use crate::counts::Counts;
 use crate::location::Location;
-use crate::members::member;
+use crate::members::{member, members};
 use crate::report::Report;
 use crate::validate::Validate;
 use gltf_json_material::texture::Info;
@@ -19,10 +19,12 @@ impl Validate for Sampler {
         location: &Location<'_>,
         report: &mut Report,
     ) -> Result<(), AllocError> {
-        member(&self.mag_filter, "magFilter", counts, location, report)?;
-        member(&self.min_filter, "minFilter", counts, location, report)?;
-        member(&self.wrap_s, "wrapS", counts, location, report)?;
-        member(&self.wrap_t, "wrapT", counts, location, report)
+        members!(self, counts, location, report; {
+            mag_filter: "magFilter",
+            min_filter: "minFilter",
+            wrap_s: "wrapS",
+            wrap_t: "wrapT",
+        })
     }
 }
 
@@ -35,8 +37,10 @@ impl Validate for Texture {
         location: &Location<'_>,
         report: &mut Report,
     ) -> Result<(), AllocError> {
-        member(&self.sampler, "sampler", counts, location, report)?;
-        member(&self.source, "source", counts, location, report)
+        members!(self, counts, location, report; {
+            sampler: "sampler",
+            source: "source",
+        })
     }
 }
 

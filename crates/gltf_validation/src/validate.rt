@@ -23,7 +23,8 @@ pub trait Validate {
         location: &Location<'_>,
         report: &mut Report,
     ) -> Result<(), AllocError>
-        ensures { OnOk result (report.new ≡ report_after report.old (places_of location.now) (rules counts.now self.now)) };
+        ensures { OnOk result (report.new
+            ≡ report_after report.old (places_of location.now) (rules counts.now self.now)) };
 }
 
 /// Every broken rule of a value that is the whole of a document, in order.
@@ -32,8 +33,10 @@ pub fn faults_of<T: Validate>(
     value: &T,
     counts: &Counts,
 ) -> Result<Vec<(Path, Error)>, AllocError>
-    ensures whole { IfOk result (λ faults. faults.items ≡ broken (checks_at [] (T.rules counts.now value.now))) }
-    ensures none { IfOk result (λ faults. (faults.items ≡ []) ↔ Hold (T.rules counts.now value.now)) }
+    ensures whole { IfOk result (λ faults. faults.items
+        ≡ broken (checks_at [] (T.rules counts.now value.now))) }
+    ensures none { IfOk result (λ faults. (faults.items ≡ []) ↔ Hold
+        (T.rules counts.now value.now)) }
 {
     let mut report = Report::new(alloc);
     value.validate(counts, &Location::Whole, &mut report)?;

@@ -2,8 +2,10 @@
 
 ghost use Rattle.std.specs.Prelude.{◌≡◌, ◌+◌, ◌*◌, ◌≤◌, IfOk, length};
 ghost use Rattle.gltf_items.specs.Sparse.{digits};
-ghost use Rattle.gltf_data.specs.Iter.{seen};
-ghost use Rattle.gltf_data.specs.Walk.{all_answers, position_after, end_answer, most_index_reads, most_item_reads, step_reads, step_items, end_reads, end_items};
+ghost use Rattle.gltf_data.specs.Iter.{counted_items};
+ghost use Rattle.gltf_data.specs.Walk.{all_answers, position_after, end_answer, most_index_reads};
+ghost use Rattle.gltf_data.specs.Walk.{most_item_reads, step_reads, step_items, end_reads};
+ghost use Rattle.gltf_data.specs.Walk.{end_items};
 ghost use Rattle.gltf_data.specs.Steps.{answer_of, after_step, end_of, Takes};
 
 use crate::accessor_iter::Iter;
@@ -13,9 +15,11 @@ use std::alloc::{AllocError, Global};
 
 /// One step.
 fn take_step<T: Item>(items: &mut Iter<'_, T>, step: Step) -> Answer<T>
-    ensures gives { result ≡ answer_of (seen items.old).items step }
-    ensures leaves { (seen items.new).items ≡ after_step (seen items.old).items step }
-    ensures costs { Takes (seen items.old) (seen items.new) (step_reads (seen items.old).stored step) (step_items step) }
+    ensures gives { result ≡ answer_of (counted_items items.old).items step }
+    ensures leaves { (counted_items items.new).items
+        ≡ after_step (counted_items items.old).items step }
+    ensures costs { Takes (counted_items items.old) (counted_items items.new)
+        (step_reads (counted_items items.old).stored step) (step_items step) }
 {
     match step {
         Step::Next => Answer::Item(items.first()),
@@ -26,8 +30,9 @@ fn take_step<T: Item>(items: &mut Iter<'_, T>, step: Step) -> Answer<T>
 
 /// The end.
 fn take_end<T: Item>(items: &mut Iter<'_, T>, end: End) -> Ended<T>
-    ensures gives { result ≡ end_of (seen items.old).items end }
-    ensures costs { Takes (seen items.old) (seen items.new) (end_reads (seen items.old).stored end) (end_items end) }
+    ensures gives { result ≡ end_of (counted_items items.old).items end }
+    ensures costs { Takes (counted_items items.old) (counted_items items.new)
+        (end_reads (counted_items items.old).stored end) (end_items end) }
 {
     match end {
         End::Last => Ended::Last(items.take_last()),
@@ -36,24 +41,28 @@ fn take_end<T: Item>(items: &mut Iter<'_, T>, end: End) -> Ended<T>
     }
 }
 
-/// The answers of a list of steps, one after the other, and then of the end. They are those of a position in the list of
-/// items that are left, first 0. Over c stored indices, where c has d binary digits, `Next` reads at most one of them,
-/// `Nth` and the end `Last` at most d + 1, and all others read nothing: with s steps at most (s + 1) * (d + 1). Each that
-/// asks for an item reads at most one of the base and one value.
+/// The answers of a list of steps, one after the other, and then of the end. They are those of a
+/// position in the list of items that are left, first 0. Over c stored indices, where c has d
+/// binary digits, `Next` reads at most one of them, `Nth` and the end `Last` at most d + 1, and all
+/// others read nothing: with s steps at most (s + 1) * (d + 1). Each that asks for an item reads at
+/// most one of the base and one value.
 pub fn walk<T: Item>(
     alloc: Global,
     mut items: Iter<'_, T>,
     steps: &[Step],
     end: End,
 ) -> Result<Walked<T>, AllocError>
-    ensures answers { IfOk result (λ w. w.answers.items ≡ all_answers (seen items.entry).items 0 steps.now) }
+    ensures answers { IfOk result (λ w. w.answers.items
+        ≡ all_answers (counted_items items.entry).items 0 steps.now) }
     ensures ended { IfOk result (λ w. w.ended
-        ≡ end_answer (seen items.entry).items (position_after (seen items.entry).items 0 steps.now) end) }
-    ensures index_reads { IfOk result (λ w. w.index_reads ≤ most_index_reads (seen items.entry).stored steps.now end) }
+        ≡ end_answer (counted_items items.entry).items
+        (position_after (counted_items items.entry).items 0 steps.now) end) }
+    ensures index_reads { IfOk result (λ w. w.index_reads
+        ≤ most_index_reads (counted_items items.entry).stored steps.now end) }
     ensures base_reads { IfOk result (λ w. w.base_reads ≤ most_item_reads steps.now end) }
     ensures value_reads { IfOk result (λ w. w.value_reads ≤ most_item_reads steps.now end) }
-    ensures bound { most_index_reads (seen items.entry).stored steps.now end
-        ≤ (length steps.now + 1) * (digits (seen items.entry).stored + 1) }
+    ensures bound { most_index_reads (counted_items items.entry).stored steps.now end
+        ≤ (length steps.now + 1) * (digits (counted_items items.entry).stored + 1) }
 {
     let index_reads = items.index_reads();
     let base_reads = items.base_reads();

@@ -1,5 +1,5 @@
-//! The sparse part of an accessor: items that differ from those of its view (glTF 2.0, section 3.6.2.3, "Sparse
-//! Accessors").
+//! The sparse part of an accessor: items that differ from those of its view (glTF 2.0, section
+//! 3.6.2.3, "Sparse Accessors").
 
 ghost use Rattle.std.specs.Prelude.{◌≡◌, ◌≤◌};
 ghost use Rattle.std.specs.Option.{option_copied};
@@ -49,7 +49,7 @@ pub struct Sparse<'a> {
 }
 
 impl<'a> Sparse<'a> {
-    ghost use Rattle.gltf_handles.specs.Accessors.{shown_sparse, IsSparse, IsIndices, IsValues};
+    ghost use Rattle.gltf_handles.specs.Accessors.{sparse_handle, IsSparse, IsIndices, IsValues};
 
     /// That of an accessor.
     pub(crate) fn new(document: &'a Valid, json: &'a sparse::Sparse) -> Self
@@ -61,14 +61,15 @@ impl<'a> Sparse<'a> {
 
     /// How many items are stored.
     pub fn count(&self) -> usize
-        ensures { result ≡ (shown_sparse self.now).json.count }
+        ensures { result ≡ (sparse_handle self.now).json.count }
     {
         self.json.count as usize
     }
 
     /// Where the positions of the stored items are.
     pub fn indices(&self) -> Indices<'a>
-        ensures { IsIndices (shown_sparse self.now).document (shown_sparse self.now).json.indices result }
+        ensures { IsIndices (sparse_handle self.now).document
+            (sparse_handle self.now).json.indices result }
     {
         Indices {
             document: self.document,
@@ -78,7 +79,8 @@ impl<'a> Sparse<'a> {
 
     /// Where the stored items are.
     pub fn values(&self) -> Values<'a>
-        ensures { IsValues (shown_sparse self.now).document (shown_sparse self.now).json.values result }
+        ensures { IsValues (sparse_handle self.now).document
+            (sparse_handle self.now).json.values result }
     {
         Values {
             document: self.document,
@@ -88,7 +90,7 @@ impl<'a> Sparse<'a> {
 
     /// What the application stores here: `extras`.
     pub fn extras(&self) -> Option<&'a Value>
-        ensures { option_copied result ≡ (shown_sparse self.now).json.extras }
+        ensures { option_copied result ≡ (sparse_handle self.now).json.extras }
     {
         self.json.extras.as_ref()
     }
@@ -105,25 +107,27 @@ pub struct Indices<'a> {
 impl<'a> Indices<'a> {
     ghost use Rattle.gltf_handles.specs.Buffers.{IsView};
     ghost use Rattle.gltf_handles.specs.Sizes.{index_type, Means};
-    ghost use Rattle.gltf_handles.specs.Accessors.{shown_indices};
+    ghost use Rattle.gltf_handles.specs.Accessors.{indices_handle};
 
     /// The view that holds them.
     pub fn view(&self) -> View<'a>
-        ensures { IsView (shown_indices self.now).document (shown_indices self.now).json.buffer_view result }
+        ensures { IsView (indices_handle self.now).document
+            (indices_handle self.now).json.buffer_view result }
     {
         View::new(self.document, self.json.buffer_view.value())
     }
 
-    /// The distance in bytes from the start of the view to the first index: `byteOffset`, 0 where that is absent.
+    /// The distance in bytes from the start of the view to the first index: `byteOffset`, 0 where
+    /// that is absent.
     pub fn offset(&self) -> usize
-        ensures { result ≡ (shown_indices self.now).json.byte_offset }
+        ensures { result ≡ (indices_handle self.now).json.byte_offset }
     {
         self.json.byte_offset as usize
     }
 
     /// The type of each index: `componentType`.
     pub fn index_type(&self) -> IndexType
-        ensures { Means index_type (shown_indices self.now).json.component_type result }
+        ensures { Means index_type (indices_handle self.now).json.component_type result }
     {
         match self.json.component_type {
             Checked::Valid(ComponentType::U8) => IndexType::U8,
@@ -135,7 +139,7 @@ impl<'a> Indices<'a> {
 
     /// What the application stores here: `extras`.
     pub fn extras(&self) -> Option<&'a Value>
-        ensures { option_copied result ≡ (shown_indices self.now).json.extras }
+        ensures { option_copied result ≡ (indices_handle self.now).json.extras }
     {
         self.json.extras.as_ref()
     }
@@ -151,25 +155,27 @@ pub struct Values<'a> {
 
 impl<'a> Values<'a> {
     ghost use Rattle.gltf_handles.specs.Buffers.{IsView};
-    ghost use Rattle.gltf_handles.specs.Accessors.{shown_values};
+    ghost use Rattle.gltf_handles.specs.Accessors.{values_handle};
 
     /// The view that holds them.
     pub fn view(&self) -> View<'a>
-        ensures { IsView (shown_values self.now).document (shown_values self.now).json.buffer_view result }
+        ensures { IsView (values_handle self.now).document
+            (values_handle self.now).json.buffer_view result }
     {
         View::new(self.document, self.json.buffer_view.value())
     }
 
-    /// The distance in bytes from the start of the view to the first item: `byteOffset`, 0 where that is absent.
+    /// The distance in bytes from the start of the view to the first item: `byteOffset`, 0 where
+    /// that is absent.
     pub fn offset(&self) -> usize
-        ensures { result ≡ (shown_values self.now).json.byte_offset }
+        ensures { result ≡ (values_handle self.now).json.byte_offset }
     {
         self.json.byte_offset as usize
     }
 
     /// What the application stores here: `extras`.
     pub fn extras(&self) -> Option<&'a Value>
-        ensures { option_copied result ≡ (shown_values self.now).json.extras }
+        ensures { option_copied result ≡ (values_handle self.now).json.extras }
     {
         self.json.extras.as_ref()
     }

@@ -1,5 +1,5 @@
-//! The sparse part of an accessor: items that differ from those of its view (glTF 2.0, section 3.6.2.3,
-//! "Sparse Accessors").
+//! The sparse part of an accessor: items that differ from those of its view (glTF 2.0, section
+//! 3.6.2.3, "Sparse Accessors").
 ghost use Rattle.std.specs.Prelude.{IfOk};
 ghost use Rattle.gltf_json_record.specs.Copy.{IsCopy};
 
@@ -14,7 +14,8 @@ use gltf_json_record::{kinds, read_record, record};
 use serde_json::Value;
 use std::alloc::{AllocError, Global};
 
-/// Where the positions of the differing items are (glTF 2.0, section 5.3, "Accessor Sparse Indices").
+/// Where the positions of the differing items are (glTF 2.0, section 5.3, "Accessor Sparse
+/// Indices").
 #[derive(Debug, Drop)]
 pub struct Indices {
     /// The view that holds them: `bufferView`.

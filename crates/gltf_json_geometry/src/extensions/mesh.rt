@@ -9,7 +9,8 @@ use gltf_json_record::{read_record, record};
 use serde_json::{Map, Value};
 use std::alloc::{AllocError, Global};
 
-/// The material that some variants give to a primitive (`KHR_materials_variants`, "Variant Mappings").
+/// The material that some variants give to a primitive (`KHR_materials_variants`, "Variant
+/// Mappings").
 #[derive(Debug, Drop)]
 pub struct Mapping {
     /// The number of the material in the root's list: `material`.

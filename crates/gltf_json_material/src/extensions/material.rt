@@ -72,8 +72,8 @@ impl FromValue for PbrSpecularGlossiness {
     }
 }
 
-/// That a material shows its colour with no light on it (the extension `KHR_materials_unlit`). It has no
-/// members.
+/// That a material shows its colour with no light on it (the extension `KHR_materials_unlit`). It
+/// has no members.
 #[derive(Debug, Drop)]
 pub struct Unlit {}
 
@@ -199,7 +199,8 @@ impl FromValue for Ior {
     }
 }
 
-/// How strong the light is that a surface gives off (the extension `KHR_materials_emissive_strength`).
+/// How strong the light is that a surface gives off (the extension
+/// `KHR_materials_emissive_strength`).
 #[derive(Debug, Drop)]
 pub struct EmissiveStrength {
     /// The factor of that light, as it stands: `emissiveStrength`.
@@ -300,7 +301,8 @@ impl FromValue for Volume {
     }
 }
 
-/// The strength and colour of the reflections of a surface (the extension `KHR_materials_specular`).
+/// The strength and colour of the reflections of a surface (the extension
+/// `KHR_materials_specular`).
 #[derive(Debug, Drop)]
 pub struct Specular {
     /// The strength, as it stands: `specularFactor`.
@@ -419,7 +421,15 @@ impl FromValue for Material {
             emissive_strength: optional("KHR_materials_emissive_strength"),
             volume: optional("KHR_materials_volume"),
             specular: optional("KHR_materials_specular"),
-            others: others("KHR_materials_pbrSpecularGlossiness", "KHR_materials_unlit", "KHR_materials_transmission", "KHR_materials_ior", "KHR_materials_emissive_strength", "KHR_materials_volume", "KHR_materials_specular"),
+            others: others(
+                "KHR_materials_pbrSpecularGlossiness",
+                "KHR_materials_unlit",
+                "KHR_materials_transmission",
+                "KHR_materials_ior",
+                "KHR_materials_emissive_strength",
+                "KHR_materials_volume",
+                "KHR_materials_specular"
+            ),
         })
     }
 }

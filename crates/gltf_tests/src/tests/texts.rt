@@ -70,7 +70,7 @@ pub(crate) fn printed<T: Debug>(alloc: Global, value: &T) -> Result<String, Fail
     Ok(format!(in alloc; "{value:?}")?)
 }
 
-/// What a value prints that is let go of.
+/// What a value prints, which is dropped.
 pub(crate) fn printed_last<T: Debug + Drop>(alloc: Global, value: T) -> Result<String, Fail> {
     printed(alloc, &value)
 }

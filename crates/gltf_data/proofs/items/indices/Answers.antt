@@ -4,4 +4,7 @@ use Rattle.gltf_data.proofs.items.indices.Goals as goal
 
 pub returns : goal.returns
 returns g c =
-    indices_whole c.args.sparse.json.now c.view.result.json.now c.offset.result c.count.result c.index_type.result (search rules) (search rules) (search rules) (search rules) (in_document c.view.result.document.now c.args.sparse.document.now (search rules) c.indices_at.ensures)
+    indices_whole c.args.sparse.json.now c.view.result.json.now c.offset.result c.count.result
+    c.index_type.result (search rules) (search rules) (search rules) (search rules)
+    (in_document c.view.result.document.now c.args.sparse.document.now
+    (search rules) c.indices_at.ensures)

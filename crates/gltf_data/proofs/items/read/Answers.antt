@@ -7,7 +7,8 @@ use Rattle.gltf_data.proofs.items.read.Goals as goal
 
 pub returns-then-size-clause-items : goal.returns-then-size-clause-items
 returns-then-size-clause-items g c =
-    other_size g.T.Item c.args.accessor.document.now c.args.accessor.json.now _ (search rules) (search rules)
+    other_size g.T.Item c.args.accessor.document.now c.args.accessor.json.now _ (search rules)
+    (search rules)
 
 pub returns-in_err-standard-in-None-clause-items :
     goal.returns-in_err-standard-in-None-clause-items
@@ -15,7 +16,8 @@ returns-in_err-standard-in-None-clause-items g c =
     let t = g.T.Item in
     let r = c.args.accessor.document.now in
     let a = c.args.accessor.json.now in
-    right_size t r a _ {s = None} {out = option_map items_left c.standard.result} (search rules) (no_sparse r a.sparse (search rules)) (plain_read t r a c.standard.ensures) (search rules)
+    right_size t r a _ {s = None} {out = option_map items_left c.standard.result} (search rules)
+    (no_sparse r a.sparse (search rules)) (plain_read t r a c.standard.ensures) (search rules)
 
 pub returns-in_err-sparse_items-in-Some-clause-items :
     goal.returns-in_err-sparse_items-in-Some-clause-items
@@ -23,14 +25,18 @@ returns-in_err-sparse_items-in-Some-clause-items g c =
     let t = g.T.Item in
     let r = c.args.accessor.document.now in
     let a = c.args.accessor.json.now in
-    right_size t r a _ {s = Some c.in-Some.sparse.json.now} {out = option_map (λ it. it.items) c.sparse_items.result} (search rules) (sparse_is r a.sparse c.in-Some.sparse (search rules)) c.sparse_items.ensures.items (search rules)
+    right_size t r a _ {s = Some c.in-Some.sparse.json.now}
+    {out = option_map (λ it. it.items) c.sparse_items.result} (search rules)
+    (sparse_is r a.sparse c.in-Some.sparse (search rules)) c.sparse_items.ensures.items
+    (search rules)
 
 pub returns-in_ok-standard-in-None-clause-items : goal.returns-in_ok-standard-in-None-clause-items
 returns-in_ok-standard-in-None-clause-items g c =
     let t = g.T.Item in
     let r = c.args.accessor.document.now in
     let a = c.args.accessor.json.now in
-    right_size t r a _ {s = None} {out = option_map items_left c.standard.result} (search rules) (no_sparse r a.sparse (search rules)) (plain_read t r a c.standard.ensures) (search rules)
+    right_size t r a _ {s = None} {out = option_map items_left c.standard.result} (search rules)
+    (no_sparse r a.sparse (search rules)) (plain_read t r a c.standard.ensures) (search rules)
 
 pub returns-in_ok-sparse_items-in-Some-clause-items :
     goal.returns-in_ok-sparse_items-in-Some-clause-items
@@ -38,4 +44,7 @@ returns-in_ok-sparse_items-in-Some-clause-items g c =
     let t = g.T.Item in
     let r = c.args.accessor.document.now in
     let a = c.args.accessor.json.now in
-    right_size t r a _ {s = Some c.in-Some.sparse.json.now} {out = option_map (λ it. it.items) c.sparse_items.result} (search rules) (sparse_is r a.sparse c.in-Some.sparse (search rules)) c.sparse_items.ensures.items (search rules)
+    right_size t r a _ {s = Some c.in-Some.sparse.json.now}
+    {out = option_map (λ it. it.items) c.sparse_items.result} (search rules)
+    (sparse_is r a.sparse c.in-Some.sparse (search rules)) c.sparse_items.ensures.items
+    (search rules)

@@ -5,5 +5,8 @@ use Rattle.gltf_data.proofs.items.standard.Goals as goal
 
 pub returns-in-Some : goal.returns-in-Some
 returns-in-Some g c =
-    let at = base_part_is g.T.Item.size c.args.accessor.document.now c.args.accessor.json.now c.in-Some.view c.offset.result c.count.result (search rules) (search rules) (search rules) in
-    whole (base_part g.T.Item.size c.args.accessor.document.now c.args.accessor.json.now) at.0 (in_document c.in-Some.view.document.now c.args.accessor.document.now at.1 c.items.ensures)
+    let at = base_part_is g.T.Item.size c.args.accessor.document.now c.args.accessor.json.now
+    c.in-Some.view c.offset.result c.count.result (search rules) (search rules)
+    (search rules) in
+    whole (base_part g.T.Item.size c.args.accessor.document.now c.args.accessor.json.now) at.0
+    (in_document c.in-Some.view.document.now c.args.accessor.document.now at.1 c.items.ensures)

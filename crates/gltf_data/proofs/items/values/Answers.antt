@@ -7,4 +7,7 @@ pub returns : goal.returns
 returns g c =
     let r = c.args.sparse.document.now in
     let s = c.args.sparse.json.now in
-    whole (value_part g.T.Item.size r s) (value_part_is g.T.Item.size r s c.view.result.json.now c.offset.result c.count.result (search rules) (search rules) (search rules)) (in_document c.view.result.document.now r (search rules) c.items.ensures)
+    whole (value_part g.T.Item.size r s)
+    (value_part_is g.T.Item.size r s c.view.result.json.now c.offset.result c.count.result
+    (search rules) (search rules) (search rules))
+    (in_document c.view.result.document.now r (search rules) c.items.ensures)

@@ -16,8 +16,11 @@ pub loop-front-preserved : goal.loop-front-preserved
 loop-front-preserved g c =
     let same = same_indices c.args.stored.now c.loop-front.invariant.same in
     let widened : c.from-index.result ≡ c.index.result = search rules in
-    let given : c.from-index.result ≡ slice_index c.args.stored.now.indices c.loop-front.front = widened ∙ c.index.ensures.gives ∙ ap (λ (xs : List ℕ). slice_index xs c.loop-front.front) same in
-    let more = ahead_more c.args.stored.now.indices c.args.stored.now.values c.loop-front.least c.loop-front.front (omega arith) (omega arith) (omega (arith, given)) in
+    let given : c.from-index.result ≡ slice_index c.args.stored.now.indices c.loop-front.front =
+    widened ∙ c.index.ensures.gives ∙ ap
+    (λ (xs : List ℕ). slice_index xs c.loop-front.front) same in
+    let more = ahead_more c.args.stored.now.indices c.args.stored.now.values c.loop-front.least
+    c.loop-front.front (omega arith) (omega arith) (omega (arith, given)) in
     record {
       within = omega arith;
       least = omega (arith, c.index.type_inv);
@@ -26,11 +29,24 @@ loop-front-preserved g c =
     }
 
 pub returns-after-loop-front-clause-gives : goal.returns-after-loop-front-clause-gives
-returns-after-loop-front-clause-gives g c = omega (arith, c.loop-front.invariant.rest, ahead_end c.args.stored.now.indices c.args.stored.now.values c.loop-front.least c.loop-front.front (omega arith))
+returns-after-loop-front-clause-gives g c =
+    omega (
+      arith,
+      c.loop-front.invariant.rest,
+      ahead_end c.args.stored.now.indices c.args.stored.now.values c.loop-front.least
+          c.loop-front.front (omega arith),
+    )
 
 pub returns-then-index-least-clause-gives : goal.returns-then-index-least-clause-gives
 returns-then-index-least-clause-gives g c =
     let same = same_indices c.args.stored.now c.loop-front.invariant.same in
     let widened : c.from-index.result ≡ c.index.result = search rules in
-    let given : c.from-index.result ≡ slice_index c.args.stored.now.indices c.loop-front.front = widened ∙ c.index.ensures.gives ∙ ap (λ (xs : List ℕ). slice_index xs c.loop-front.front) same in
-    omega (arith, c.loop-front.invariant.rest, ahead_none c.args.stored.now.indices c.args.stored.now.values c.loop-front.least c.loop-front.front (omega arith) (omega arith) (omega (arith, given)))
+    let given : c.from-index.result ≡ slice_index c.args.stored.now.indices c.loop-front.front =
+    widened ∙ c.index.ensures.gives ∙ ap
+    (λ (xs : List ℕ). slice_index xs c.loop-front.front) same in
+    omega (
+      arith,
+      c.loop-front.invariant.rest,
+      ahead_none c.args.stored.now.indices c.args.stored.now.values c.loop-front.least
+          c.loop-front.front (omega arith) (omega arith) (omega (arith, given)),
+    )

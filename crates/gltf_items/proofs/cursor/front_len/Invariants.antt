@@ -7,8 +7,10 @@ abbrev pub invariant-loop-front : goal.invariant-loop-front
 invariant-loop-front g l = record {
   within : l.front ≤ l.most;
   least : l.least ≤ 2 ^ 32;
-  rest : l.front + ahead l.initial.stored.indices l.initial.stored.values l.least l.front ≡ length (front l.initial.stored.indices l.initial.stored.values);
-  same : l.stored ≡ record l.initial.stored { index_reads = l.initial.stored.index_reads + l.front };
+  rest : l.front + ahead l.initial.stored.indices l.initial.stored.values l.least l.front
+      ≡ length (front l.initial.stored.indices l.initial.stored.values);
+  same : l.stored ≡ record l.initial.stored
+      { index_reads = l.initial.stored.index_reads + l.front };
 }
 
 abbrev pub decreases-loop-front : goal.decreases-loop-front

@@ -12,4 +12,5 @@ pub returns : goal.returns
 returns c =
     let m : BTreeMap Semantic ℕ = c.args.attributes.now in
     let r : Result (BTreeMap Semantic ℕ) AllocError = c.clone.result in
-    clone_names ((ghosts (impl_arg-0-0 c.clone.lifetimes)).is_clone) (λ x y same. search rules) m r _ c.clone.ensures.cases
+    clone_names ((ghosts (impl_arg-0-0 c.clone.lifetimes)).is_clone)
+    (λ x y same. search rules) m r _ c.clone.ensures.cases

@@ -37,11 +37,12 @@ impl Code for Type {
     }
 }
 
-/// The cone of a spot light (`KHR_lights_punctual`, "Spot"). Its numbers are kept as they stand, of any
-/// kind.
+/// The cone of a spot light (`KHR_lights_punctual`, "Spot"). Its numbers are kept as they stand, of
+/// any kind.
 #[derive(Debug, Drop)]
 pub struct Spot {
-    /// The angle, in radians from the cone's axis, at which the light begins to fade: `innerConeAngle`.
+    /// The angle, in radians from the cone's axis, at which the light begins to fade:
+    /// `innerConeAngle`.
     pub inner_cone_angle: Option<Value>,
     /// The angle, in radians from the cone's axis, at which the light ends: `outerConeAngle`.
     pub outer_cone_angle: Option<Value>,
@@ -82,13 +83,14 @@ impl FromValue for Spot {
     }
 }
 
-/// A light (`KHR_lights_punctual`, "Light Shared Properties"). Its numbers are kept as they stand, of any
-/// kind.
+/// A light (`KHR_lights_punctual`, "Light Shared Properties"). Its numbers are kept as they stand,
+/// of any kind.
 #[derive(Debug, Drop)]
 pub struct Light {
     /// The colour, as linear red, green and blue: `color`.
     pub color: Option<Value>,
-    /// The brightness, in candela for point and spot lights and in lux for directional ones: `intensity`.
+    /// The brightness, in candela for point and spot lights and in lux for directional ones:
+    /// `intensity`.
     pub intensity: Option<Value>,
     /// The distance at which the light ends: `range`.
     pub range: Option<Value>,

@@ -5,5 +5,7 @@ use Rattle.gltf_validation.proofs.laws.no_rule_is_broken_where_all_hold.Goals as
 
 pub returns : goal.returns
 unfolding Faults
-returns c = λ r.
-    (hold-where_none [] (root_rules (counts_of r) r), none-where_hold [] (root_rules (counts_of r) r))
+returns c = λ r. (
+  hold-where_none [] (root_rules (counts_of r) r),
+  none-where_hold [] (root_rules (counts_of r) r),
+)

@@ -7,13 +7,18 @@ pub returns-clause-whole : goal.returns-clause-whole
 returns-clause-whole g c =
     c.into_faults.ensures
     ∙ c.in_ok-validate.ensures
-    ∙ rw c.new-report.ensures (report_after-broken [] [] (g.T.Validate.rules c.args.counts.now c.args.value.now))
+    ∙ rw c.new-report.ensures (report_after-broken [] []
+    (g.T.Validate.rules c.args.counts.now c.args.value.now))
 
 pub returns-clause-none : goal.returns-clause-none
 returns-clause-none g c =
-    let whole : c.into_faults.result.items ≡ broken (checks_at [] (g.T.Validate.rules c.args.counts.now c.args.value.now)) =
+    let whole : c.into_faults.result.items
+    ≡ broken (checks_at [] (g.T.Validate.rules c.args.counts.now c.args.value.now)) =
     c.into_faults.ensures ∙ c.in_ok-validate.ensures
-    ∙ rw c.new-report.ensures (report_after-broken [] [] (g.T.Validate.rules c.args.counts.now c.args.value.now)) in (
-      λ none. hold-where_none [] (g.T.Validate.rules c.args.counts.now c.args.value.now) (sym whole ∙ none),
-      λ hold. whole ∙ none-where_hold [] (g.T.Validate.rules c.args.counts.now c.args.value.now) hold,
+    ∙ rw c.new-report.ensures (report_after-broken [] []
+    (g.T.Validate.rules c.args.counts.now c.args.value.now)) in (
+      λ none. hold-where_none [] (g.T.Validate.rules c.args.counts.now c.args.value.now)
+          (sym whole ∙ none),
+      λ hold. whole ∙ none-where_hold []
+          (g.T.Validate.rules c.args.counts.now c.args.value.now) hold,
     )

@@ -5,4 +5,5 @@ use Rattle.gltf_json_geometry.proofs.AttributesRead.{ReadSoFar}
 use Rattle.gltf_json_geometry.proofs.attributes.AttributesFromValue.from_value.Given as goal
 
 abbrev pub invariant-loop-name : goal.invariant-loop-name
-invariant-loop-name l = ReadSoFar (view l.value) (map string_bytes (map deref l.yielded)) l.attributes
+invariant-loop-name l =
+    ReadSoFar (view l.value) (map string_bytes (map deref l.yielded)) l.attributes

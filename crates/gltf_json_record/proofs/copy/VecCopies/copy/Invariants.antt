@@ -3,5 +3,5 @@ use Rattle.gltf_json_record.proofs.copy.VecCopies.copy.Given as goal
 
 abbrev pub invariant-loop-item : goal.invariant-loop-item
 invariant-loop-item g l =
-    map g.T.FromValue.kind.seen l.list.items
-    ≡ map g.T.FromValue.kind.seen (take l.item-index l.item-items)
+    map g.T.FromValue.kind.content l.list.items
+    ≡ map g.T.FromValue.kind.content (take l.item-index l.item-items)

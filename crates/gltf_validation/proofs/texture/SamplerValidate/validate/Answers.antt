@@ -1,4 +1,5 @@
 use Rattle.gltf_validation.proofs.texture.SamplerValidate.validate.Goals as goal
 
 pub returns : goal.returns
-returns c = rw (c.in_ok-member-3.ensures, c.in_ok-member-2.ensures, c.in_ok-member.ensures) at c.member-4.ensures
+returns c = rw (c.in_ok-member-3.ensures, c.in_ok-member-2.ensures, c.in_ok-member.ensures)
+    at c.member-4.ensures
