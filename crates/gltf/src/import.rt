@@ -27,7 +27,8 @@ use std::borrow::CowSlice;
 /// buffers hold; the error is that of the first of these that does not. No name is asked for: a URI
 /// that leads outside is [`gltf_glb::Error::ExternalReferenceInSliceImport`].
 pub fn import_slice(alloc: Global, bytes: &[u8]) -> Result<(Document, Vec<Data>)>
-    ensures accepted { IfOk result (λ read. Accepts bytes.now read.0 (bytes_of_each read.1.items)) }
+    ensures accepted { IfOk result (λ read. Accepts bytes.now read.0
+        (bytes_of_each read.1.items)) }
     ensures only { IfOk result (λ read. IsOnlyImport bytes.now read.0
         (bytes_of_each read.1.items)) }
     ensures refused { IfErr result (OutOfMemoryOr (RefusesImport bytes.now)) }

@@ -149,7 +149,8 @@ fn sparse_items<'s, T: Item, F: Fn(Buffer) -> Option<&'s [u8]>>(
 ) -> Option<SparseIter<'s, T>>
     requires callable { F.IsAlwaysCallable get_buffer_data.now }
     requires fits { T.size < usize.MAX }
-    requires one_document { (sparse_handle sparse).document ≡ (accessor_handle accessor).document }
+    requires one_document { (sparse_handle sparse).document
+        ≡ (accessor_handle accessor).document }
     ensures items { ReadsParts (λ b o. F.post get_buffer_data.now b o) ⟦<T as Item>⟧
         (accessor_handle accessor.entry).document (accessor_handle accessor.entry).json
         (Some (sparse_handle sparse.entry).json) (option_map (λ it. it.items) result) }

@@ -190,7 +190,8 @@ impl<'a> View<'a> {
     /// The extensions, none of which is known at a view; None where there is no member
     /// `extensions`.
     pub fn extensions(&self) -> Option<&'a Map<String, Value>>
-        ensures { option_copied result ≡ unknown_extensions (view_handle self.now).json.extensions }
+        ensures { option_copied result
+            ≡ unknown_extensions (view_handle self.now).json.extensions }
     {
         let extensions = self.json.extensions.as_ref()?;
         Some(&extensions.others)

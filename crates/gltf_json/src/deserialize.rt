@@ -40,8 +40,8 @@ pub fn from_slice(alloc: Global, bytes: &[u8]) -> Result<Root, Error>
     ensures alike { IfOk result (λ r. (d : Data) (s : Root) → Reads bytes.now d → root.is d s
         → root.content s ≡ root.content r) }
     ensures refused { IfErr result (Refuses bytes.now) }
-    ensures exact { IfErr result (λ e. e ≢ Memory → (d : Data) → Reads bytes.now d → root.fits d
-        → ⊥) }
+    ensures exact { IfErr result (λ e. e ≢ Memory
+        → (d : Data) → Reads bytes.now d → root.fits d → ⊥) }
 {
     let value = Value::from_slice(alloc, bytes)?;
     from_value(alloc, &value)

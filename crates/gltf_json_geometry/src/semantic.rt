@@ -78,8 +78,8 @@ impl Semantic {
     /// where a digit is too many, and `COLOR_4294967296`, whose number has more than 32 bits.
     pub fn of_name(alloc: Global, name: &str) -> Result<Option<Semantic>, AllocError>
         ensures known { IfOk result (λ found. IfSome found (λ s. Names s name.now)) }
-        ensures unknown { IfOk result (λ found. IsNone found → (s : Semantic) → Names s name.now
-            → ⊥) }
+        ensures unknown { IfOk result (λ found. IsNone found
+            → (s : Semantic) → Names s name.now → ⊥) }
     {
         if let Some(rest) = name.strip_prefix("_") {
             return Ok(Some(Semantic::Extras(String::from_str(alloc, rest)?)));
