@@ -25,7 +25,7 @@ use serde_json::Value;
 use std::alloc::{AllocError, Global};
 
 /// The whole document (glTF 2.0, section 5.17, "glTF"). A list is empty where its member is absent.
-#[derive(Debug, Drop)]
+#[derive(Debug)]
 pub struct Root {
     /// What the document says of itself: `asset`.
     pub asset: Asset,
@@ -95,6 +95,34 @@ impl Root {
             extensions: maybe,
             extras: maybe,
         })
+    }
+}
+
+/// By hand, so that a crate above that lets go of a document calls this, and need not prove again
+/// how each record within is dropped.
+impl Drop for Root {
+    fn drop(self) {
+        let Root {
+            asset: _,
+            accessors: _,
+            animations: _,
+            buffers: _,
+            buffer_views: _,
+            cameras: _,
+            images: _,
+            materials: _,
+            meshes: _,
+            nodes: _,
+            samplers: _,
+            scene: _,
+            scenes: _,
+            skins: _,
+            textures: _,
+            extensions_used: _,
+            extensions_required: _,
+            extensions: _,
+            extras: _,
+        } = self;
     }
 }
 
