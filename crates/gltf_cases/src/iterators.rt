@@ -23,10 +23,7 @@ fn plain_as<T: Item + Debug>(
     steps: &[Step],
     line: &mut String,
 ) -> Written {
-    let items = match items_of::<T>(bytes, asked.number(1)) {
-        Some(items) => Some(Iter::Standard(items)),
-        None => None,
-    };
+    let items = items_of::<T>(bytes, asked.number(1)).map(Iter::Standard);
     write_walk(alloc, asked.words, steps, items, line)
 }
 
@@ -68,10 +65,7 @@ fn sparse_as<T: Item + Debug>(
     steps: &[Step],
     line: &mut String,
 ) -> Written {
-    let items = match sparse_of::<T>(asked, parts) {
-        Some(items) => Some(Iter::Sparse(items)),
-        None => None,
-    };
+    let items = sparse_of::<T>(asked, parts).map(Iter::Sparse);
     write_walk(alloc, asked.words, steps, items, line)
 }
 

@@ -112,10 +112,8 @@ fn standard<'s, T: Item, F: Fn(Buffer) -> Option<&'s [u8]>>(
         ReadsAny (λ b o. F.post get_buffer_data.now b o) a.document part (PartReadable part)
         (part_items T.value part) (option_map items_left result) }
 {
-    match accessor.view() {
-        Some(view) => part::items(view, accessor.offset(), accessor.count(), get_buffer_data),
-        None => None,
-    }
+    let view = accessor.view()?;
+    part::items(view, accessor.offset(), accessor.count(), get_buffer_data)
 }
 
 /// What the values of a sparse accessor are put over: the items of its view, or zeros without one.
@@ -133,11 +131,12 @@ fn base<'s, T: Item, F: Fn(Buffer) -> Option<&'s [u8]>>(
 {
     let count = accessor.count();
     match accessor.view() {
-        Some(view) => match part::items(view, accessor.offset(), count, get_buffer_data) {
-            Some(items) => Some(Some(items)),
-            None => None,
-        },
-        None => { if count == 0 { None } else { Some(None) } }
+        Some(view) => {
+            let items = part::items(view, accessor.offset(), count, get_buffer_data)?;
+            Some(Some(items))
+        }
+        None if count == 0 => None,
+        None => Some(None),
     }
 }
 

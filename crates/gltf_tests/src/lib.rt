@@ -2,7 +2,6 @@
 //! the cases of `gltf_cases`.
 #![tactic(auto)]
 
-pub mod callers;
-pub mod own;
+pub mod laws;
 #[cfg(test)]
 mod tests;

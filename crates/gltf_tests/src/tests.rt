@@ -1,11 +1,13 @@
 //! Copies and ownership, records changed in code, names, and each generic at a type of its own.
 
 mod bounds;
+mod callers;
 mod copies;
 mod every_list;
 mod first_steps;
 mod items;
 mod iterators;
 mod names;
+mod own;
 mod records;
 mod texts;

@@ -1,7 +1,7 @@
 //! Each generic impl at a type of its own, through its bound.
 
-use crate::callers::{counted_next, counted_nth, item_at};
-use crate::own::{Huge, Swapped};
+use crate::tests::callers::{counted_next, counted_nth, item_at};
+use crate::tests::own::{Huge, Swapped};
 use gltf_items::{Count, F32, Item, ItemIter, SparseIndicesIter, SparseIter, laws};
 use std::fmt;
 use std::test::Fail;

@@ -37,11 +37,3 @@ pub fn counted_next<T: Item>(items: &mut SparseIter<T>) -> (Option<T>, Count)
     let item = items.next();
     (item, items.index_reads().since(&before))
 }
-
-/// How many index reads one jump makes at most, over so many stored indices.
-pub fn most_index_reads()
-    ensures none { digits 0 + 1 ≡ 1 }
-    ensures one { digits 1 + 1 ≡ 2 }
-    ensures three { digits 3 + 1 ≡ 3 }
-    ensures thousand { digits 1000 + 1 ≡ 11 }
-{}
