@@ -3,17 +3,16 @@
 pub mod sparse;
 
 ghost use Rattle.std.specs.Prelude.{◌≡◌, ◌<◌, ◌≤◌, length, unwrap_or};
-ghost use Rattle.std.specs.BTreeMap.{get_by_text};
-ghost use Rattle.std.specs.Option.{option_copied, option_and_then};
-ghost use Rattle.gltf_handles.specs.Members.{text, unknown_extensions, Follows};
+ghost use Rattle.std.specs.Option.{option_copied};
+ghost use Rattle.gltf_handles.specs.Members.{text, unknown_extensions, extension_named, Follows};
 ghost use Rattle.gltf_validation.specs.Accessors.{accessor_rules};
 ghost use Rattle.gltf_validation.specs.Documents.{counts_of};
 ghost use Rattle.gltf_validation.specs.Rules.{Hold, Hold-prop};
 
 use crate::accessor::sparse::Sparse;
 use crate::buffer::View;
+use crate::member::{meaning, unknown_extensions};
 use gltf_json::accessor::{ComponentType, Type};
-use gltf_json::validation::Checked;
 use gltf_json::{Map, Value, accessor, kinds};
 use gltf_rules::Valid;
 
@@ -129,7 +128,8 @@ pub struct Accessor<'a> {
     document: &'a Valid,
     index: usize,
     json: &'a accessor::Accessor,
-    ghost holds: { Hold (accessor_rules (counts_of document.now) json.now) } by { Hold-prop (accessor_rules (counts_of document.now) json.now) },
+    ghost holds: { Hold (accessor_rules (counts_of document.now) json.now) } by { Hold-prop
+        (accessor_rules (counts_of document.now) json.now) },
 }
 
 impl<'a> Accessor<'a> {
@@ -194,20 +194,14 @@ impl<'a> Accessor<'a> {
     pub fn data_type(&self) -> DataType
         ensures { Means data_type (accessor_handle self.now).json.component_type result }
     {
-        match self.json.component_type {
-            Checked::Valid(code) => DataType::from(code),
-            Checked::Invalid => unreachable!(),
-        }
+        DataType::from(meaning(self.json.component_type))
     }
 
     /// The components of an item: `type`.
     pub fn dimensions(&self) -> Dimensions
         ensures { Means dimensions (accessor_handle self.now).json.type_ result }
     {
-        match self.json.type_ {
-            Checked::Valid(code) => Dimensions::from(code),
-            Checked::Invalid => unreachable!(),
-        }
+        Dimensions::from(meaning(self.json.type_))
     }
 
     /// The least value of each component, as it stands: `min`.
@@ -228,8 +222,7 @@ impl<'a> Accessor<'a> {
     pub fn name(&self) -> Option<&'a str>
         ensures { option_copied result ≡ text (accessor_handle self.now).json.name }
     {
-        let name = self.json.name.as_ref()?;
-        Some(name.as_str())
+        self.json.name.as_deref()
     }
 
     /// Whether whole numbers stand for fractions: `normalized`, false where that is absent.
@@ -254,14 +247,13 @@ impl<'a> Accessor<'a> {
         ensures { option_copied result ≡ unknown_extensions
             (accessor_handle self.now).json.extensions }
     {
-        let extensions = self.json.extensions.as_ref()?;
-        Some(&extensions.others)
+        unknown_extensions(&self.json.extensions)
     }
 
     /// The extension of this name.
     pub fn extension_value(&self, name: &str) -> Option<&'a Value>
         ensures { option_copied result
-            ≡ option_and_then (λ m. get_by_text m name.now)
+            ≡ extension_named name.now
             (unknown_extensions (accessor_handle self.now).json.extensions) }
     {
         self.extensions()?.get(name)

@@ -1,15 +1,15 @@
 //! Buffers and their views (glTF 2.0, section 3.6.1, "Buffers and Buffer Views").
 
 ghost use Rattle.std.specs.Prelude.{◌≡◌, ◌<◌, length, unwrap_or};
-ghost use Rattle.std.specs.BTreeMap.{get_by_text};
-ghost use Rattle.std.specs.Option.{option_copied, option_and_then};
-ghost use Rattle.gltf_handles.specs.Members.{text, unknown_extensions, Follows, IsCode, above_zero};
+ghost use Rattle.std.specs.Option.{option_copied};
+ghost use Rattle.gltf_handles.specs.Members.{text, unknown_extensions, extension_named};
+ghost use Rattle.gltf_handles.specs.Members.{Follows, IsCode, above_zero};
 ghost use Rattle.gltf_validation.specs.Buffers.{view_rules};
 ghost use Rattle.gltf_validation.specs.Documents.{counts_of};
 ghost use Rattle.gltf_validation.specs.Rules.{Hold, Hold-prop};
 
+use crate::member::{meaning, unknown_extensions};
 pub use gltf_json::buffer::Target;
-use gltf_json::validation::Checked;
 use gltf_json::{Map, Value, buffer, kinds};
 use gltf_rules::Valid;
 
@@ -56,8 +56,8 @@ impl<'a> Buffer<'a> {
     pub fn source(&self) -> Source<'a>
         ensures { uri_of result ≡ text (buffer_handle self.now).json.uri }
     {
-        match &self.json.uri {
-            Some(uri) => Source::Uri(uri.as_str()),
+        match self.json.uri.as_deref() {
+            Some(uri) => Source::Uri(uri),
             None => Source::Bin,
         }
     }
@@ -73,8 +73,7 @@ impl<'a> Buffer<'a> {
     pub fn name(&self) -> Option<&'a str>
         ensures { option_copied result ≡ text (buffer_handle self.now).json.name }
     {
-        let name = self.json.name.as_ref()?;
-        Some(name.as_str())
+        self.json.name.as_deref()
     }
 
     /// The extensions, none of which is known at a buffer; None where there is no member
@@ -83,14 +82,13 @@ impl<'a> Buffer<'a> {
         ensures { option_copied result ≡ unknown_extensions
             (buffer_handle self.now).json.extensions }
     {
-        let extensions = self.json.extensions.as_ref()?;
-        Some(&extensions.others)
+        unknown_extensions(&self.json.extensions)
     }
 
     /// The extension of this name.
     pub fn extension_value(&self, name: &str) -> Option<&'a Value>
         ensures { option_copied result
-            ≡ option_and_then (λ m. get_by_text m name.now)
+            ≡ extension_named name.now
             (unknown_extensions (buffer_handle self.now).json.extensions) }
     {
         self.extensions()?.get(name)
@@ -110,7 +108,8 @@ pub struct View<'a> {
     document: &'a Valid,
     index: usize,
     json: &'a buffer::View,
-    ghost holds: { Hold (view_rules (counts_of document.now) json.now) } by { Hold-prop (view_rules (counts_of document.now) json.now) },
+    ghost holds: { Hold (view_rules (counts_of document.now) json.now) } by { Hold-prop
+        (view_rules (counts_of document.now) json.now) },
 }
 
 impl<'a> View<'a> {
@@ -172,19 +171,14 @@ impl<'a> View<'a> {
     pub fn name(&self) -> Option<&'a str>
         ensures { option_copied result ≡ text (view_handle self.now).json.name }
     {
-        let name = self.json.name.as_ref()?;
-        Some(name.as_str())
+        self.json.name.as_deref()
     }
 
     /// What the bytes are for: `target`.
     pub fn target(&self) -> Option<Target>
         ensures { Follows IsCode (view_handle self.now).json.target result }
     {
-        match self.json.target {
-            None => None,
-            Some(Checked::Valid(target)) => Some(target),
-            Some(Checked::Invalid) => unreachable!(),
-        }
+        Some(meaning(self.json.target?))
     }
 
     /// The extensions, none of which is known at a view; None where there is no member
@@ -193,14 +187,13 @@ impl<'a> View<'a> {
         ensures { option_copied result
             ≡ unknown_extensions (view_handle self.now).json.extensions }
     {
-        let extensions = self.json.extensions.as_ref()?;
-        Some(&extensions.others)
+        unknown_extensions(&self.json.extensions)
     }
 
     /// The extension of this name.
     pub fn extension_value(&self, name: &str) -> Option<&'a Value>
         ensures { option_copied result
-            ≡ option_and_then (λ m. get_by_text m name.now)
+            ≡ extension_named name.now
             (unknown_extensions (view_handle self.now).json.extensions) }
     {
         self.extensions()?.get(name)

@@ -7,3 +7,4 @@ pub mod buffer;
 pub mod iter;
 pub mod laws;
 pub mod list;
+pub mod member;

@@ -6,6 +6,7 @@ use gltf_json::accessor::Accessor;
 use gltf_json::animation::Animation;
 use gltf_json::buffer::{Buffer, View};
 use gltf_json::camera::Camera;
+use gltf_json::extensions::scene::khr_lights_punctual::Light;
 use gltf_json::image::Image;
 use gltf_json::kinds;
 use gltf_json::material::Material;
@@ -15,7 +16,7 @@ use gltf_json::scene::{Node, Scene};
 use gltf_json::skin::Skin;
 use gltf_json::texture::{Sampler, Texture};
 
-/// A list of the root, by the marker of its indices.
+/// A list of the root or of its extensions, by the marker of its indices.
 pub trait Kind {
     ghost use Rattle.std.specs.Prelude.{List};
     ghost use Rattle.gltf_json.specs.declared.root.Root.{Root};
@@ -133,6 +134,31 @@ impl Kind for kinds::Image {
 
     fn list(root: &Root) -> &[Image] {
         root.images.as_slice()
+    }
+}
+
+impl Kind for kinds::Light {
+    ghost use Rattle.gltf_rules.specs.Extensions.{lights_of, lights_hold};
+    ghost use Rattle.gltf_validation.specs.Documents.{counts_of};
+    ghost use Rattle.gltf_validation.specs.Lights.{light_rules};
+
+    type Record = Light;
+
+    ghost list = { λ r. lights_of r.extensions };
+
+    ghost record_rules = { λ c r. light_rules c r };
+
+    ghost hold = { λ r h. lights_hold (counts_of r) r.extensions h.1.1.1.1.1.1 };
+
+    // None are there where the extension is absent.
+    fn list(root: &Root) -> &[Light] {
+        match &root.extensions {
+            Some(extensions) => match &extensions.khr_lights_punctual {
+                Some(extension) => extension.lights.as_slice(),
+                None => &[],
+            },
+            None => &[],
+        }
     }
 }
 

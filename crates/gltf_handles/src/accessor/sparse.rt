@@ -45,7 +45,8 @@ impl IndexType {
 pub struct Sparse<'a> {
     document: &'a Valid,
     json: &'a sparse::Sparse,
-    ghost holds: { Hold (sparse_rules (counts_of document.now) json.now) } by { Hold-prop (sparse_rules (counts_of document.now) json.now) },
+    ghost holds: { Hold (sparse_rules (counts_of document.now) json.now) } by { Hold-prop
+        (sparse_rules (counts_of document.now) json.now) },
 }
 
 impl<'a> Sparse<'a> {
@@ -101,7 +102,8 @@ impl<'a> Sparse<'a> {
 pub struct Indices<'a> {
     document: &'a Valid,
     json: &'a sparse::Indices,
-    ghost holds: { Hold (indices_rules (counts_of document.now) json.now) } by { Hold-prop (indices_rules (counts_of document.now) json.now) },
+    ghost holds: { Hold (indices_rules (counts_of document.now) json.now) } by { Hold-prop
+        (indices_rules (counts_of document.now) json.now) },
 }
 
 impl<'a> Indices<'a> {
@@ -150,7 +152,8 @@ impl<'a> Indices<'a> {
 pub struct Values<'a> {
     document: &'a Valid,
     json: &'a sparse::Values,
-    ghost holds: { Hold (values_rules (counts_of document.now) json.now) } by { Hold-prop (values_rules (counts_of document.now) json.now) },
+    ghost holds: { Hold (values_rules (counts_of document.now) json.now) } by { Hold-prop
+        (values_rules (counts_of document.now) json.now) },
 }
 
 impl<'a> Values<'a> {
