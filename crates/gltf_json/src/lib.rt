@@ -5,7 +5,6 @@
 pub mod deserialize;
 pub mod extensions;
 pub mod laws;
-mod lent;
 pub mod root;
 pub mod texture;
 
