@@ -2,7 +2,6 @@
 //! `gltf-json` has it at.
 #![tactic(auto)]
 
-pub mod deserialize;
 pub mod extensions;
 pub mod laws;
 pub mod root;
