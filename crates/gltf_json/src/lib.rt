@@ -2,10 +2,8 @@
 //! `gltf-json` has it at.
 #![tactic(auto)]
 
-pub mod deserialize;
 pub mod extensions;
 pub mod laws;
-mod lent;
 pub mod root;
 pub mod texture;
 

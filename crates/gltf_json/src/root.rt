@@ -3,7 +3,6 @@ ghost use Rattle.std.specs.Prelude.{IfOk};
 ghost use Rattle.gltf_json_record.specs.Copy.{IsCopy};
 
 use crate::extensions;
-use crate::lent::{Lent, copy_record};
 use gltf_json_animation::animation::Animation;
 use gltf_json_geometry::accessor::Accessor;
 use gltf_json_geometry::buffer::{Buffer, View};
@@ -13,8 +12,9 @@ use gltf_json_record::copy::Copies;
 use gltf_json_record::error::Error;
 use gltf_json_record::extras::Extras;
 pub use gltf_json_record::index::Index;
+use gltf_json_record::lent::{Maybe, Member};
 use gltf_json_record::read::FromValue;
-use gltf_json_record::{kinds, read_record, record};
+use gltf_json_record::{copy_record, kinds, read_record};
 use gltf_json_scene::asset::Asset;
 use gltf_json_scene::camera::Camera;
 use gltf_json_scene::image::Image;
@@ -76,24 +76,24 @@ impl Root {
         ensures { IfOk result (IsCopy root self.now) }
     {
         copy_record!(self, alloc; Root { scene, } with {
-            asset: member,
-            accessors: member,
-            animations: member,
-            buffers: member,
-            buffer_views: member,
-            cameras: member,
-            images: member,
-            materials: member,
-            meshes: member,
-            nodes: member,
-            samplers: member,
-            scenes: member,
-            skins: member,
-            textures: member,
-            extensions_used: member,
-            extensions_required: member,
-            extensions: maybe,
-            extras: maybe,
+            asset: Member,
+            accessors: Member,
+            animations: Member,
+            buffers: Member,
+            buffer_views: Member,
+            cameras: Member,
+            images: Member,
+            materials: Member,
+            meshes: Member,
+            nodes: Member,
+            samplers: Member,
+            scenes: Member,
+            skins: Member,
+            textures: Member,
+            extensions_used: Member,
+            extensions_required: Member,
+            extensions: Maybe,
+            extras: Maybe,
         })
     }
 }

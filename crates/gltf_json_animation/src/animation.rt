@@ -2,14 +2,15 @@
 ghost use Rattle.std.specs.Prelude.{IfOk};
 ghost use Rattle.gltf_json_record.specs.Copy.{IsCopy};
 
-use gltf_json_record::copy::{Copies, option_copy};
+use gltf_json_record::copy::Copies;
 use gltf_json_record::error::Error;
 use gltf_json_record::extensions::Others;
 use gltf_json_record::extras::Extras;
 use gltf_json_record::index::Index;
+use gltf_json_record::lent::{Maybe, Member};
 use gltf_json_record::read::FromValue;
 use gltf_json_record::validation::{Checked, Code};
-use gltf_json_record::{kinds, read_record, record};
+use gltf_json_record::{copy_record, kinds, read_record};
 use serde_json::Value;
 use std::alloc::{AllocError, Global};
 
@@ -88,11 +89,8 @@ impl Target {
     pub fn clone(&self, alloc: Global) -> Result<Target, AllocError>
         ensures { IfOk result (IsCopy target self.now) }
     {
-        record!(Target {
-            node: self.node,
-            path: self.path,
-        } and {
-            extras: option_copy(alloc, &self.extras),
+        copy_record!(self, alloc; Target { node, path, } with {
+            extras: Maybe,
         })
     }
 }
@@ -137,11 +135,9 @@ impl Channel {
     pub fn clone(&self, alloc: Global) -> Result<Channel, AllocError>
         ensures { IfOk result (IsCopy channel self.now) }
     {
-        record!(Channel {
-            sampler: self.sampler,
-        } and {
-            target: self.target.copy(alloc),
-            extras: option_copy(alloc, &self.extras),
+        copy_record!(self, alloc; Channel { sampler, } with {
+            target: Member,
+            extras: Maybe,
         })
     }
 }
@@ -188,12 +184,8 @@ impl Sampler {
     pub fn clone(&self, alloc: Global) -> Result<Sampler, AllocError>
         ensures { IfOk result (IsCopy sampler self.now) }
     {
-        record!(Sampler {
-            input: self.input,
-            interpolation: self.interpolation,
-            output: self.output,
-        } and {
-            extras: option_copy(alloc, &self.extras),
+        copy_record!(self, alloc; Sampler { input, interpolation, output, } with {
+            extras: Maybe,
         })
     }
 }
@@ -244,12 +236,12 @@ impl Animation {
     pub fn clone(&self, alloc: Global) -> Result<Animation, AllocError>
         ensures { IfOk result (IsCopy animation self.now) }
     {
-        record!(Animation {
-            channels: self.channels.copy(alloc),
-            samplers: self.samplers.copy(alloc),
-            name: option_copy(alloc, &self.name),
-            extensions: option_copy(alloc, &self.extensions),
-            extras: option_copy(alloc, &self.extras),
+        copy_record!(self, alloc; Animation {} with {
+            channels: Member,
+            samplers: Member,
+            name: Maybe,
+            extensions: Maybe,
+            extras: Maybe,
         })
     }
 }

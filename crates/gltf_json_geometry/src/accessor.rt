@@ -5,14 +5,15 @@ ghost use Rattle.std.specs.Prelude.{IfOk};
 ghost use Rattle.gltf_json_record.specs.Copy.{IsCopy};
 
 use crate::accessor::sparse::Sparse;
-use gltf_json_record::copy::{Copies, option_copy};
+use gltf_json_record::copy::Copies;
 use gltf_json_record::error::Error;
 use gltf_json_record::extensions::Others;
 use gltf_json_record::extras::Extras;
 use gltf_json_record::index::Index;
+use gltf_json_record::lent::Maybe;
 use gltf_json_record::read::FromValue;
 use gltf_json_record::validation::{Checked, Code};
-use gltf_json_record::{kinds, read_record, record};
+use gltf_json_record::{copy_record, kinds, read_record};
 use serde_json::Value;
 use std::alloc::{AllocError, Global};
 
@@ -127,20 +128,13 @@ impl Accessor {
     pub fn clone(&self, alloc: Global) -> Result<Accessor, AllocError>
         ensures { IfOk result (IsCopy accessor self.now) }
     {
-        record!(Accessor {
-            buffer_view: self.buffer_view,
-            byte_offset: self.byte_offset,
-            component_type: self.component_type,
-            normalized: self.normalized,
-            count: self.count,
-            type_: self.type_,
-        } and {
-            max: option_copy(alloc, &self.max),
-            min: option_copy(alloc, &self.min),
-            sparse: option_copy(alloc, &self.sparse),
-            name: option_copy(alloc, &self.name),
-            extensions: option_copy(alloc, &self.extensions),
-            extras: option_copy(alloc, &self.extras),
+        copy_record!(self, alloc; Accessor { buffer_view, byte_offset, component_type, normalized, count, type_, } with {
+            max: Maybe,
+            min: Maybe,
+            sparse: Maybe,
+            name: Maybe,
+            extensions: Maybe,
+            extras: Maybe,
         })
     }
 }

@@ -8,6 +8,7 @@ use crate::semantic::Semantic;
 use gltf_json_record::error::Error;
 use gltf_json_record::index::Index;
 use gltf_json_record::kinds;
+use gltf_json_record::lent::Lent;
 use gltf_json_record::path::Step;
 use gltf_json_record::read::{FromValue, member, under, wrong_kind};
 use serde_json::Value;
@@ -67,11 +68,33 @@ impl FromValue for Attributes {
 }
 
 /// A copy of the known attributes, with the same names.
-pub(crate) fn attributes_copy(
+fn attributes_copy(
     attributes: &BTreeMap<Semantic, Index<kinds::Accessor>>,
 ) -> Result<BTreeMap<Semantic, Index<kinds::Accessor>>, AllocError>
     ensures { IfOk result (λ copy. map_keys semantic_name copy.entries
         ≡ map_keys semantic_name attributes.now.entries) }
 {
     attributes.clone()
+}
+
+/// The known attributes, lent to be copied.
+#[derive(Clone, Copy)]
+pub(crate) struct Known<'a>(pub &'a BTreeMap<Semantic, Index<kinds::Accessor>>);
+
+impl Lent for Known<'_> {
+    ghost use Rattle.std.specs.Prelude.{◌≡◌};
+    ghost use Rattle.std.proofs.lemmas.Map.Lookups.{map_keys};
+    ghost use Rattle.gltf_json_geometry.specs.Semantics.{semantic_name};
+
+    type Owned = BTreeMap<Semantic, Index<kinds::Accessor>>;
+
+    ghost is_copied = { λ attributes copy.
+        map_keys semantic_name copy.entries ≡ map_keys semantic_name attributes.0.now.entries };
+
+    fn copied(
+        &self,
+        _alloc: Global,
+    ) -> Result<BTreeMap<Semantic, Index<kinds::Accessor>>, AllocError> {
+        attributes_copy(self.0)
+    }
 }

@@ -2,14 +2,15 @@
 ghost use Rattle.std.specs.Prelude.{IfOk};
 ghost use Rattle.gltf_json_record.specs.Copy.{IsCopy};
 
-use gltf_json_record::copy::{Copies, option_copy};
+use gltf_json_record::copy::Copies;
 use gltf_json_record::error::Error;
 use gltf_json_record::extensions::Others;
 use gltf_json_record::extras::Extras;
 use gltf_json_record::index::Index;
+use gltf_json_record::lent::Maybe;
 use gltf_json_record::read::FromValue;
 use gltf_json_record::validation::{Checked, Code};
-use gltf_json_record::{kinds, read_record, record};
+use gltf_json_record::{copy_record, kinds, read_record};
 use serde_json::Value;
 use std::alloc::{AllocError, Global};
 
@@ -59,13 +60,11 @@ impl Buffer {
     pub fn clone(&self, alloc: Global) -> Result<Buffer, AllocError>
         ensures { IfOk result (IsCopy buffer self.now) }
     {
-        record!(Buffer {
-            byte_length: self.byte_length,
-        } and {
-            uri: option_copy(alloc, &self.uri),
-            name: option_copy(alloc, &self.name),
-            extensions: option_copy(alloc, &self.extensions),
-            extras: option_copy(alloc, &self.extras),
+        copy_record!(self, alloc; Buffer { byte_length, } with {
+            uri: Maybe,
+            name: Maybe,
+            extensions: Maybe,
+            extras: Maybe,
         })
     }
 }
@@ -123,16 +122,10 @@ impl View {
     pub fn clone(&self, alloc: Global) -> Result<View, AllocError>
         ensures { IfOk result (IsCopy buffer_view self.now) }
     {
-        record!(View {
-            buffer: self.buffer,
-            byte_length: self.byte_length,
-            byte_offset: self.byte_offset,
-            byte_stride: self.byte_stride,
-            target: self.target,
-        } and {
-            name: option_copy(alloc, &self.name),
-            extensions: option_copy(alloc, &self.extensions),
-            extras: option_copy(alloc, &self.extras),
+        copy_record!(self, alloc; View { buffer, byte_length, byte_offset, byte_stride, target, } with {
+            name: Maybe,
+            extensions: Maybe,
+            extras: Maybe,
         })
     }
 }

@@ -2,18 +2,18 @@
 ghost use Rattle.std.specs.Prelude.{IfOk};
 ghost use Rattle.gltf_json_record.specs.Copy.{IsCopy};
 
-use crate::attributes::{Attributes, attributes_copy};
+use crate::attributes::{Attributes, Known};
 use crate::extensions;
 pub use crate::semantic::Semantic;
-use gltf_json_record::copy::{Copies, option_copy};
+use gltf_json_record::copy::Copies;
 use gltf_json_record::error::Error;
 use gltf_json_record::extensions::Others;
 use gltf_json_record::extras::Extras;
 use gltf_json_record::index::Index;
-use gltf_json_record::lists::list_or_empty;
-use gltf_json_record::read::{FromValue, object, optional, or_default, required};
+use gltf_json_record::lent::{Maybe, Member};
+use gltf_json_record::read::FromValue;
 use gltf_json_record::validation::{Checked, Code};
-use gltf_json_record::{kinds, read_record, record};
+use gltf_json_record::{copy_record, kinds, read_record};
 use serde_json::Value;
 use std::alloc::{AllocError, Global};
 use std::collections::BTreeMap;
@@ -135,16 +135,12 @@ impl Primitive {
     pub fn clone(&self, alloc: Global) -> Result<Primitive, AllocError>
         ensures { IfOk result (IsCopy primitive self.now) }
     {
-        record!(Primitive {
-            indices: self.indices,
-            material: self.material,
-            mode: self.mode,
-        } and {
-            attributes: attributes_copy(&self.attributes),
-            unknown_attributes: self.unknown_attributes.copy(alloc),
-            targets: self.targets.copy(alloc),
-            extensions: option_copy(alloc, &self.extensions),
-            extras: option_copy(alloc, &self.extras),
+        copy_record!(self, alloc; Primitive { indices, material, mode, } with {
+            attributes: Known,
+            unknown_attributes: Member,
+            targets: Member,
+            extensions: Maybe,
+            extras: Maybe,
         })
     }
 }
@@ -162,17 +158,26 @@ impl FromValue for Primitive {
 
     #[tactic(auto, unfolding(crate::specs::Meshes::primitive))]
     fn from_value(alloc: Global, value: &Value) -> Result<Primitive, Error> {
-        object(alloc, value)?;
-        let Attributes { known, unknown } = required(alloc, value, "attributes")?;
-        Ok(Primitive {
-            attributes: known,
-            unknown_attributes: unknown,
-            indices: optional(alloc, value, "indices")?,
-            material: optional(alloc, value, "material")?,
-            mode: or_default(alloc, value, "mode", Checked::Valid(Mode::Triangles))?,
-            targets: list_or_empty(alloc, value, "targets")?,
-            extensions: optional(alloc, value, "extensions")?,
-            extras: optional(alloc, value, "extras")?,
+        read_record!(alloc, value; {
+            attributes: required("attributes"),
+            indices: optional("indices"),
+            material: optional("material"),
+            mode: or_default("mode", Checked::Valid(Mode::Triangles)),
+            targets: list_or_empty("targets"),
+            extensions: optional("extensions"),
+            extras: optional("extras"),
+        } as {
+            let Attributes { known, unknown } = attributes;
+            Primitive {
+                attributes: known,
+                unknown_attributes: unknown,
+                indices,
+                material,
+                mode,
+                targets,
+                extensions,
+                extras,
+            }
         })
     }
 }
@@ -200,12 +205,12 @@ impl Mesh {
     pub fn clone(&self, alloc: Global) -> Result<Mesh, AllocError>
         ensures { IfOk result (IsCopy mesh self.now) }
     {
-        record!(Mesh {
-            primitives: self.primitives.copy(alloc),
-            weights: option_copy(alloc, &self.weights),
-            name: option_copy(alloc, &self.name),
-            extensions: option_copy(alloc, &self.extensions),
-            extras: option_copy(alloc, &self.extras),
+        copy_record!(self, alloc; Mesh {} with {
+            primitives: Member,
+            weights: Maybe,
+            name: Maybe,
+            extensions: Maybe,
+            extras: Maybe,
         })
     }
 }

@@ -4,14 +4,15 @@ ghost use Rattle.gltf_json_record.specs.Copy.{IsCopy};
 
 use crate::extensions;
 use crate::texture::Info;
-use gltf_json_record::copy::{Copies, option_copy};
+use gltf_json_record::copy::Copies;
 use gltf_json_record::error::Error;
 use gltf_json_record::extensions::Others;
 use gltf_json_record::extras::Extras;
 use gltf_json_record::index::Index;
+use gltf_json_record::lent::Maybe;
 use gltf_json_record::read::FromValue;
 use gltf_json_record::validation::{Checked, Code};
-use gltf_json_record::{kinds, read_record, record};
+use gltf_json_record::{copy_record, kinds, read_record};
 use serde_json::Value;
 use std::alloc::{AllocError, Global};
 
@@ -69,14 +70,14 @@ impl PbrMetallicRoughness {
     pub fn clone(&self, alloc: Global) -> Result<PbrMetallicRoughness, AllocError>
         ensures { IfOk result (IsCopy pbr_metallic_roughness self.now) }
     {
-        record!(PbrMetallicRoughness {
-            base_color_factor: option_copy(alloc, &self.base_color_factor),
-            base_color_texture: option_copy(alloc, &self.base_color_texture),
-            metallic_factor: option_copy(alloc, &self.metallic_factor),
-            roughness_factor: option_copy(alloc, &self.roughness_factor),
-            metallic_roughness_texture: option_copy(alloc, &self.metallic_roughness_texture),
-            extensions: option_copy(alloc, &self.extensions),
-            extras: option_copy(alloc, &self.extras),
+        copy_record!(self, alloc; PbrMetallicRoughness {} with {
+            base_color_factor: Maybe,
+            base_color_texture: Maybe,
+            metallic_factor: Maybe,
+            roughness_factor: Maybe,
+            metallic_roughness_texture: Maybe,
+            extensions: Maybe,
+            extras: Maybe,
         })
     }
 }
@@ -130,13 +131,10 @@ impl NormalTexture {
     pub fn clone(&self, alloc: Global) -> Result<NormalTexture, AllocError>
         ensures { IfOk result (IsCopy normal_texture self.now) }
     {
-        record!(NormalTexture {
-            index: self.index,
-            tex_coord: self.tex_coord,
-        } and {
-            scale: option_copy(alloc, &self.scale),
-            extensions: option_copy(alloc, &self.extensions),
-            extras: option_copy(alloc, &self.extras),
+        copy_record!(self, alloc; NormalTexture { index, tex_coord, } with {
+            scale: Maybe,
+            extensions: Maybe,
+            extras: Maybe,
         })
     }
 }
@@ -188,13 +186,10 @@ impl OcclusionTexture {
     pub fn clone(&self, alloc: Global) -> Result<OcclusionTexture, AllocError>
         ensures { IfOk result (IsCopy occlusion_texture self.now) }
     {
-        record!(OcclusionTexture {
-            index: self.index,
-            tex_coord: self.tex_coord,
-        } and {
-            strength: option_copy(alloc, &self.strength),
-            extensions: option_copy(alloc, &self.extensions),
-            extras: option_copy(alloc, &self.extras),
+        copy_record!(self, alloc; OcclusionTexture { index, tex_coord, } with {
+            strength: Maybe,
+            extensions: Maybe,
+            extras: Maybe,
         })
     }
 }
@@ -257,19 +252,16 @@ impl Material {
     pub fn clone(&self, alloc: Global) -> Result<Material, AllocError>
         ensures { IfOk result (IsCopy material self.now) }
     {
-        record!(Material {
-            alpha_mode: self.alpha_mode,
-            double_sided: self.double_sided,
-        } and {
-            alpha_cutoff: option_copy(alloc, &self.alpha_cutoff),
-            pbr_metallic_roughness: option_copy(alloc, &self.pbr_metallic_roughness),
-            normal_texture: option_copy(alloc, &self.normal_texture),
-            occlusion_texture: option_copy(alloc, &self.occlusion_texture),
-            emissive_texture: option_copy(alloc, &self.emissive_texture),
-            emissive_factor: option_copy(alloc, &self.emissive_factor),
-            name: option_copy(alloc, &self.name),
-            extensions: option_copy(alloc, &self.extensions),
-            extras: option_copy(alloc, &self.extras),
+        copy_record!(self, alloc; Material { alpha_mode, double_sided, } with {
+            alpha_cutoff: Maybe,
+            pbr_metallic_roughness: Maybe,
+            normal_texture: Maybe,
+            occlusion_texture: Maybe,
+            emissive_texture: Maybe,
+            emissive_factor: Maybe,
+            name: Maybe,
+            extensions: Maybe,
+            extras: Maybe,
         })
     }
 }

@@ -3,12 +3,13 @@ ghost use Rattle.std.specs.Prelude.{IfOk};
 ghost use Rattle.gltf_json_record.specs.Copy.{IsCopy};
 
 use crate::extensions;
-use gltf_json_record::copy::{Copies, option_copy};
+use gltf_json_record::copy::Copies;
 use gltf_json_record::error::Error;
 use gltf_json_record::extras::Extras;
 use gltf_json_record::index::Index;
+use gltf_json_record::lent::Maybe;
 use gltf_json_record::read::FromValue;
-use gltf_json_record::{kinds, read_record, record};
+use gltf_json_record::{copy_record, kinds, read_record};
 use serde_json::Value;
 use std::alloc::{AllocError, Global};
 
@@ -34,12 +35,9 @@ impl Info {
     pub fn clone(&self, alloc: Global) -> Result<Info, AllocError>
         ensures { IfOk result (IsCopy texture_info self.now) }
     {
-        record!(Info {
-            index: self.index,
-            tex_coord: self.tex_coord,
-        } and {
-            extensions: option_copy(alloc, &self.extensions),
-            extras: option_copy(alloc, &self.extras),
+        copy_record!(self, alloc; Info { index, tex_coord, } with {
+            extensions: Maybe,
+            extras: Maybe,
         })
     }
 }

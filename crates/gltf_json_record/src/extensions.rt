@@ -2,10 +2,11 @@
 ghost use Rattle.std.specs.Prelude.{IfOk};
 ghost use Rattle.gltf_json_record.specs.Copy.{IsCopy};
 
-use crate::copy::{Copies, map_copy};
+use crate::copy::Copies;
 use crate::error::Error;
+use crate::lent::Unnamed;
 use crate::read::FromValue;
-use crate::{read_record, record};
+use crate::{copy_record, read_record};
 use serde_json::{Map, Value};
 use std::alloc::{AllocError, Global};
 
@@ -22,11 +23,11 @@ impl Others {
 
     /// A copy of the record, which shows what this one shows.
     #[tactic(auto, unfolding(crate::specs::Extensions::others_only))]
-    pub fn clone(&self, _alloc: Global) -> Result<Others, AllocError>
+    pub fn clone(&self, alloc: Global) -> Result<Others, AllocError>
         ensures { IfOk result (IsCopy others_only self.now) }
     {
-        record!(Others {
-            others: map_copy(&self.others),
+        copy_record!(self, alloc; Others {} with {
+            others: Unnamed,
         })
     }
 }

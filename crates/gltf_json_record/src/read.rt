@@ -155,15 +155,3 @@ pub fn object(alloc: Global, value: &Value) -> Result<(), Error>
         Err(wrong_kind(alloc))
     }
 }
-
-/// What was made, and what is made behind it. `record!` hands over by it what it has, so that no
-/// exit of the caller's has to drop that.
-pub fn and<A: Drop, B: Drop, E: Drop>(made: A, next: Result<B, E>) -> Result<(A, B), E>
-    ensures ok { IfOk result (λ both. (both.0 ≡ made) × (next ≡ Ok both.1)) }
-    ensures err { IfErr result (λ e. next ≡ Err e) }
-{
-    match next {
-        Ok(next) => Ok((made, next)),
-        Err(error) => Err(error),
-    }
-}

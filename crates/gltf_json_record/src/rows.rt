@@ -211,6 +211,80 @@ impl<A: Row, B: Rows> Rows for (A, B) {
     }
 }
 
+impl<A: Row, B: Row, C: Rows> Rows for (A, B, C) {
+    ghost use Rattle.gltf_json_record.specs.Table.{three, first_name, other_names};
+
+    type Read = (A::Read, B::Read, C::Read);
+
+    ghost rows_kind = { λ rows names.
+        three
+        (A.row_kind rows.0 (first_name names))
+        (B.row_kind rows.1 (first_name (other_names names)))
+        (C.rows_kind rows.2 (other_names (other_names names))) };
+
+    #[inline(always)]
+    fn read(
+        &self,
+        alloc: Global,
+        value: &Value,
+        names: &[&'static str],
+    ) -> Result<Self::Read, Error> {
+        let (a, (b, c)) = (self.0, (self.1, self.2)).read(alloc, value, names)?;
+        Ok((a, b, c))
+    }
+}
+
+impl<A: Row, B: Row, C: Row, D: Rows> Rows for (A, B, C, D) {
+    ghost use Rattle.gltf_json_record.specs.Table.{four, first_name, other_names};
+
+    type Read = (A::Read, B::Read, C::Read, D::Read);
+
+    ghost rows_kind = { λ rows names.
+        four
+        (A.row_kind rows.0 (first_name names))
+        (B.row_kind rows.1 (first_name (other_names names)))
+        (C.row_kind rows.2 (first_name (other_names (other_names names))))
+        (D.rows_kind rows.3 (other_names (other_names (other_names names)))) };
+
+    #[inline(always)]
+    fn read(
+        &self,
+        alloc: Global,
+        value: &Value,
+        names: &[&'static str],
+    ) -> Result<Self::Read, Error> {
+        let (a, (b, (c, d))) = (self.0, (self.1, (self.2, self.3))).read(alloc, value, names)?;
+        Ok((a, b, c, d))
+    }
+}
+
+impl<A: Row, B: Row, C: Row, D: Row, E: Rows> Rows for (A, B, C, D, E) {
+    ghost use Rattle.gltf_json_record.specs.Table.{five, first_name, other_names};
+
+    type Read = (A::Read, B::Read, C::Read, D::Read, E::Read);
+
+    ghost rows_kind = { λ rows names.
+        five
+        (A.row_kind rows.0 (first_name names))
+        (B.row_kind rows.1 (first_name (other_names names)))
+        (C.row_kind rows.2 (first_name (other_names (other_names names))))
+        (D.row_kind rows.3 (first_name (other_names (other_names (other_names names)))))
+        (E.rows_kind rows.4 (other_names (other_names (other_names (other_names names))))) };
+
+    #[inline(always)]
+    fn read(
+        &self,
+        alloc: Global,
+        value: &Value,
+        names: &[&'static str],
+    ) -> Result<Self::Read, Error> {
+        let (a, (b, (c, (d, e)))) = (self.0, (self.1, (self.2, (self.3, self.4)))).read(
+            alloc, value, names,
+        )?;
+        Ok((a, b, c, d, e))
+    }
+}
+
 /// Reads the rows of a table, of an object alone.
 #[inline(always)]
 pub fn read_table<R: Rows>(

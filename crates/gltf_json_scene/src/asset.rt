@@ -2,12 +2,13 @@
 ghost use Rattle.std.specs.Prelude.{IfOk};
 ghost use Rattle.gltf_json_record.specs.Copy.{IsCopy};
 
-use gltf_json_record::copy::{Copies, option_copy};
+use gltf_json_record::copy::Copies;
 use gltf_json_record::error::Error;
 use gltf_json_record::extensions::Others;
 use gltf_json_record::extras::Extras;
+use gltf_json_record::lent::{Maybe, Member};
 use gltf_json_record::read::FromValue;
-use gltf_json_record::{read_record, record};
+use gltf_json_record::{copy_record, read_record};
 use serde_json::Value;
 use std::alloc::{AllocError, Global};
 
@@ -37,13 +38,13 @@ impl Asset {
     pub fn clone(&self, alloc: Global) -> Result<Asset, AllocError>
         ensures { IfOk result (IsCopy asset self.now) }
     {
-        record!(Asset {
-            version: self.version.copy(alloc),
-            generator: option_copy(alloc, &self.generator),
-            copyright: option_copy(alloc, &self.copyright),
-            min_version: option_copy(alloc, &self.min_version),
-            extensions: option_copy(alloc, &self.extensions),
-            extras: option_copy(alloc, &self.extras),
+        copy_record!(self, alloc; Asset {} with {
+            version: Member,
+            generator: Maybe,
+            copyright: Maybe,
+            min_version: Maybe,
+            extensions: Maybe,
+            extras: Maybe,
         })
     }
 }

@@ -2,13 +2,14 @@
 ghost use Rattle.std.specs.Prelude.{IfOk};
 ghost use Rattle.gltf_json_record.specs.Copy.{IsCopy};
 
-use gltf_json_record::copy::{Copies, option_copy};
+use gltf_json_record::copy::Copies;
 use gltf_json_record::error::Error;
 use gltf_json_record::extensions::Others;
 use gltf_json_record::extras::Extras;
+use gltf_json_record::lent::Maybe;
 use gltf_json_record::read::FromValue;
 use gltf_json_record::validation::{Checked, Code};
-use gltf_json_record::{read_record, record};
+use gltf_json_record::{copy_record, read_record};
 use serde_json::Value;
 use std::alloc::{AllocError, Global};
 
@@ -61,13 +62,13 @@ impl Orthographic {
     pub fn clone(&self, alloc: Global) -> Result<Orthographic, AllocError>
         ensures { IfOk result (IsCopy orthographic self.now) }
     {
-        record!(Orthographic {
-            xmag: option_copy(alloc, &self.xmag),
-            ymag: option_copy(alloc, &self.ymag),
-            zfar: option_copy(alloc, &self.zfar),
-            znear: option_copy(alloc, &self.znear),
-            extensions: option_copy(alloc, &self.extensions),
-            extras: option_copy(alloc, &self.extras),
+        copy_record!(self, alloc; Orthographic {} with {
+            xmag: Maybe,
+            ymag: Maybe,
+            zfar: Maybe,
+            znear: Maybe,
+            extensions: Maybe,
+            extras: Maybe,
         })
     }
 }
@@ -122,13 +123,13 @@ impl Perspective {
     pub fn clone(&self, alloc: Global) -> Result<Perspective, AllocError>
         ensures { IfOk result (IsCopy perspective self.now) }
     {
-        record!(Perspective {
-            aspect_ratio: option_copy(alloc, &self.aspect_ratio),
-            yfov: option_copy(alloc, &self.yfov),
-            zfar: option_copy(alloc, &self.zfar),
-            znear: option_copy(alloc, &self.znear),
-            extensions: option_copy(alloc, &self.extensions),
-            extras: option_copy(alloc, &self.extras),
+        copy_record!(self, alloc; Perspective {} with {
+            aspect_ratio: Maybe,
+            yfov: Maybe,
+            zfar: Maybe,
+            znear: Maybe,
+            extensions: Maybe,
+            extras: Maybe,
         })
     }
 }
@@ -182,14 +183,12 @@ impl Camera {
     pub fn clone(&self, alloc: Global) -> Result<Camera, AllocError>
         ensures { IfOk result (IsCopy camera self.now) }
     {
-        record!(Camera {
-            type_: self.type_,
-        } and {
-            orthographic: option_copy(alloc, &self.orthographic),
-            perspective: option_copy(alloc, &self.perspective),
-            name: option_copy(alloc, &self.name),
-            extensions: option_copy(alloc, &self.extensions),
-            extras: option_copy(alloc, &self.extras),
+        copy_record!(self, alloc; Camera { type_, } with {
+            orthographic: Maybe,
+            perspective: Maybe,
+            name: Maybe,
+            extensions: Maybe,
+            extras: Maybe,
         })
     }
 }

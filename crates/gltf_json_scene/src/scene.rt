@@ -3,13 +3,14 @@ ghost use Rattle.std.specs.Prelude.{IfOk};
 ghost use Rattle.gltf_json_record.specs.Copy.{IsCopy};
 
 use crate::extensions;
-use gltf_json_record::copy::{Copies, option_copy};
+use gltf_json_record::copy::Copies;
 use gltf_json_record::error::Error;
 use gltf_json_record::extensions::Others;
 use gltf_json_record::extras::Extras;
 use gltf_json_record::index::Index;
+use gltf_json_record::lent::{Maybe, Member};
 use gltf_json_record::read::FromValue;
-use gltf_json_record::{kinds, read_record, record};
+use gltf_json_record::{copy_record, kinds, read_record};
 use serde_json::Value;
 use std::alloc::{AllocError, Global};
 
@@ -51,20 +52,16 @@ impl Node {
     pub fn clone(&self, alloc: Global) -> Result<Node, AllocError>
         ensures { IfOk result (IsCopy node self.now) }
     {
-        record!(Node {
-            camera: self.camera,
-            mesh: self.mesh,
-            skin: self.skin,
-        } and {
-            children: self.children.copy(alloc),
-            matrix: option_copy(alloc, &self.matrix),
-            translation: option_copy(alloc, &self.translation),
-            rotation: option_copy(alloc, &self.rotation),
-            scale: option_copy(alloc, &self.scale),
-            weights: option_copy(alloc, &self.weights),
-            name: option_copy(alloc, &self.name),
-            extensions: option_copy(alloc, &self.extensions),
-            extras: option_copy(alloc, &self.extras),
+        copy_record!(self, alloc; Node { camera, mesh, skin, } with {
+            children: Member,
+            matrix: Maybe,
+            translation: Maybe,
+            rotation: Maybe,
+            scale: Maybe,
+            weights: Maybe,
+            name: Maybe,
+            extensions: Maybe,
+            extras: Maybe,
         })
     }
 }
@@ -120,11 +117,11 @@ impl Scene {
     pub fn clone(&self, alloc: Global) -> Result<Scene, AllocError>
         ensures { IfOk result (IsCopy scene self.now) }
     {
-        record!(Scene {
-            nodes: self.nodes.copy(alloc),
-            name: option_copy(alloc, &self.name),
-            extensions: option_copy(alloc, &self.extensions),
-            extras: option_copy(alloc, &self.extras),
+        copy_record!(self, alloc; Scene {} with {
+            nodes: Member,
+            name: Maybe,
+            extensions: Maybe,
+            extras: Maybe,
         })
     }
 }

@@ -2,13 +2,14 @@
 ghost use Rattle.std.specs.Prelude.{IfOk};
 ghost use Rattle.gltf_json_record.specs.Copy.{IsCopy};
 
-use gltf_json_record::copy::{Copies, option_copy};
+use gltf_json_record::copy::Copies;
 use gltf_json_record::error::Error;
 use gltf_json_record::extensions::Others;
 use gltf_json_record::extras::Extras;
 use gltf_json_record::index::Index;
+use gltf_json_record::lent::{Maybe, Member};
 use gltf_json_record::read::FromValue;
-use gltf_json_record::{kinds, read_record, record};
+use gltf_json_record::{copy_record, kinds, read_record};
 use serde_json::Value;
 use std::alloc::{AllocError, Global};
 
@@ -38,14 +39,11 @@ impl Skin {
     pub fn clone(&self, alloc: Global) -> Result<Skin, AllocError>
         ensures { IfOk result (IsCopy skin self.now) }
     {
-        record!(Skin {
-            inverse_bind_matrices: self.inverse_bind_matrices,
-            skeleton: self.skeleton,
-        } and {
-            joints: self.joints.copy(alloc),
-            name: option_copy(alloc, &self.name),
-            extensions: option_copy(alloc, &self.extensions),
-            extras: option_copy(alloc, &self.extras),
+        copy_record!(self, alloc; Skin { inverse_bind_matrices, skeleton, } with {
+            joints: Member,
+            name: Maybe,
+            extensions: Maybe,
+            extras: Maybe,
         })
     }
 }

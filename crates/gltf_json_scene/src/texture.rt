@@ -2,14 +2,15 @@
 ghost use Rattle.std.specs.Prelude.{IfOk};
 ghost use Rattle.gltf_json_record.specs.Copy.{IsCopy};
 
-use gltf_json_record::copy::{Copies, option_copy};
+use gltf_json_record::copy::Copies;
 use gltf_json_record::error::Error;
 use gltf_json_record::extensions::Others;
 use gltf_json_record::extras::Extras;
 use gltf_json_record::index::Index;
+use gltf_json_record::lent::Maybe;
 use gltf_json_record::read::FromValue;
 use gltf_json_record::validation::{Checked, Code};
-use gltf_json_record::{kinds, read_record, record};
+use gltf_json_record::{copy_record, kinds, read_record};
 use serde_json::Value;
 use std::alloc::{AllocError, Global};
 
@@ -125,15 +126,10 @@ impl Sampler {
     pub fn clone(&self, alloc: Global) -> Result<Sampler, AllocError>
         ensures { IfOk result (IsCopy sampler self.now) }
     {
-        record!(Sampler {
-            mag_filter: self.mag_filter,
-            min_filter: self.min_filter,
-            wrap_s: self.wrap_s,
-            wrap_t: self.wrap_t,
-        } and {
-            name: option_copy(alloc, &self.name),
-            extensions: option_copy(alloc, &self.extensions),
-            extras: option_copy(alloc, &self.extras),
+        copy_record!(self, alloc; Sampler { mag_filter, min_filter, wrap_s, wrap_t, } with {
+            name: Maybe,
+            extensions: Maybe,
+            extras: Maybe,
         })
     }
 }
@@ -187,13 +183,10 @@ impl Texture {
     pub fn clone(&self, alloc: Global) -> Result<Texture, AllocError>
         ensures { IfOk result (IsCopy texture self.now) }
     {
-        record!(Texture {
-            sampler: self.sampler,
-            source: self.source,
-        } and {
-            name: option_copy(alloc, &self.name),
-            extensions: option_copy(alloc, &self.extensions),
-            extras: option_copy(alloc, &self.extras),
+        copy_record!(self, alloc; Texture { sampler, source, } with {
+            name: Maybe,
+            extensions: Maybe,
+            extras: Maybe,
         })
     }
 }

@@ -2,10 +2,11 @@
 ghost use Rattle.std.specs.Prelude.{IfOk};
 ghost use Rattle.gltf_json_record.specs.Copy.{IsCopy};
 
-use gltf_json_record::copy::{Copies, map_copy, option_copy};
+use gltf_json_record::copy::Copies;
 use gltf_json_record::error::Error;
+use gltf_json_record::lent::{Maybe, Member, Unnamed};
 use gltf_json_record::read::FromValue;
-use gltf_json_record::{read_record, record};
+use gltf_json_record::{copy_record, read_record};
 use gltf_json_scene::extensions::scene::khr_lights_punctual::Light;
 use gltf_json_scene::extensions::scene::khr_materials_variants::Variant;
 use serde_json::{Map, Value};
@@ -26,8 +27,8 @@ impl KhrLightsPunctual {
     pub fn clone(&self, alloc: Global) -> Result<KhrLightsPunctual, AllocError>
         ensures { IfOk result (IsCopy root_lights self.now) }
     {
-        record!(KhrLightsPunctual {
-            lights: self.lights.copy(alloc),
+        copy_record!(self, alloc; KhrLightsPunctual {} with {
+            lights: Member,
         })
     }
 }
@@ -66,8 +67,8 @@ impl KhrMaterialsVariants {
     pub fn clone(&self, alloc: Global) -> Result<KhrMaterialsVariants, AllocError>
         ensures { IfOk result (IsCopy root_variants self.now) }
     {
-        record!(KhrMaterialsVariants {
-            variants: self.variants.copy(alloc),
+        copy_record!(self, alloc; KhrMaterialsVariants {} with {
+            variants: Member,
         })
     }
 }
@@ -110,10 +111,10 @@ impl Root {
     pub fn clone(&self, alloc: Global) -> Result<Root, AllocError>
         ensures { IfOk result (IsCopy root_extensions self.now) }
     {
-        record!(Root {
-            khr_lights_punctual: option_copy(alloc, &self.khr_lights_punctual),
-            khr_materials_variants: option_copy(alloc, &self.khr_materials_variants),
-            others: map_copy(&self.others),
+        copy_record!(self, alloc; Root {} with {
+            khr_lights_punctual: Maybe,
+            khr_materials_variants: Maybe,
+            others: Unnamed,
         })
     }
 }

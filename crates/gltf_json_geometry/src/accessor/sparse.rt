@@ -4,13 +4,14 @@ ghost use Rattle.std.specs.Prelude.{IfOk};
 ghost use Rattle.gltf_json_record.specs.Copy.{IsCopy};
 
 use crate::accessor::ComponentType;
-use gltf_json_record::copy::{Copies, option_copy};
+use gltf_json_record::copy::Copies;
 use gltf_json_record::error::Error;
 use gltf_json_record::extras::Extras;
 use gltf_json_record::index::Index;
+use gltf_json_record::lent::{Maybe, Member};
 use gltf_json_record::read::{FromValue, object, optional, or_default, required, wrong_kind};
 use gltf_json_record::validation::Checked;
-use gltf_json_record::{kinds, read_record, record};
+use gltf_json_record::{copy_record, kinds, read_record};
 use serde_json::Value;
 use std::alloc::{AllocError, Global};
 
@@ -36,12 +37,8 @@ impl Indices {
     pub fn clone(&self, alloc: Global) -> Result<Indices, AllocError>
         ensures { IfOk result (IsCopy indices self.now) }
     {
-        record!(Indices {
-            buffer_view: self.buffer_view,
-            byte_offset: self.byte_offset,
-            component_type: self.component_type,
-        } and {
-            extras: option_copy(alloc, &self.extras),
+        copy_record!(self, alloc; Indices { buffer_view, byte_offset, component_type, } with {
+            extras: Maybe,
         })
     }
 }
@@ -88,11 +85,8 @@ impl Values {
     pub fn clone(&self, alloc: Global) -> Result<Values, AllocError>
         ensures { IfOk result (IsCopy values self.now) }
     {
-        record!(Values {
-            buffer_view: self.buffer_view,
-            byte_offset: self.byte_offset,
-        } and {
-            extras: option_copy(alloc, &self.extras),
+        copy_record!(self, alloc; Values { buffer_view, byte_offset, } with {
+            extras: Maybe,
         })
     }
 }
@@ -139,12 +133,10 @@ impl Sparse {
     pub fn clone(&self, alloc: Global) -> Result<Sparse, AllocError>
         ensures { IfOk result (IsCopy sparse self.now) }
     {
-        record!(Sparse {
-            count: self.count,
-        } and {
-            indices: self.indices.copy(alloc),
-            values: self.values.copy(alloc),
-            extras: option_copy(alloc, &self.extras),
+        copy_record!(self, alloc; Sparse { count, } with {
+            indices: Member,
+            values: Member,
+            extras: Maybe,
         })
     }
 }

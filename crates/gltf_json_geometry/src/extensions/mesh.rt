@@ -2,10 +2,11 @@
 ghost use Rattle.std.specs.Prelude.{IfOk};
 ghost use Rattle.gltf_json_record.specs.Copy.{IsCopy};
 
-use gltf_json_record::copy::{Copies, map_copy, option_copy};
+use gltf_json_record::copy::Copies;
 use gltf_json_record::error::Error;
+use gltf_json_record::lent::{Maybe, Member, Unnamed};
 use gltf_json_record::read::FromValue;
-use gltf_json_record::{read_record, record};
+use gltf_json_record::{copy_record, read_record};
 use serde_json::{Map, Value};
 use std::alloc::{AllocError, Global};
 
@@ -27,10 +28,8 @@ impl Mapping {
     pub fn clone(&self, alloc: Global) -> Result<Mapping, AllocError>
         ensures { IfOk result (IsCopy mapping self.now) }
     {
-        record!(Mapping {
-            material: self.material,
-        } and {
-            variants: self.variants.copy(alloc),
+        copy_record!(self, alloc; Mapping { material, } with {
+            variants: Member,
         })
     }
 }
@@ -70,8 +69,8 @@ impl KhrMaterialsVariants {
     pub fn clone(&self, alloc: Global) -> Result<KhrMaterialsVariants, AllocError>
         ensures { IfOk result (IsCopy primitive_variants self.now) }
     {
-        record!(KhrMaterialsVariants {
-            mappings: self.mappings.copy(alloc),
+        copy_record!(self, alloc; KhrMaterialsVariants {} with {
+            mappings: Member,
         })
     }
 }
@@ -112,9 +111,9 @@ impl Primitive {
     pub fn clone(&self, alloc: Global) -> Result<Primitive, AllocError>
         ensures { IfOk result (IsCopy primitive_extensions self.now) }
     {
-        record!(Primitive {
-            khr_materials_variants: option_copy(alloc, &self.khr_materials_variants),
-            others: map_copy(&self.others),
+        copy_record!(self, alloc; Primitive {} with {
+            khr_materials_variants: Maybe,
+            others: Unnamed,
         })
     }
 }

@@ -3,11 +3,12 @@ ghost use Rattle.std.specs.Prelude.{IfOk};
 ghost use Rattle.gltf_json_record.specs.Copy.{IsCopy};
 
 use crate::texture::Info;
-use gltf_json_record::copy::{Copies, map_copy, option_copy};
+use gltf_json_record::copy::Copies;
 use gltf_json_record::error::Error;
 use gltf_json_record::extras::Extras;
+use gltf_json_record::lent::{Maybe, Unnamed};
 use gltf_json_record::read::{FromValue, object};
-use gltf_json_record::{read_record, record};
+use gltf_json_record::{copy_record, read_record};
 use serde_json::{Map, Value};
 use std::alloc::{AllocError, Global};
 
@@ -37,13 +38,13 @@ impl PbrSpecularGlossiness {
     pub fn clone(&self, alloc: Global) -> Result<PbrSpecularGlossiness, AllocError>
         ensures { IfOk result (IsCopy pbr_specular_glossiness self.now) }
     {
-        record!(PbrSpecularGlossiness {
-            diffuse_factor: option_copy(alloc, &self.diffuse_factor),
-            diffuse_texture: option_copy(alloc, &self.diffuse_texture),
-            specular_factor: option_copy(alloc, &self.specular_factor),
-            glossiness_factor: option_copy(alloc, &self.glossiness_factor),
-            specular_glossiness_texture: option_copy(alloc, &self.specular_glossiness_texture),
-            extras: option_copy(alloc, &self.extras),
+        copy_record!(self, alloc; PbrSpecularGlossiness {} with {
+            diffuse_factor: Maybe,
+            diffuse_texture: Maybe,
+            specular_factor: Maybe,
+            glossiness_factor: Maybe,
+            specular_glossiness_texture: Maybe,
+            extras: Maybe,
         })
     }
 }
@@ -126,10 +127,10 @@ impl Transmission {
     pub fn clone(&self, alloc: Global) -> Result<Transmission, AllocError>
         ensures { IfOk result (IsCopy transmission self.now) }
     {
-        record!(Transmission {
-            transmission_factor: option_copy(alloc, &self.transmission_factor),
-            transmission_texture: option_copy(alloc, &self.transmission_texture),
-            extras: option_copy(alloc, &self.extras),
+        copy_record!(self, alloc; Transmission {} with {
+            transmission_factor: Maybe,
+            transmission_texture: Maybe,
+            extras: Maybe,
         })
     }
 }
@@ -172,9 +173,9 @@ impl Ior {
     pub fn clone(&self, alloc: Global) -> Result<Ior, AllocError>
         ensures { IfOk result (IsCopy ior self.now) }
     {
-        record!(Ior {
-            ior: option_copy(alloc, &self.ior),
-            extras: option_copy(alloc, &self.extras),
+        copy_record!(self, alloc; Ior {} with {
+            ior: Maybe,
+            extras: Maybe,
         })
     }
 }
@@ -217,9 +218,9 @@ impl EmissiveStrength {
     pub fn clone(&self, alloc: Global) -> Result<EmissiveStrength, AllocError>
         ensures { IfOk result (IsCopy emissive_strength self.now) }
     {
-        record!(EmissiveStrength {
-            emissive_strength: option_copy(alloc, &self.emissive_strength),
-            extras: option_copy(alloc, &self.extras),
+        copy_record!(self, alloc; EmissiveStrength {} with {
+            emissive_strength: Maybe,
+            extras: Maybe,
         })
     }
 }
@@ -268,12 +269,12 @@ impl Volume {
     pub fn clone(&self, alloc: Global) -> Result<Volume, AllocError>
         ensures { IfOk result (IsCopy volume self.now) }
     {
-        record!(Volume {
-            thickness_factor: option_copy(alloc, &self.thickness_factor),
-            thickness_texture: option_copy(alloc, &self.thickness_texture),
-            attenuation_distance: option_copy(alloc, &self.attenuation_distance),
-            attenuation_color: option_copy(alloc, &self.attenuation_color),
-            extras: option_copy(alloc, &self.extras),
+        copy_record!(self, alloc; Volume {} with {
+            thickness_factor: Maybe,
+            thickness_texture: Maybe,
+            attenuation_distance: Maybe,
+            attenuation_color: Maybe,
+            extras: Maybe,
         })
     }
 }
@@ -325,12 +326,12 @@ impl Specular {
     pub fn clone(&self, alloc: Global) -> Result<Specular, AllocError>
         ensures { IfOk result (IsCopy specular self.now) }
     {
-        record!(Specular {
-            specular_factor: option_copy(alloc, &self.specular_factor),
-            specular_texture: option_copy(alloc, &self.specular_texture),
-            specular_color_factor: option_copy(alloc, &self.specular_color_factor),
-            specular_color_texture: option_copy(alloc, &self.specular_color_texture),
-            extras: option_copy(alloc, &self.extras),
+        copy_record!(self, alloc; Specular {} with {
+            specular_factor: Maybe,
+            specular_texture: Maybe,
+            specular_color_factor: Maybe,
+            specular_color_texture: Maybe,
+            extras: Maybe,
         })
     }
 }
@@ -387,15 +388,15 @@ impl Material {
     pub fn clone(&self, alloc: Global) -> Result<Material, AllocError>
         ensures { IfOk result (IsCopy material_extensions self.now) }
     {
-        record!(Material {
-            pbr_specular_glossiness: option_copy(alloc, &self.pbr_specular_glossiness),
-            unlit: option_copy(alloc, &self.unlit),
-            transmission: option_copy(alloc, &self.transmission),
-            ior: option_copy(alloc, &self.ior),
-            emissive_strength: option_copy(alloc, &self.emissive_strength),
-            volume: option_copy(alloc, &self.volume),
-            specular: option_copy(alloc, &self.specular),
-            others: map_copy(&self.others),
+        copy_record!(self, alloc; Material {} with {
+            pbr_specular_glossiness: Maybe,
+            unlit: Maybe,
+            transmission: Maybe,
+            ior: Maybe,
+            emissive_strength: Maybe,
+            volume: Maybe,
+            specular: Maybe,
+            others: Unnamed,
         })
     }
 }

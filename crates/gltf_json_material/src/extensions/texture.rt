@@ -2,11 +2,12 @@
 ghost use Rattle.std.specs.Prelude.{IfOk};
 ghost use Rattle.gltf_json_record.specs.Copy.{IsCopy};
 
-use gltf_json_record::copy::{Copies, map_copy, option_copy};
+use gltf_json_record::copy::Copies;
 use gltf_json_record::error::Error;
 use gltf_json_record::extras::Extras;
+use gltf_json_record::lent::{Maybe, Unnamed};
 use gltf_json_record::read::FromValue;
-use gltf_json_record::{read_record, record};
+use gltf_json_record::{copy_record, read_record};
 use serde_json::{Map, Value};
 use std::alloc::{AllocError, Global};
 
@@ -34,13 +35,11 @@ impl TextureTransform {
     pub fn clone(&self, alloc: Global) -> Result<TextureTransform, AllocError>
         ensures { IfOk result (IsCopy texture_transform self.now) }
     {
-        record!(TextureTransform {
-            tex_coord: self.tex_coord,
-        } and {
-            offset: option_copy(alloc, &self.offset),
-            rotation: option_copy(alloc, &self.rotation),
-            scale: option_copy(alloc, &self.scale),
-            extras: option_copy(alloc, &self.extras),
+        copy_record!(self, alloc; TextureTransform { tex_coord, } with {
+            offset: Maybe,
+            rotation: Maybe,
+            scale: Maybe,
+            extras: Maybe,
         })
     }
 }
@@ -85,9 +84,9 @@ impl Info {
     pub fn clone(&self, alloc: Global) -> Result<Info, AllocError>
         ensures { IfOk result (IsCopy texture_info_extensions self.now) }
     {
-        record!(Info {
-            texture_transform: option_copy(alloc, &self.texture_transform),
-            others: map_copy(&self.others),
+        copy_record!(self, alloc; Info {} with {
+            texture_transform: Maybe,
+            others: Unnamed,
         })
     }
 }

@@ -5,11 +5,12 @@ pub mod khr_materials_variants;
 ghost use Rattle.std.specs.Prelude.{IfOk};
 ghost use Rattle.gltf_json_record.specs.Copy.{IsCopy};
 
-use gltf_json_record::copy::{Copies, map_copy, option_copy};
+use gltf_json_record::copy::Copies;
 use gltf_json_record::error::Error;
 use gltf_json_record::index::Index;
+use gltf_json_record::lent::{Maybe, Unnamed};
 use gltf_json_record::read::FromValue;
-use gltf_json_record::{kinds, read_record, record};
+use gltf_json_record::{copy_record, kinds, read_record};
 use serde_json::{Map, Value};
 use std::alloc::{AllocError, Global};
 
@@ -68,9 +69,9 @@ impl Node {
     pub fn clone(&self, alloc: Global) -> Result<Node, AllocError>
         ensures { IfOk result (IsCopy node_extensions self.now) }
     {
-        record!(Node {
-            khr_lights_punctual: option_copy(alloc, &self.khr_lights_punctual),
-            others: map_copy(&self.others),
+        copy_record!(self, alloc; Node {} with {
+            khr_lights_punctual: Maybe,
+            others: Unnamed,
         })
     }
 }

@@ -2,12 +2,13 @@
 ghost use Rattle.std.specs.Prelude.{IfOk};
 ghost use Rattle.gltf_json_record.specs.Copy.{IsCopy};
 
-use gltf_json_record::copy::{Copies, option_copy};
+use gltf_json_record::copy::Copies;
 use gltf_json_record::error::Error;
 use gltf_json_record::extras::Extras;
+use gltf_json_record::lent::Maybe;
 use gltf_json_record::read::FromValue;
 use gltf_json_record::validation::{Checked, Code};
-use gltf_json_record::{read_record, record};
+use gltf_json_record::{copy_record, read_record};
 use serde_json::Value;
 use std::alloc::{AllocError, Global};
 
@@ -56,9 +57,9 @@ impl Spot {
     pub fn clone(&self, alloc: Global) -> Result<Spot, AllocError>
         ensures { IfOk result (IsCopy spot self.now) }
     {
-        record!(Spot {
-            inner_cone_angle: option_copy(alloc, &self.inner_cone_angle),
-            outer_cone_angle: option_copy(alloc, &self.outer_cone_angle),
+        copy_record!(self, alloc; Spot {} with {
+            inner_cone_angle: Maybe,
+            outer_cone_angle: Maybe,
         })
     }
 }
@@ -112,15 +113,13 @@ impl Light {
     pub fn clone(&self, alloc: Global) -> Result<Light, AllocError>
         ensures { IfOk result (IsCopy light self.now) }
     {
-        record!(Light {
-            type_: self.type_,
-        } and {
-            color: option_copy(alloc, &self.color),
-            intensity: option_copy(alloc, &self.intensity),
-            range: option_copy(alloc, &self.range),
-            spot: option_copy(alloc, &self.spot),
-            name: option_copy(alloc, &self.name),
-            extras: option_copy(alloc, &self.extras),
+        copy_record!(self, alloc; Light { type_, } with {
+            color: Maybe,
+            intensity: Maybe,
+            range: Maybe,
+            spot: Maybe,
+            name: Maybe,
+            extras: Maybe,
         })
     }
 }

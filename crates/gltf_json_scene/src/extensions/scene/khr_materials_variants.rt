@@ -4,8 +4,9 @@ ghost use Rattle.gltf_json_record.specs.Copy.{IsCopy};
 
 use gltf_json_record::copy::Copies;
 use gltf_json_record::error::Error;
+use gltf_json_record::lent::Member;
 use gltf_json_record::read::FromValue;
-use gltf_json_record::{read_record, record};
+use gltf_json_record::{copy_record, read_record};
 use serde_json::Value;
 use std::alloc::{AllocError, Global};
 
@@ -24,8 +25,8 @@ impl Variant {
     pub fn clone(&self, alloc: Global) -> Result<Variant, AllocError>
         ensures { IfOk result (IsCopy variant self.now) }
     {
-        record!(Variant {
-            name: self.name.copy(alloc),
+        copy_record!(self, alloc; Variant {} with {
+            name: Member,
         })
     }
 }

@@ -8,7 +8,7 @@ ghost use Rattle.gltf_json.specs.Documents.{root};
 ghost use Rattle.gltf_json.specs.Reading.{Reads, Refuses};
 ghost use Rattle.gltf_json.specs.declared.root.Root.{Root};
 
-use crate::root::Root;
+use gltf_json::root::Root;
 use gltf_json_record::error::Error;
 use gltf_json_record::read::read;
 use serde_json::Value;
