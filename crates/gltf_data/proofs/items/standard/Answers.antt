@@ -3,10 +3,10 @@ use Rattle.gltf_data.proofs.Wholes.{whole, in_document, base_part_is}
 use Rattle.gltf_data.specs.Parts.{base_part}
 use Rattle.gltf_data.proofs.items.standard.Goals as goal
 
-pub returns-in-Some : goal.returns-in-Some
-returns-in-Some g c =
+pub returns : goal.returns
+returns g c =
     let at = base_part_is g.T.Item.size c.args.accessor.document.now c.args.accessor.json.now
-    c.in-Some.view c.offset.result c.count.result (search rules) (search rules)
+    c.in_ok-view.view c.offset.result c.count.result (search rules) (search rules)
     (search rules) in
     whole (base_part g.T.Item.size c.args.accessor.document.now c.args.accessor.json.now) at.0
-    (in_document c.in-Some.view.document.now c.args.accessor.document.now at.1 c.items.ensures)
+    (in_document c.in_ok-view.view.document.now c.args.accessor.document.now at.1 c.items.ensures)
