@@ -8,9 +8,9 @@ work=$(mktemp -d)
 trap 'rm -rf "$work"' EXIT
 mkdir -p "$work/crates/records_bench/src"
 cp -r "$here"/../../crates/gltf_json "$work/crates"
-cp -r "$here"/../../crates/gltf_json_{record,material,geometry,scene,animation} "$work/crates"
+cp -r "$here"/../../crates/gltf_json_{record,material,geometry,scene,animation,deserialize} "$work/crates"
 cp "$here/records_bench.rt.txt" "$work/crates/records_bench/src/main.rt"
 grep '^gltf_json' "$here/../../crates.txt" | grep -v tests > "$work/crates.txt"
-printf 'records_bench: gltf_json serde_json\n' >> "$work/crates.txt"
+printf 'records_bench: gltf_json_deserialize serde_json\n' >> "$work/crates.txt"
 mkdir "$work/.git"
 (cd "$work/crates/records_bench" && rt run 2> "$work/log") || { cat "$work/log"; exit 1; }
