@@ -23,7 +23,10 @@ fn plain_as<T: Item + Debug>(
     steps: &[Step],
     line: &mut String,
 ) -> Written {
-    let items = items_of::<T>(bytes, asked.number(1)).map(Iter::Standard);
+    let items = match items_of::<T>(bytes, asked.number(1)) {
+        Some(items) => Some(Iter::Standard(items)),
+        None => None,
+    };
     write_walk(alloc, asked.words, steps, items, line)
 }
 
@@ -65,7 +68,10 @@ fn sparse_as<T: Item + Debug>(
     steps: &[Step],
     line: &mut String,
 ) -> Written {
-    let items = sparse_of::<T>(asked, parts).map(Iter::Sparse);
+    let items = match sparse_of::<T>(asked, parts) {
+        Some(items) => Some(Iter::Sparse(items)),
+        None => None,
+    };
     write_walk(alloc, asked.words, steps, items, line)
 }
 
