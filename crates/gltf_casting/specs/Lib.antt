@@ -1,0 +1,10 @@
+pub mod Casting
+pub mod Colors
+pub mod Indices
+pub mod Joints
+pub mod MorphTargetWeights
+pub mod Rotations
+pub mod Step
+pub mod Tally
+pub mod TexCoords
+pub mod Weights
