@@ -1,0 +1,224 @@
+//! Cameras (glTF 2.0, section 3.10, "Cameras").
+
+ghost use Rattle.std.specs.Prelude.{◌≡◌, ◌<◌, length};
+ghost use Rattle.std.specs.Option.{option_copied};
+ghost use Rattle.gltf_handles.specs.Members.{text, unknown_extensions, extension_named};
+ghost use Rattle.gltf_validation.specs.Cameras.{camera_rules};
+ghost use Rattle.gltf_validation.specs.Documents.{counts_of};
+ghost use Rattle.gltf_validation.specs.Rules.{Hold, Hold-prop};
+
+use gltf_handles::member::{meaning, unknown_extensions};
+use gltf_json::camera::{self, Type};
+use gltf_json::{Map, Value, kinds};
+use gltf_rules::Valid;
+
+/// A camera (glTF 2.0, section 5.12, "Camera").
+#[derive(Clone, Copy, Debug)]
+pub struct Camera<'a> {
+    document: &'a Valid,
+    index: usize,
+    json: &'a camera::Camera,
+    ghost holds: { Hold (camera_rules (counts_of document.now) json.now) } by { Hold-prop
+        (camera_rules (counts_of document.now) json.now) },
+}
+
+/// How a camera projects (glTF 2.0, section 3.10.3, "Projection Matrices").
+#[derive(Clone, Copy, Debug)]
+pub enum Projection<'a> {
+    /// Along parallel lines.
+    Orthographic(Orthographic<'a>),
+    /// Along lines that meet in one point.
+    Perspective(Perspective<'a>),
+}
+
+impl<'a> Camera<'a> {
+    ghost use Rattle.gltf_look.specs.Cameras.{camera_handle, IsCamera, IsProjection};
+
+    /// The camera at an index below the number of cameras.
+    pub fn new(document: &'a Valid, index: usize) -> Self
+        requires { index < length document.now.cameras.items }
+        ensures { IsCamera document.now index result }
+    {
+        Camera {
+            document,
+            index,
+            json: document.get::<kinds::Camera>(index),
+        }
+    }
+
+    /// The position among the cameras of the document.
+    pub fn index(&self) -> usize
+        ensures { result ≡ (camera_handle self.now).index }
+    {
+        self.index
+    }
+
+    /// The name given by the user.
+    pub fn name(&self) -> Option<&'a str>
+        ensures { option_copied result ≡ text (camera_handle self.now).json.name }
+    {
+        self.json.name.as_deref()
+    }
+
+    /// How the camera projects: by the record that its `type` names.
+    pub fn projection(&self) -> Projection<'a>
+        ensures { IsProjection (camera_handle self.now).json result }
+    {
+        match meaning(self.json.type_) {
+            Type::Orthographic => Projection::Orthographic(Orthographic {
+                json: self.json.orthographic.as_ref().unwrap(),
+            }),
+            Type::Perspective => Projection::Perspective(Perspective {
+                json: self.json.perspective.as_ref().unwrap(),
+            }),
+        }
+    }
+
+    /// The extensions, none of which is known at a camera; None where there is no member
+    /// `extensions`.
+    pub fn extensions(&self) -> Option<&'a Map<String, Value>>
+        ensures { option_copied result
+            ≡ unknown_extensions (camera_handle self.now).json.extensions }
+    {
+        unknown_extensions(&self.json.extensions)
+    }
+
+    /// The extension of this name.
+    pub fn extension_value(&self, name: &str) -> Option<&'a Value>
+        ensures { option_copied result ≡ extension_named name.now
+            (unknown_extensions (camera_handle self.now).json.extensions) }
+    {
+        self.extensions()?.get(name)
+    }
+
+    /// What the application stores here: `extras`.
+    pub fn extras(&self) -> Option<&'a Value>
+        ensures { option_copied result ≡ (camera_handle self.now).json.extras }
+    {
+        self.json.extras.as_ref()
+    }
+}
+
+/// An orthographic projection (glTF 2.0, section 5.13, "Camera Orthographic"). Its numbers are lent
+/// as they stand, of any kind.
+#[derive(Clone, Copy, Debug)]
+pub struct Orthographic<'a> {
+    json: &'a camera::Orthographic,
+}
+
+impl<'a> Orthographic<'a> {
+    ghost use Rattle.gltf_look.specs.Cameras.{orthographic_record};
+
+    /// Half the width of what is seen: `xmag`.
+    pub fn xmag(&self) -> Option<&'a Value>
+        ensures { option_copied result ≡ (orthographic_record self.now).xmag }
+    {
+        self.json.xmag.as_ref()
+    }
+
+    /// Half the height of what is seen: `ymag`.
+    pub fn ymag(&self) -> Option<&'a Value>
+        ensures { option_copied result ≡ (orthographic_record self.now).ymag }
+    {
+        self.json.ymag.as_ref()
+    }
+
+    /// The distance to the far clipping plane: `zfar`.
+    pub fn zfar(&self) -> Option<&'a Value>
+        ensures { option_copied result ≡ (orthographic_record self.now).zfar }
+    {
+        self.json.zfar.as_ref()
+    }
+
+    /// The distance to the near clipping plane: `znear`.
+    pub fn znear(&self) -> Option<&'a Value>
+        ensures { option_copied result ≡ (orthographic_record self.now).znear }
+    {
+        self.json.znear.as_ref()
+    }
+
+    /// The extensions, none of which is known here; None where there is no member `extensions`.
+    pub fn extensions(&self) -> Option<&'a Map<String, Value>>
+        ensures { option_copied result
+            ≡ unknown_extensions (orthographic_record self.now).extensions }
+    {
+        unknown_extensions(&self.json.extensions)
+    }
+
+    /// The extension of this name.
+    pub fn extension_value(&self, name: &str) -> Option<&'a Value>
+        ensures { option_copied result ≡ extension_named name.now
+            (unknown_extensions (orthographic_record self.now).extensions) }
+    {
+        self.extensions()?.get(name)
+    }
+
+    /// What the application stores here: `extras`.
+    pub fn extras(&self) -> Option<&'a Value>
+        ensures { option_copied result ≡ (orthographic_record self.now).extras }
+    {
+        self.json.extras.as_ref()
+    }
+}
+
+/// A perspective projection (glTF 2.0, section 5.14, "Camera Perspective"). Its numbers are lent as
+/// they stand, of any kind.
+#[derive(Clone, Copy, Debug)]
+pub struct Perspective<'a> {
+    json: &'a camera::Perspective,
+}
+
+impl<'a> Perspective<'a> {
+    ghost use Rattle.gltf_look.specs.Cameras.{perspective_record};
+
+    /// The width of the view by its height: `aspectRatio`.
+    pub fn aspect_ratio(&self) -> Option<&'a Value>
+        ensures { option_copied result ≡ (perspective_record self.now).aspect_ratio }
+    {
+        self.json.aspect_ratio.as_ref()
+    }
+
+    /// The angle of view from bottom to top, in radians: `yfov`.
+    pub fn yfov(&self) -> Option<&'a Value>
+        ensures { option_copied result ≡ (perspective_record self.now).yfov }
+    {
+        self.json.yfov.as_ref()
+    }
+
+    /// The distance to the far clipping plane: `zfar`. Without it the projection is infinite.
+    pub fn zfar(&self) -> Option<&'a Value>
+        ensures { option_copied result ≡ (perspective_record self.now).zfar }
+    {
+        self.json.zfar.as_ref()
+    }
+
+    /// The distance to the near clipping plane: `znear`.
+    pub fn znear(&self) -> Option<&'a Value>
+        ensures { option_copied result ≡ (perspective_record self.now).znear }
+    {
+        self.json.znear.as_ref()
+    }
+
+    /// The extensions, none of which is known here; None where there is no member `extensions`.
+    pub fn extensions(&self) -> Option<&'a Map<String, Value>>
+        ensures { option_copied result
+            ≡ unknown_extensions (perspective_record self.now).extensions }
+    {
+        unknown_extensions(&self.json.extensions)
+    }
+
+    /// The extension of this name.
+    pub fn extension_value(&self, name: &str) -> Option<&'a Value>
+        ensures { option_copied result ≡ extension_named name.now
+            (unknown_extensions (perspective_record self.now).extensions) }
+    {
+        self.extensions()?.get(name)
+    }
+
+    /// What the application stores here: `extras`.
+    pub fn extras(&self) -> Option<&'a Value>
+        ensures { option_copied result ≡ (perspective_record self.now).extras }
+    {
+        self.json.extras.as_ref()
+    }
+}

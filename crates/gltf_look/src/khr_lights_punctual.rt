@@ -1,0 +1,118 @@
+//! Lights (the extension `KHR_lights_punctual`).
+
+ghost use Rattle.std.specs.Prelude.{◌≡◌, ◌<◌, length};
+ghost use Rattle.std.specs.Option.{option_copied};
+ghost use Rattle.gltf_handles.specs.Members.{text};
+ghost use Rattle.gltf_rules.specs.Extensions.{lights_of};
+ghost use Rattle.gltf_validation.specs.Documents.{counts_of};
+ghost use Rattle.gltf_validation.specs.Lights.{light_rules};
+ghost use Rattle.gltf_validation.specs.Rules.{Hold, Hold-prop};
+
+use gltf_handles::member::meaning;
+use gltf_json::extensions::scene::khr_lights_punctual::{self, Type};
+use gltf_json::{Value, kinds};
+use gltf_rules::Valid;
+
+/// A light (`KHR_lights_punctual`, "Light Shared Properties"). Its numbers are lent as they stand,
+/// of any kind.
+#[derive(Clone, Copy, Debug)]
+pub struct Light<'a> {
+    document: &'a Valid,
+    index: usize,
+    json: &'a khr_lights_punctual::Light,
+    ghost holds: { Hold (light_rules (counts_of document.now) json.now) } by { Hold-prop
+        (light_rules (counts_of document.now) json.now) },
+}
+
+/// How a light shines (`KHR_lights_punctual`, "Light Types").
+#[derive(Clone, Copy, Debug)]
+pub enum Kind<'a> {
+    /// From infinitely far, in the direction -z of its node.
+    Directional,
+    /// From its node, in all directions.
+    Point,
+    /// From its node, in a cone round -z.
+    Spot {
+        /// The angle, in radians from the cone's axis, at which the light begins to fade:
+        /// `innerConeAngle`.
+        inner_cone_angle: Option<&'a Value>,
+        /// The angle, in radians from the cone's axis, at which the light ends: `outerConeAngle`.
+        outer_cone_angle: Option<&'a Value>,
+    },
+}
+
+impl<'a> Light<'a> {
+    ghost use Rattle.gltf_look.specs.Lights.{light_handle, IsLight, IsKind};
+
+    /// The light at an index below the number of lights.
+    pub fn new(document: &'a Valid, index: usize) -> Self
+        requires { index < length (lights_of document.now.extensions) }
+        ensures { IsLight document.now index result }
+    {
+        Light {
+            document,
+            index,
+            json: document.get::<kinds::Light>(index),
+        }
+    }
+
+    /// The colour, as linear red, green and blue: `color`.
+    pub fn color(&self) -> Option<&'a Value>
+        ensures { option_copied result ≡ (light_handle self.now).json.color }
+    {
+        self.json.color.as_ref()
+    }
+
+    /// The position among the lights of the document.
+    pub fn index(&self) -> usize
+        ensures { result ≡ (light_handle self.now).index }
+    {
+        self.index
+    }
+
+    /// The name given by the user.
+    pub fn name(&self) -> Option<&'a str>
+        ensures { option_copied result ≡ text (light_handle self.now).json.name }
+    {
+        self.json.name.as_deref()
+    }
+
+    /// What the application stores here: `extras`.
+    pub fn extras(&self) -> Option<&'a Value>
+        ensures { option_copied result ≡ (light_handle self.now).json.extras }
+    {
+        self.json.extras.as_ref()
+    }
+
+    /// The brightness, in candela for point and spot lights and in lux for directional ones:
+    /// `intensity`.
+    pub fn intensity(&self) -> Option<&'a Value>
+        ensures { option_copied result ≡ (light_handle self.now).json.intensity }
+    {
+        self.json.intensity.as_ref()
+    }
+
+    /// The distance in metres at which the light ends: `range`.
+    pub fn range(&self) -> Option<&'a Value>
+        ensures { option_copied result ≡ (light_handle self.now).json.range }
+    {
+        self.json.range.as_ref()
+    }
+
+    /// How the light shines: `type`, and of a spot its cone.
+    pub fn kind(&self) -> Kind<'a>
+        ensures { IsKind (light_handle self.now).json result }
+    {
+        match meaning(self.json.type_) {
+            Type::Directional => Kind::Directional,
+            Type::Point => Kind::Point,
+            Type::Spot => {
+                let spot = self.json.spot.as_ref().unwrap();
+                Kind::Spot {
+                    inner_cone_angle: spot.inner_cone_angle.as_ref(),
+                    outer_cone_angle: spot.outer_cone_angle.as_ref(),
+                }
+            }
+        }
+    }
+}
