@@ -1,0 +1,6 @@
+pub mod Defaults
+pub mod Textures
+pub mod Parts
+pub mod Materials
+pub mod Variants
+pub mod Documents
