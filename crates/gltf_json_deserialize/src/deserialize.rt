@@ -26,7 +26,8 @@ pub fn from_value(alloc: Global, value: &Value) -> Result<Root, Error>
     ensures fits { IfOk result (λ _. root.fits (view value.now)) }
     ensures fault { IfErr result (Tells (root.fault (view value.now))) }
     ensures refused { IfErr result (λ e. e ≢ Memory → root.fits (view value.now) → ⊥) }
-    ensures unread { IfErr result (λ e. e ≢ Memory → (r : Root) → root.is (view value.now) r → ⊥) }
+    ensures unread { IfErr result (λ e. e ≢ Memory
+        → (r : Root) → root.is (view value.now) r → ⊥) }
 {
     read(alloc, value)
 }

@@ -128,7 +128,9 @@ impl Accessor {
     pub fn clone(&self, alloc: Global) -> Result<Accessor, AllocError>
         ensures { IfOk result (IsCopy accessor self.now) }
     {
-        copy_record!(self, alloc; Accessor { buffer_view, byte_offset, component_type, normalized, count, type_, } with {
+        copy_record!(self, alloc; Accessor {
+            buffer_view, byte_offset, component_type, normalized, count, type_,
+        } with {
             max: Maybe,
             min: Maybe,
             sparse: Maybe,

@@ -122,7 +122,9 @@ impl View {
     pub fn clone(&self, alloc: Global) -> Result<View, AllocError>
         ensures { IfOk result (IsCopy buffer_view self.now) }
     {
-        copy_record!(self, alloc; View { buffer, byte_length, byte_offset, byte_stride, target, } with {
+        copy_record!(self, alloc; View {
+            buffer, byte_length, byte_offset, byte_stride, target,
+        } with {
             name: Maybe,
             extensions: Maybe,
             extras: Maybe,
