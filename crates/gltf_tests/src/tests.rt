@@ -2,6 +2,7 @@
 
 mod bounds;
 mod callers;
+mod casts;
 mod copies;
 mod every_list;
 mod first_steps;
