@@ -12,6 +12,11 @@ pub fn order_is_total()
     ensures { IsTotalOrder semantic_cmp }
 {}
 
+/// The order that `Ord` has for attributes is the stated one: maps of attributes are in this order.
+pub fn order_is_the_stated_one()
+    ensures { ⟦<Semantic as Ord>⟧.cmp ≡ semantic_cmp }
+{}
+
 /// Two attributes are equal exactly where neither stands before the other.
 pub fn equality_agrees_with_order(left: &Semantic, right: &Semantic) -> bool
     ensures { IsTrue result ↔ (semantic_cmp left.now right.now ≡ Equal) }

@@ -127,11 +127,11 @@ pub struct Primitive {
     pub extras: Extras,
 }
 
+#[tactic(auto, unfolding(crate::specs::Meshes::primitive, crate::specs::AttributeKind::attributes))]
 impl Primitive {
     ghost use Rattle.gltf_json_geometry.specs.Meshes.{primitive};
 
     /// A copy of the record, which shows what this one shows.
-    #[tactic(auto, unfolding(crate::specs::Meshes::primitive, crate::specs::AttributeKind::attributes))]
     pub fn clone(&self, alloc: Global) -> Result<Primitive, AllocError>
         ensures { IfOk result (IsCopy primitive self.now) }
     {

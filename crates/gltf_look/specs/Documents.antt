@@ -2,7 +2,8 @@
 use Rattle.std.specs.Prelude.{◌≡◌, length}
 use Rattle.gltf_json.specs.declared.root.Root.{Root}
 use Rattle.gltf_handles.specs.Positions.{Position, IsWhole}
-use Rattle.gltf_rules.specs.Extensions.{lights_of, variants_of}
+use Rattle.gltf_rules.specs.Extensions.{variants_of}
+use Rattle.gltf_validation.specs.Lights.{lights_of}
 use Rattle.gltf_look.specs.declared.iter.AllCameras.{AllCameras}
 use Rattle.gltf_look.specs.declared.iter.AllImages.{AllImages}
 use Rattle.gltf_look.specs.declared.iter.AllLights.{AllLights}

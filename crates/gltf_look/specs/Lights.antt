@@ -6,7 +6,7 @@ use Rattle.gltf_json_scene.specs.declared.extensions.scene.khr_lights_punctual.L
 use Rattle.gltf_json_scene.specs.declared.extensions.scene.khr_lights_punctual.«Type».TheVariants as types
 use Rattle.gltf_handles.specs.Handle.{Handle, IsAt}
 use Rattle.gltf_handles.specs.Members.{IsCode}
-use Rattle.gltf_rules.specs.Extensions.{lights_of}
+use Rattle.gltf_validation.specs.Lights.{lights_of}
 use Rattle.gltf_look.specs.declared.khr_lights_punctual.Light.{Light}
 use Rattle.gltf_look.specs.declared.khr_lights_punctual.Kind.{Kind}
 use Rattle.gltf_look.specs.declared.khr_lights_punctual.Kind.TheVariants.{Directional, Point, Spot}

@@ -10,8 +10,8 @@ ghost use Rattle.gltf_look.specs.Images.{IsImage};
 ghost use Rattle.gltf_look.specs.Lights.{IsLight};
 ghost use Rattle.gltf_look.specs.Textures.{IsSampler, IsTexture};
 ghost use Rattle.gltf_look.specs.Variants.{IsVariant};
-ghost use Rattle.gltf_rules.specs.Extensions.{lights_extension, lights_of};
 ghost use Rattle.gltf_rules.specs.Extensions.{variants_extension, variants_of};
+ghost use Rattle.gltf_validation.specs.Lights.{lights_extension, lights_of};
 
 use crate::camera::Camera;
 use crate::image::Image;

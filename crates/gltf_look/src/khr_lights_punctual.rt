@@ -3,7 +3,7 @@
 ghost use Rattle.std.specs.Prelude.{◌≡◌, ◌<◌, length};
 ghost use Rattle.std.specs.Option.{option_copied};
 ghost use Rattle.gltf_handles.specs.Members.{text};
-ghost use Rattle.gltf_rules.specs.Extensions.{lights_of};
+ghost use Rattle.gltf_validation.specs.Lights.{lights_of};
 ghost use Rattle.gltf_validation.specs.Documents.{counts_of};
 ghost use Rattle.gltf_validation.specs.Lights.{light_rules};
 ghost use Rattle.gltf_validation.specs.Rules.{Hold, Hold-prop};

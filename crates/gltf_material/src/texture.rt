@@ -26,7 +26,7 @@ pub struct Info<'a> {
 impl<'a> Info<'a> {
     ghost use Rattle.gltf_material.specs.Textures.{info_handle, transform_record, IsInfo};
 
-    // That of a member whose rules hold, where it is there.
+    /// That of a member whose rules hold, where it is there.
     pub(crate) fn of(document: &'a Valid, member: &'a Option<texture::Info>) -> Option<Self>
         requires { Hold (optional_rules (info_rules (counts_of document.now)) member.now) }
         ensures { Follows (IsInfo document.now) member.now result }

@@ -4,28 +4,16 @@ use Rattle.std.specs.Option.{option_and_then}
 use Rattle.gltf_json.specs.declared.extensions.root.KhrLightsPunctual.{KhrLightsPunctual}
 use Rattle.gltf_json.specs.declared.extensions.root.KhrMaterialsVariants.{KhrMaterialsVariants}
 use Rattle.gltf_json.specs.declared.extensions.root.Root as extended
-use Rattle.gltf_json_scene.specs.declared.extensions.scene.khr_lights_punctual.Light.{Light}
 use Rattle.gltf_json_scene.specs.declared.extensions.scene.khr_materials_variants.Variant.{Variant}
 use Rattle.gltf_validation.specs.declared.counts.Counts.{Counts}
 use Rattle.gltf_validation.specs.Documents.{root_lights_rules, root_extensions_rules}
-use Rattle.gltf_validation.specs.Lights.{light_rules}
+use Rattle.gltf_validation.specs.Lights.{light_rules, lights_within, lights_of}
 use Rattle.gltf_validation.specs.Members.{list_rules, optional_rules}
 use Rattle.gltf_validation.specs.Rules.{Hold}
 
--- the extensions that hold them, where they are there
-abbrev pub lights_extension : Option extended.Root → Option KhrLightsPunctual
-lights_extension extensions = option_and_then (λ e. e.khr_lights_punctual) extensions
-
+-- the extension that holds the variants, where it is there
 abbrev pub variants_extension : Option extended.Root → Option KhrMaterialsVariants
 variants_extension extensions = option_and_then (λ e. e.khr_materials_variants) extensions
-
--- the lights (KHR_lights_punctual): none, where the extension is absent
-abbrev pub lights_within : Option KhrLightsPunctual → List Light
-lights_within None = []
-lights_within (Some extension) = extension.lights.items
-
-abbrev pub lights_of : Option extended.Root → List Light
-lights_of extensions = lights_within (lights_extension extensions)
 
 -- the variants of materials (KHR_materials_variants): none, where the extension is absent
 abbrev pub variants_within : Option KhrMaterialsVariants → List Variant

@@ -138,9 +138,9 @@ impl Kind for kinds::Image {
 }
 
 impl Kind for kinds::Light {
-    ghost use Rattle.gltf_rules.specs.Extensions.{lights_of, lights_hold};
+    ghost use Rattle.gltf_rules.specs.Extensions.{lights_hold};
     ghost use Rattle.gltf_validation.specs.Documents.{counts_of};
-    ghost use Rattle.gltf_validation.specs.Lights.{light_rules};
+    ghost use Rattle.gltf_validation.specs.Lights.{lights_of, light_rules};
 
     type Record = Light;
 

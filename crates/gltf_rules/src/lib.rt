@@ -3,7 +3,9 @@
 
 pub mod kind;
 pub mod laws;
+mod lists;
 mod valid;
 
 pub use gltf_validation::error as validation;
+pub use lists::element;
 pub use valid::{Refused, Valid, validate};

@@ -1,6 +1,6 @@
 -- Documents that show the same have the same rules.
 use Rattle.std.proofs.Common.{◌≡◌, Option, Some, None, option_map, refl, ap, ◌∙◌}
-use Rattle.std.specs.Prelude.{codes, []}
+use Rattle.std.specs.Prelude.{codes, [], length}
 use Rattle.gltf_json_record.specs.Scalars.{text}
 use Rattle.gltf_json_animation.specs.Animations.{animation}
 use Rattle.gltf_json_geometry.specs.Accessors.{accessor}
@@ -28,13 +28,13 @@ use Rattle.gltf_validation.specs.Animations.{animation_rules}
 use Rattle.gltf_validation.specs.Buffers.{buffer_rules, view_rules}
 use Rattle.gltf_validation.specs.Cameras.{camera_rules}
 use Rattle.gltf_validation.specs.Images.{image_rules}
-use Rattle.gltf_validation.specs.Lights.{light_rules}
+use Rattle.gltf_validation.specs.Lights.{light_rules, lights_within, lights_of}
 use Rattle.gltf_validation.specs.Materials.{material_rules}
 use Rattle.gltf_validation.specs.Meshes.{mesh_rules}
 use Rattle.gltf_validation.specs.Scenes.{node_rules, scene_rules}
 use Rattle.gltf_validation.specs.Skins.{skin_rules}
 use Rattle.gltf_validation.specs.Textures.{sampler_rules, texture_rules}
-use Rattle.gltf_validation.specs.Documents.{lights_in, light_count, counts_of, supported_extensions}
+use Rattle.gltf_validation.specs.Documents.{counts_of, supported_extensions}
 use Rattle.gltf_validation.specs.Documents.{supported_rules, root_lights_rules}
 use Rattle.gltf_validation.specs.Documents.{root_extensions_rules, root_rules, Faults}
 use Rattle.gltf_validation.proofs.Alike.{at, both, optional_alike, list_alike, length_alike}
@@ -52,25 +52,25 @@ use Rattle.gltf_validation.proofs.AlikeTextures.{sampler_rules-alike, texture_ru
 
 -- ---- the lights
 
-lights_in-alike : (o p : Option KhrLightsPunctual)
+lights_within-alike : (o p : Option KhrLightsPunctual)
     → option_map root_lights.content o ≡ option_map root_lights.content p
-    → lights_in o ≡ lights_in p
+    → length (lights_within o) ≡ length (lights_within p)
 unfolding root_lights
-lights_in-alike None None e = refl
-lights_in-alike None (Some y) e = cc
-lights_in-alike (Some x) None e = cc
-lights_in-alike (Some x) (Some y) e = length_alike light.content x.lights.items y.lights.items cc
+lights_within-alike None None e = refl
+lights_within-alike None (Some y) e = cc
+lights_within-alike (Some x) None e = cc
+lights_within-alike (Some x) (Some y) e = length_alike light.content x.lights.items y.lights.items cc
 
-light_count-alike : (o p : Option extended.Root)
+lights_of-alike : (o p : Option extended.Root)
     → option_map root_extensions.content o ≡ option_map root_extensions.content p
-    → light_count o ≡ light_count p
+    → length (lights_of o) ≡ length (lights_of p)
 unfolding root_extensions
-light_count-alike None None e = refl
-light_count-alike None (Some y) e = cc
-light_count-alike (Some x) None e = cc
-light_count-alike (Some x) (Some y) e =
+lights_of-alike None None e = refl
+lights_of-alike None (Some y) e = cc
+lights_of-alike (Some x) None e = cc
+lights_of-alike (Some x) (Some y) e =
     let shown : root_extensions.content x ≡ root_extensions.content y = cc in
-    lights_in-alike x.khr_lights_punctual y.khr_lights_punctual (ap (λ s. s.0) shown)
+    lights_within-alike x.khr_lights_punctual y.khr_lights_punctual (ap (λ s. s.0) shown)
 
 root_lights_rules-alike : (c : Counts) (x y : KhrLightsPunctual)
     → root_lights.content x ≡ root_lights.content y → root_lights_rules c x ≡ root_lights_rules c y
@@ -97,7 +97,7 @@ counts_of-alike r s same =
       length_alike buffer.content r.buffers.items s.buffers.items same.buffers,
       length_alike camera.content r.cameras.items s.cameras.items same.cameras,
       length_alike image.content r.images.items s.images.items same.images,
-      light_count-alike r.extensions s.extensions same.extensions,
+      lights_of-alike r.extensions s.extensions same.extensions,
       length_alike material.content r.materials.items s.materials.items same.materials,
       length_alike mesh.content r.meshes.items s.meshes.items same.meshes,
       length_alike node.content r.nodes.items s.nodes.items same.nodes,

@@ -1,5 +1,5 @@
 -- The rules of the whole document, and which of them it breaks.
-use Rattle.std.specs.Prelude.{ℕ, List, [], ◌∷◌, length, Option, Some, None, codes}
+use Rattle.std.specs.Prelude.{ℕ, List, [], ◌∷◌, length, codes}
 use Rattle.std.specs.String.{string_bytes}
 use Rattle.std.specs.declared.string.String.{String}
 use Rattle.std.specs.declared.alloc.Global.{Global}
@@ -18,21 +18,12 @@ use Rattle.gltf_validation.specs.Animations.{animation_rules}
 use Rattle.gltf_validation.specs.Buffers.{buffer_rules, view_rules}
 use Rattle.gltf_validation.specs.Cameras.{camera_rules}
 use Rattle.gltf_validation.specs.Images.{image_rules}
-use Rattle.gltf_validation.specs.Lights.{light_rules}
+use Rattle.gltf_validation.specs.Lights.{light_rules, lights_of}
 use Rattle.gltf_validation.specs.Materials.{material_rules}
 use Rattle.gltf_validation.specs.Meshes.{mesh_rules}
 use Rattle.gltf_validation.specs.Scenes.{node_rules, scene_rules}
 use Rattle.gltf_validation.specs.Skins.{skin_rules}
 use Rattle.gltf_validation.specs.Textures.{sampler_rules, texture_rules}
-
--- how many lights the document has: none, where the extension is absent
-abbrev pub lights_in : Option KhrLightsPunctual → ℕ
-lights_in None = 0
-lights_in (Some extension) = length extension.lights.items
-
-abbrev pub light_count : Option extended.Root → ℕ
-light_count None = 0
-light_count (Some extensions) = lights_in extensions.khr_lights_punctual
 
 -- the lengths of the lists that indices point into
 abbrev pub counts_of : Root → Counts
@@ -42,7 +33,7 @@ counts_of r = record {
   buffers = length r.buffers.items;
   cameras = length r.cameras.items;
   images = length r.images.items;
-  lights = light_count r.extensions;
+  lights = length (lights_of r.extensions);
   materials = length r.materials.items;
   meshes = length r.meshes.items;
   nodes = length r.nodes.items;

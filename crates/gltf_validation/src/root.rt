@@ -1,10 +1,11 @@
 //! The rules of the whole document (glTF 2.0, section 5.17).
-ghost use Rattle.std.specs.Prelude.{◌≡◌, OnOk};
+ghost use Rattle.std.specs.Prelude.{◌≡◌, length, OnOk};
 ghost use Rattle.gltf_json_record.specs.Member.{is_one_of};
 ghost use Rattle.gltf_validation.specs.Locations.{places_of};
 ghost use Rattle.gltf_validation.specs.Rules.{report_after};
 ghost use Rattle.gltf_validation.specs.Documents.{counts_of, supported_extensions, required_rules};
-ghost use Rattle.gltf_validation.specs.Documents.{root_lights_rules, light_count};
+ghost use Rattle.gltf_validation.specs.Documents.{root_lights_rules};
+ghost use Rattle.gltf_validation.specs.Lights.{lights_of};
 ghost use Rattle.gltf_validation.specs.Documents.{first_members_rules, later_members_rules};
 ghost use Rattle.gltf_validation.specs.Documents.{root_extensions_rules, root_rules};
 
@@ -43,7 +44,7 @@ impl Counts {
 }
 
 fn light_count(root: &Root) -> usize
-    ensures { result ≡ light_count root.now.extensions }
+    ensures { result ≡ length (lights_of root.now.extensions) }
 {
     match &root.extensions {
         Some(extensions) => match &extensions.khr_lights_punctual {
