@@ -1,0 +1,12 @@
+//! Lines of text that tell of the handles of a document: all that the getters of each give, behind
+//! their names, and what steps over a list of handles give. `gltf_cases` prints them.
+#![tactic(auto)]
+
+mod buffers;
+mod list;
+mod looks;
+mod materials;
+mod shown;
+
+pub use list::{write_list, write_list_or_none};
+pub use shown::{Shown, Written};
