@@ -1,14 +1,14 @@
 //! The lists of a document, walked by words.
 use crate::asked::Asked;
 use crate::told::Written;
-use gltf::{Document, Material};
-use gltf_lines::{Shown, write_list, write_list_or_none};
+use gltf::{Document, Material, Primitive};
+use gltf_lines::{Shown, write_attribute_steps, write_list, write_list_or_none};
 
 /// Writes what the steps over a list of handles give, or extensions that are not known.
 ///
 /// - `buffers`, `views`, `accessors`, `used` and `required`, each with steps.
 /// - `extensions`, and `extension NAME`.
-/// - handles of looks, as `write_look` says.
+/// - handles of looks and of scenes, as `write_look` and `write_scene` say.
 pub(crate) fn write(document: &Document, asked: Asked<'_>, line: &mut String) -> Written {
     match asked.call {
         "buffers" => write_list(document.buffers(), asked.words, line),
@@ -37,6 +37,35 @@ fn write_look(document: &Document, asked: Asked<'_>, line: &mut String) -> Writt
         "variants" => write_list_or_none(document.variants(), asked.words, line),
         "materials" => write_list(document.materials(), asked.words, line),
         "default" => Material::default(document.as_valid()).show(line),
+        _ => write_scene(document, asked, line),
+    }
+}
+
+/// Writes what the steps over a list of handles of scenes give.
+///
+/// - `meshes`, `nodes`, `scenes`, `skins` and `animations`, each with steps.
+/// - `attributes`, with steps: those of the first primitive of the first mesh.
+/// - `scene`: the default scene.
+fn write_scene(document: &Document, asked: Asked<'_>, line: &mut String) -> Written {
+    match asked.call {
+        "meshes" => write_list(document.meshes(), asked.words, line),
+        "nodes" => write_list(document.nodes(), asked.words, line),
+        "scenes" => write_list(document.scenes(), asked.words, line),
+        "skins" => write_list(document.skins(), asked.words, line),
+        "animations" => write_list(document.animations(), asked.words, line),
+        "attributes" => match first_primitive(document) {
+            Some(first) => write_attribute_steps(first.attributes(), asked.words, line),
+            None => line.push_str("no primitive"),
+        },
+        "scene" => match document.default_scene() {
+            Some(scene) => scene.show(line),
+            None => line.push_str("no scene"),
+        },
         _ => line.push_str("no call"),
     }
+}
+
+/// The first primitive of the first mesh.
+fn first_primitive(document: &Document) -> Option<Primitive<'_>> {
+    document.meshes().nth(0)?.primitives().nth(0)
 }

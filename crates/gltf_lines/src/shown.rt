@@ -1,4 +1,5 @@
 //! What a line tells of a handle.
+use gltf_handles::list::{Indexed, List};
 use gltf_json::{Map, Value};
 use std::alloc::AllocError;
 use std::fmt::Debug;
@@ -40,6 +41,40 @@ pub(crate) fn write_part<T: Shown + Copy>(
         }
         None => line.push_str("None"),
     }
+}
+
+/// Writes the name of a getter that is not the first, and in brackets all that the getters of each
+/// item give of the list which it gives.
+pub(crate) fn write_parts<S: Indexed>(name: &str, parts: List<S>, line: &mut String) -> Written
+where
+    S::Item: Shown,
+{
+    write!(line, ", {name} [")?;
+    for part in parts {
+        line.push_str("(")?;
+        part.show(line)?;
+        line.push_str(")")?;
+    }
+    line.push_str("]")
+}
+
+/// What is told by its number alone where it stands in a list.
+pub(crate) trait Numbered {
+    /// Its index among those of its kind.
+    fn number(&self) -> usize;
+}
+
+/// Writes the name of a getter that is not the first, and in brackets the number of each item of
+/// the list that it gives.
+pub(crate) fn write_numbers<S: Indexed>(name: &str, items: List<S>, line: &mut String) -> Written
+where
+    S::Item: Numbered,
+{
+    write!(line, ", {name} [")?;
+    for item in items {
+        write!(line, "({})", item.number())?;
+    }
+    line.push_str("]")
 }
 
 /// Writes what the getters give that each handle with extensions has.
