@@ -8,4 +8,8 @@ pub mod Seen
 pub mod Unique
 pub mod TheLaws
 pub mod Again
+pub mod Fronts
+pub mod ReaderLaws
+pub mod Stops
+pub mod Came
 pub mod Texts

@@ -52,7 +52,7 @@ reads_back json bin h =
     }
 
 -- what a body that is parts is read as
-record BodyReads (body json : List ℕ) (bin : Option (List ℕ)) : Type 0 where
+pub record BodyReads (body json : List ℕ) (bin : Option (List ℕ)) : Type 0 where
   fine : json_fault body ≡ None
   held : json ≡ take (word_at 0 body) (drop 8 body)
   later : Later (behind_json body) (Ok bin)
@@ -99,7 +99,7 @@ header_reads body past h =
           ∙ ap (λ (t : List ℕ). drop 12 t) cut ∙ take-append_seam body past);
     }
 
-container_reads : (bytes json : List ℕ) (bin : Option (List ℕ)) → IsContainer bytes json bin
+pub container_reads : (bytes json : List ℕ) (bin : Option (List ℕ)) → IsContainer bytes json bin
     → (header_fault bytes ≡ None) × BodyReads (body_of bytes) json bin
 container_reads bytes json bin is =
     let r : HeaderReads bytes is.body =
@@ -110,7 +110,7 @@ container_reads bytes json bin is =
           (body_reads is.body json bin is.parts),
     )
 
-no_fault : (bytes json : List ℕ) (bin : Option (List ℕ)) (fault : Fault)
+pub no_fault : (bytes json : List ℕ) (bin : Option (List ℕ)) (fault : Fault)
     → IsContainer bytes json bin → HasFault bytes fault → ⊥
 no_fault bytes json bin fault is has =
     let r = container_reads bytes json bin is in
@@ -125,7 +125,7 @@ no_fault bytes json bin fault is has =
       ]
     ]
 
-one_fault : (bytes : List ℕ) (f g : Fault) → HasFault bytes f → HasFault bytes g → f ≡ g
+pub one_fault : (bytes : List ℕ) (f g : Fault) → HasFault bytes f → HasFault bytes g → f ≡ g
 one_fault bytes f g (inl p) (inl q) = let e : Some f ≡ Some g = sym p ∙ q in cc
 one_fault bytes f g (inl p) (inr q) = let e = q.0 in cc
 one_fault bytes f g (inr p) (inl q) = let e = p.0 in cc

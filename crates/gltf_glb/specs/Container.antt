@@ -4,7 +4,8 @@ use Rattle.std.specs.Prelude.{ℕ, ◌≡◌, ◌+◌, ◌<◌, ◌^◌, ◌⊎�
 use Rattle.std.specs.Prelude.{Option, Some, None, Result, Ok, Err}
 use Rattle.std.specs.List.{flat_map, AllByRecursion}
 use Rattle.gltf_glb.specs.Bytes.{json_tag, bin_tag, word_at, headed, chunk}
-use Rattle.gltf_glb.specs.Faults.{Fault, type_of, header_fault, json_fault, later_fault}
+use Rattle.gltf_glb.specs.Faults.{Fault, type_of, header_fault, reader_fault, json_fault}
+use Rattle.gltf_glb.specs.Faults.{later_fault}
 
 -- a chunk of a type that is neither JSON nor BIN
 pub record Other : Type 0 where
@@ -69,3 +70,9 @@ abbrev pub HasFault : List ℕ → Fault → Type 0
 HasFault bytes fault =
     (header_fault bytes ≡ Some fault)
     ⊎ ((header_fault bytes ≡ None) × HasBodyFault (body_of bytes) fault)
+
+-- the same of bytes that come from a reader
+abbrev pub HasReaderFault : List ℕ → Fault → Type 0
+HasReaderFault bytes fault =
+    (reader_fault bytes ≡ Some fault)
+    ⊎ ((reader_fault bytes ≡ None) × HasBodyFault (body_of bytes) fault)

@@ -2,6 +2,7 @@
 -- row that fits decides.
 use Rattle.std.specs.Prelude.{ℕ, ◌-◌, List, [], ◌∷◌, length, Bool, true, false, nat_lt, ◌==◌, ◌&&◌}
 use Rattle.std.specs.Prelude.{◌||◌, not, Option, Some, None, is_none, if◌then◌else◌}
+use Rattle.std.specs.Option.{option_or}
 use Rattle.std.specs.Str.{bytes_eq}
 use Rattle.gltf_glb.specs.declared.binary.ChunkType.{ChunkType}
 use Rattle.gltf_glb.specs.declared.binary.ChunkType.TheVariants.{Json, Bin}
@@ -47,6 +48,25 @@ header_fault bytes =
     ∷ (nat_lt total 12 || nat_lt (length bytes) total, Some (WrongLength total (length bytes)))
     ∷ (not (word_at 4 bytes == 2), Some (WrongVersion (word_at 4 bytes)))
     ∷ [])
+
+-- in the header of a container that comes from a reader (section 4.4.2), by the bytes that came:
+-- twelve of them decide, and the version is looked at before the length
+unfoldable pub front_fault : List ℕ → Option Fault
+front_fault bytes =
+    let total = word_at 8 bytes in
+    first_row (
+    (nat_lt (length bytes) 4, Some Short)
+    ∷ (not (bytes_eq (tag_at 0 bytes) magic), Some (NotMagic (tag_at 0 bytes)))
+    ∷ (nat_lt (length bytes) 12, Some Short)
+    ∷ (not (word_at 4 bytes == 2), Some (WrongVersion (word_at 4 bytes)))
+    ∷ (nat_lt total 12, Some (WrongLength total 12))
+    ∷ [])
+
+-- and then in the number of bytes that came
+abbrev pub reader_fault : List ℕ → Option Fault
+reader_fault bytes =
+    option_or (front_fault bytes)
+    (if nat_lt (length bytes) (word_at 8 bytes) then Some Short else None)
 
 -- in the first chunk, where the body is what stands between the header and the declared end
 -- (section 4.4.3)

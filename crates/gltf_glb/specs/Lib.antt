@@ -5,6 +5,9 @@ pub mod Reading
 pub mod Written
 pub mod Glb
 pub mod Steps
+pub mod Front
+pub mod Reader
+pub mod Writer
 pub mod Laws
 pub mod Texts
 pub mod Causes

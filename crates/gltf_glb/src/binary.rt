@@ -1,9 +1,11 @@
 //! The GLB container: a header, a JSON chunk and, where there is one, a BIN chunk (glTF 2.0,
 //! section 4.4).
+mod drawing;
 mod glb;
 mod reading;
 mod writing;
 
+pub use drawing::read_bytes;
 pub use glb::Glb;
 use std::{fmt, io};
 

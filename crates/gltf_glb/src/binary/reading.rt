@@ -12,7 +12,7 @@ use std::io;
 
 /// The number in the four bytes from a place.
 #[tactic(auto, unfolding(crate::specs::Bytes::word_at))]
-fn word_at(bytes: &[u8], at: usize) -> u32
+pub(crate) fn word_at(bytes: &[u8], at: usize) -> u32
     requires { at + 4 ≤ length bytes.now }
     ensures { result ≡ word_at at bytes.now }
 {
@@ -22,7 +22,7 @@ fn word_at(bytes: &[u8], at: usize) -> u32
 
 /// The four bytes from a place.
 #[tactic(auto, using(crate::proofs::Words::cells_at))]
-fn tag_at(bytes: &[u8], at: usize) -> [u8; 4]
+pub(crate) fn tag_at(bytes: &[u8], at: usize) -> [u8; 4]
     requires { at + 4 ≤ length bytes.now }
     ensures { result ≡ tag_at at bytes.now }
 {

@@ -1,11 +1,16 @@
 //! The bytes of a container out of its parts.
-ghost use Rattle.std.specs.Prelude.{◌≡◌, ◌<◌, ◌^◌, ◌-◌, ◌%◌, ◌++◌, length, OnOk, SomeIff};
-ghost use Rattle.std.specs.Prelude.{option_copied};
+ghost use Rattle.std.specs.Prelude.{◌≡◌, ℕ, ◌+◌, ◌<◌, ◌^◌, ◌-◌, ◌%◌, ◌++◌, length, replicate};
+ghost use Rattle.std.specs.Prelude.{OnOk, OnErr, SomeIff, option_copied};
+ghost use Rattle.std.specs.Io.KnownBytes.{Appends};
 ghost use Rattle.gltf_glb.specs.Bytes.{magic, word, chunk, padded};
-ghost use Rattle.gltf_glb.specs.Written.{total_of};
+ghost use Rattle.gltf_glb.specs.Written.{total_of, container_bytes};
+ghost use Rattle.gltf_stream.specs.Streams.{WritesBeginning};
 
 use byteorder::{ByteOrder, LittleEndian};
+use gltf_stream::write_pieces;
 use std::alloc::AllocError;
+use std::io;
+use std::io::Write;
 
 /// How many bytes fill contents up to a multiple of four.
 fn padding_of(contents: &[u8]) -> usize
@@ -66,4 +71,81 @@ pub(crate) fn put_chunk(
     out.extend_from_slice(contents)?;
     out.extend_from_slice(&[filler; 3][..padding])?;
     Ok(())
+}
+
+/// A container would be longer than its header can say.
+pub(crate) fn too_long() -> io::Error {
+    io::Error::new(
+        io::ErrorKind::InvalidInput,
+        "a GLB container has at most 4294967295 bytes",
+    )
+}
+
+/// Writes a container of the two parts, piece by piece.
+pub(crate) fn write_container<W: Write>(
+    writer: &mut W,
+    total: u32,
+    json: &[u8],
+    bin: Option<&[u8]>,
+) -> io::Result<()>
+    requires { total ≡ total_of json.now (option_copied bin) }
+    ensures ok { OnOk result (Appends (W.contents writer.old) (W.contents writer.new)
+        (container_bytes json.now (option_copied bin.entry))) }
+    ensures err { OnErr result (WritesBeginning (W.contents writer.old) (W.contents writer.new)
+        (container_bytes json.now (option_copied bin.entry))) }
+{
+    let version = word_of(2);
+    let total = word_of(total);
+    let json_length = length_of(json);
+    let json_filling = filling_of(json, b"   ");
+    match bin {
+        None => write_pieces(
+            writer,
+            &[
+                b"glTF",
+                &version,
+                &total,
+                &json_length,
+                b"JSON",
+                json,
+                json_filling,
+            ],
+        ),
+        Some(bin) => {
+            let bin_length = length_of(bin);
+            let bin_filling = filling_of(bin, b"\0\0\0");
+            write_pieces(
+                writer,
+                &[
+                    b"glTF",
+                    &version,
+                    &total,
+                    &json_length,
+                    b"JSON",
+                    json,
+                    json_filling,
+                    &bin_length,
+                    b"BIN\0",
+                    bin,
+                    bin_filling,
+                ],
+            )
+        }
+    }
+}
+
+/// What fills contents up to a multiple of four bytes.
+fn filling_of<'f>(contents: &[u8], filler: &'f [u8; 3]) -> &'f [u8]
+    ensures { (byte : ℕ) → filler.now ≡ replicate 3 byte
+        → contents.now ++ result.now ≡ padded byte contents.now }
+{
+    &filler[..padding_of(contents)]
+}
+
+/// The four bytes of the length of contents that are filled up.
+fn length_of(contents: &[u8]) -> [u8; 4]
+    requires { length contents.now + (4 - length contents.now % 4) % 4 < 2 ^ 32 }
+    ensures { result ≡ word (length contents.now + (4 - length contents.now % 4) % 4) }
+{
+    word_of((contents.len() + padding_of(contents)) as u32)
 }
