@@ -16,7 +16,6 @@ use Rattle.gltf.specs.Buffers.{long_enough, AreBytes, HasBufferFault}
 -- what is filled up is filled up once
 once : (filler : ℕ) (xs : List ℕ) → padded filler (padded filler xs) ≡ padded filler xs
 once filler xs =
-    let k : ℕ = (4 - length xs % 4) % 4 in
     let long : length (padded filler xs) ≡ length xs + (4 - length xs % 4) % 4 =
     length-append xs (replicate ((4 - length xs % 4) % 4) filler)
     ∙ ap (λ (n : ℕ). length xs + n) (length-replicate ((4 - length xs % 4) % 4) filler) in

@@ -126,7 +126,6 @@ import_kept law back spaces bytes answer is =
     let other = padded 32 is.text in
     let rest = option_map (padded 0) is.blob in
     let others = answer_parts back bytes answer is in
-    let count : ℕ = (4 - length is.text % 4) % 4 in
     let alike : AreAlike is.text (padded 32 is.text) is.blob (option_map (padded 0) is.blob) =
     record {
       read = λ d. (spaces ((4 - length is.text % 4) % 4) is.text d).1;

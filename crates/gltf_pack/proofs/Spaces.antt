@@ -111,7 +111,6 @@ digits_space (x ∷ xs) =
 
 after_digits_space : (t : List ℕ) → after_digits (t ++ one) ≡ spaced (after_digits t)
 after_digits_space t =
-    let n : ℕ = prefix_len is_ascii_digit t in
     ap (λ m. cond (m == 0) None (Some (drop m (t ++ one)))) (digits_space t)
     ∙ ap (λ l. cond (prefix_len is_ascii_digit t == 0) None (Some l))
     (drop-append-le (prefix_len is_ascii_digit t) t one (prefix_len-le-length is_ascii_digit t))
@@ -142,7 +141,6 @@ after_fraction_space (x ∷ xs) =
 after_exponent_space : (t : List ℕ) → after_exponent (t ++ one) ≡ spaced (after_exponent t)
 after_exponent_space [] = refl
 after_exponent_space (x ∷ xs) =
-    let e : Bool = (x == ascii.lower_e) || (x == ascii.upper_e) in
     ap (λ o. cond ((x == ascii.lower_e) || (x == ascii.upper_e)) o (Some (x ∷ xs ++ one)))
     (ap after_digits (after_sign_space xs) ∙ after_digits_space (after_sign xs))
     ∙ either_behind ((x == ascii.lower_e) || (x == ascii.upper_e)) (after_digits (after_sign xs))
@@ -183,7 +181,9 @@ true_space [] = refl
 true_space (a ∷ []) = refl
 true_space (a ∷ b ∷ []) = refl
 true_space (a ∷ b ∷ c ∷ []) = refl
-true_space (a ∷ b ∷ c ∷ d ∷ xs) = ap (λ e. cond (starts_with nat_eq (a ∷ b ∷ c ∷ d ∷ []) ascii.true_text && e) (boolean true) bad) (ends_space xs)
+true_space (a ∷ b ∷ c ∷ d ∷ xs) =
+    ap (λ ends. cond (starts_with nat_eq (a ∷ b ∷ c ∷ d ∷ []) ascii.true_text && ends)
+    (boolean true) bad) (ends_space xs)
 
 false_space : (t : List ℕ) → literal ascii.false_text (boolean false) (t ++ one)
     ≡ literal ascii.false_text (boolean false) t

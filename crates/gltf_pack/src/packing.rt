@@ -39,6 +39,14 @@ pub fn repack(alloc: Global, bytes: &[u8]) -> Result<Vec<u8>>
     one_answer();
     import_kept();
     repacked_again();
+    container_of(alloc, bytes)
+}
+
+/// The text and the blob of a file as one container, without what the laws say of it.
+fn container_of(alloc: Global, bytes: &[u8]) -> Result<Vec<u8>>
+    ensures written { IfOk result (λ answer. IsRepacked bytes.now answer.items) }
+    ensures refused { IfErr result (RefusesToRepack bytes.now) }
+{
     glb_of(bytes)?.to_vec(alloc)
 }
 
