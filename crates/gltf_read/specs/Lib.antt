@@ -1,0 +1,9 @@
+pub mod Reading
+pub mod Colors
+pub mod Indices
+pub mod Joints
+pub mod TexCoords
+pub mod Weights
+pub mod Rotations
+pub mod MorphTargetWeights
+pub mod Outputs
