@@ -1,1 +1,4 @@
 pub mod Members
+pub mod Rows
+pub mod Answered
+pub mod AlikeReadings

@@ -7,3 +7,4 @@ pub mod Weights
 pub mod Rotations
 pub mod MorphTargetWeights
 pub mod Outputs
+pub mod Laws

@@ -2,17 +2,22 @@
 use Rattle.std.specs.Prelude.{◌≡◌, Option, Some, None}
 use Rattle.gltf_json_animation.specs.declared.animation.Property.{Property}
 use Rattle.gltf_json_animation.specs.declared.animation.Property.TheVariants as animated
+use Rattle.gltf_handles.specs.declared.accessor.DataType.{DataType}
 use Rattle.gltf_casting.specs.declared.outputs.ReadOutputs.{ReadOutputs}
 use Rattle.gltf_casting.specs.declared.outputs.ReadOutputs.TheVariants as output
-use Rattle.gltf_read.specs.MorphTargetWeights.{AreMorphTargetWeights}
-use Rattle.gltf_read.specs.Reading.{Table, ItemsAs, ComesAs}
-use Rattle.gltf_read.specs.Rotations.{AreRotations}
+use Rattle.gltf_read.specs.MorphTargetWeights.{AreMorphTargetWeightsOf}
+use Rattle.gltf_read.specs.Reading.{Reading, Table, ItemsAs, ComesAs, type_of}
+use Rattle.gltf_read.specs.Rotations.{AreRotationsOf}
 
--- by the property; a code that is in no table has none
+-- by the property, and then by the type of components; a code that is in no table has no property
+abbrev pub AreOutputsOf : Option Property → Reading → Option DataType → Option ReadOutputs → Type 0
+AreOutputsOf (Some animated.Translation) R type result = ItemsAs output.Translations R result
+AreOutputsOf (Some animated.Rotation) R type result =
+    ComesAs output.Rotations (AreRotationsOf R type) result
+AreOutputsOf (Some animated.Scale) R type result = ItemsAs output.Scales R result
+AreOutputsOf (Some animated.MorphTargetWeights) R type result =
+    ComesAs output.MorphTargetWeights (AreMorphTargetWeightsOf R type) result
+AreOutputsOf None R type result = result ≡ None
+
 abbrev pub AreOutputs : Option Property → Table ReadOutputs
-AreOutputs (Some animated.Translation) R a result = ItemsAs output.Translations R result
-AreOutputs (Some animated.Rotation) R a result = ComesAs output.Rotations (AreRotations R a) result
-AreOutputs (Some animated.Scale) R a result = ItemsAs output.Scales R result
-AreOutputs (Some animated.MorphTargetWeights) R a result =
-    ComesAs output.MorphTargetWeights (AreMorphTargetWeights R a) result
-AreOutputs None R a result = result ≡ None
+AreOutputs property R a result = AreOutputsOf property R (type_of a) result

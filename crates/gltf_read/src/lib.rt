@@ -1,4 +1,5 @@
 //! Readers of the items that meshes, skins and animations name.
 #![tactic(auto)]
 
+pub mod laws;
 mod table;
