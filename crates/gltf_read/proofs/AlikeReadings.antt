@@ -47,7 +47,7 @@ also_there : (x y : Option Accessor) → option_map accessor.content x ≡ optio
     → (a : Accessor) → x ≡ Some a
     → (b : Accessor) × (y ≡ Some b) × (accessor.content a ≡ accessor.content b)
 also_there None y same a is = absurd (cc is)
-also_there (Some x) None same a is = absurd (cc (same, is))
+also_there (Some x) None same a is = absurd (cc same)
 also_there (Some x) (Some y) same a is =
     let content : accessor.content x ≡ accessor.content y = cc same in
     let here : x ≡ a = cc is in

@@ -2,3 +2,4 @@ pub mod Members
 pub mod Rows
 pub mod Answered
 pub mod AlikeReadings
+pub mod Targets

@@ -8,3 +8,6 @@ pub mod Rotations
 pub mod MorphTargetWeights
 pub mod Outputs
 pub mod Laws
+pub mod Primitives
+pub mod Skins
+pub mod MorphTargets

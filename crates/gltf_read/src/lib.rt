@@ -2,4 +2,7 @@
 #![tactic(auto)]
 
 pub mod laws;
+pub mod mesh;
+mod morph_targets;
+pub mod skin;
 mod table;

@@ -1,21 +1,24 @@
 //! An accessor, read as the items of one of several types, by the type of its components and its
 //! dimensions.
 
+ghost use Rattle.std.specs.Prelude.{Some};
 ghost use Rattle.gltf_handles.specs.Accessors.{accessor_handle};
 ghost use Rattle.gltf_read.specs.Colors.{AreRgb, AreRgba, AreColors};
 ghost use Rattle.gltf_read.specs.Indices.{AreIndices};
 ghost use Rattle.gltf_read.specs.Joints.{AreJoints};
 ghost use Rattle.gltf_read.specs.MorphTargetWeights.{AreMorphTargetWeights};
+ghost use Rattle.gltf_read.specs.Outputs.{AreOutputs};
 ghost use Rattle.gltf_read.specs.Reading.{IsRead, AreItems, type_of};
 ghost use Rattle.gltf_read.specs.Rotations.{AreRotations};
 ghost use Rattle.gltf_read.specs.TexCoords.{AreTexCoords};
 ghost use Rattle.gltf_read.specs.Weights.{AreWeights};
 
-use gltf_casting::animation::util::{MorphTargetWeights, Rotations};
+use gltf_casting::animation::util::{MorphTargetWeights, ReadOutputs, Rotations};
 use gltf_casting::mesh::util::{ReadColors, ReadIndices, ReadJoints, ReadTexCoords, ReadWeights};
 use gltf_data::accessor::{Accessor, DataType, Dimensions, Iter};
 use gltf_data::buffer::Buffer;
 use gltf_items::Item;
+use gltf_json::animation::Property;
 
 /// Items of one type, whatever the type of components and the dimensions.
 pub(crate) fn items<'s, T: Item, F: Fn(Buffer) -> Option<&'s [u8]>>(
@@ -190,5 +193,29 @@ pub(crate) fn colors<'s, F: Fn(Buffer) -> Option<&'s [u8]>>(
         Dimensions::Vec3 => rgb(accessor, get_buffer_data),
         Dimensions::Vec4 => rgba(accessor, get_buffer_data),
         _ => None,
+    }
+}
+
+/// What keyframes hold, by what is animated.
+pub(crate) fn outputs<'s, F: Fn(Buffer) -> Option<&'s [u8]>>(
+    property: Property,
+    accessor: Accessor,
+    get_buffer_data: &F,
+) -> Option<ReadOutputs<'s>>
+    requires { F.IsAlwaysCallable get_buffer_data.now }
+    ensures { let a = accessor_handle accessor.entry in
+        AreOutputs (Some property) (IsRead (λ b o. F.post get_buffer_data.now b o) a.document a.json)
+        a.json result }
+{
+    match property {
+        Property::Translation => {
+            Some(ReadOutputs::Translations(items(accessor, get_buffer_data)?))
+        }
+        Property::Rotation => Some(ReadOutputs::Rotations(rotations(accessor, get_buffer_data)?)),
+        Property::Scale => Some(ReadOutputs::Scales(items(accessor, get_buffer_data)?)),
+        Property::MorphTargetWeights => Some(ReadOutputs::MorphTargetWeights(morph_target_weights(
+            accessor,
+            get_buffer_data,
+        )?)),
     }
 }
