@@ -24,7 +24,7 @@ use Rattle.gltf_read.specs.Indices.{AreIndices, AreIndicesOf}
 use Rattle.gltf_read.specs.Joints.{AreJoints, AreJointsOf}
 use Rattle.gltf_read.specs.Laws.{IsAlike}
 use Rattle.gltf_read.specs.Outputs.{AreOutputs, AreOutputsOf}
-use Rattle.gltf_read.specs.Reading.{Reading, Table, ReadingAt, AreItems, IsMember, meant, type_of}
+use Rattle.gltf_read.specs.Reading.{Table, ReadingAt, AreItems, meant, type_of}
 use Rattle.gltf_read.specs.Reading.{dimensions_of}
 use Rattle.gltf_read.specs.TexCoords.{AreTexCoords, AreTexCoordsOf}
 use Rattle.gltf_read.specs.Weights.{AreWeights, AreWeightsOf}

@@ -14,7 +14,7 @@ use Rattle.gltf_read.specs.Joints.{AreJoints}
 use Rattle.gltf_read.specs.Laws.{IsByAnswers}
 use Rattle.gltf_read.specs.Outputs.{AreOutputs}
 use Rattle.gltf_read.specs.Reading.{Reading, Table, IsRead, ReadingAt, AreItems, type_of}
-use Rattle.gltf_read.specs.Reading.{dimensions_of, ReadsMember, IsMember}
+use Rattle.gltf_read.specs.Reading.{dimensions_of}
 use Rattle.gltf_read.specs.TexCoords.{AreTexCoords}
 use Rattle.gltf_read.specs.Weights.{AreWeights}
 use Rattle.gltf_read.proofs.Rows.{colors_turned, indices_turned, joints_turned, outputs_turned}

@@ -3,3 +3,4 @@ pub mod Rows
 pub mod Answered
 pub mod AlikeReadings
 pub mod Targets
+pub mod Samplers

@@ -1,6 +1,6 @@
 -- What is said of the items of each row of a table may be said in other words, and then of what was
 -- read by the table.
-use Rattle.std.specs.Prelude.{Option, Some, None, option_map}
+use Rattle.std.specs.Prelude.{Option, Some, None}
 use Rattle.gltf_handles.specs.declared.accessor.DataType.{DataType}
 use Rattle.gltf_handles.specs.declared.accessor.DataType.TheVariants.{I8, U8, I16, U16, F32}
 use Rattle.gltf_handles.specs.declared.accessor.DataType.TheVariants.{U32}

@@ -1,5 +1,5 @@
 -- From the handle of a morph target to what was read of it.
-use Rattle.std.proofs.Common.{◌≡◌, ℕ, subst}
+use Rattle.std.proofs.Common.{ℕ, subst}
 use Rattle.std.specs.Prelude.{Option, Some}
 use Rattle.gltf_handles.specs.Positions.{Position, Nth, Last}
 use Rattle.gltf_items.specs.declared.item.Item.{Ghosts}

@@ -11,3 +11,4 @@ pub mod Laws
 pub mod Primitives
 pub mod Skins
 pub mod MorphTargets
+pub mod Channels
