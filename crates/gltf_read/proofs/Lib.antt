@@ -4,3 +4,4 @@ pub mod Answered
 pub mod AlikeReadings
 pub mod Targets
 pub mod Samplers
+pub mod SameIndices

@@ -12,3 +12,4 @@ pub mod Primitives
 pub mod Skins
 pub mod MorphTargets
 pub mod Channels
+pub mod Members

@@ -2,11 +2,15 @@
 //! that its proof stands on, and do nothing.
 
 ghost use Rattle.std.specs.Prelude.{Option};
+ghost use Rattle.serde_json.specs.Data.{Data};
+ghost use Rattle.gltf_json.specs.Documents.{root};
+ghost use Rattle.gltf_json.specs.declared.root.Root.{Root};
 ghost use Rattle.gltf_json_animation.specs.declared.animation.Property.{Property};
 ghost use Rattle.gltf_read.specs.Colors.{AreColors};
 ghost use Rattle.gltf_read.specs.Indices.{AreIndices};
 ghost use Rattle.gltf_read.specs.Joints.{AreJoints};
 ghost use Rattle.gltf_read.specs.Laws.{IsByAnswers, IsAlike};
+ghost use Rattle.gltf_read.specs.Members.{HaveSameIndices};
 ghost use Rattle.gltf_read.specs.Outputs.{AreOutputs};
 ghost use Rattle.gltf_read.specs.Reading.{AreItems};
 ghost use Rattle.gltf_read.specs.TexCoords.{AreTexCoords};
@@ -104,3 +108,8 @@ pub fn outputs_are_alike()
     alike_documents_are_read_alike::<u16>();
     alike_documents_are_read_alike::<F32>();
 }
+
+/// Documents that are readings of one JSON value have the same indices for what readers read.
+pub fn readings_of_one_value_have_the_same_indices()
+    ensures { (d : Data) (r s : Root) → root.is d r → root.is d s → HaveSameIndices r s }
+{}
