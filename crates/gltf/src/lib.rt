@@ -1,6 +1,7 @@
 //! glTF 2.0, loaded, checked and proved: after the Rust crate `gltf`.
 #![tactic(auto)]
 
+pub mod animation;
 pub mod buffer;
 mod document;
 mod file;
@@ -9,22 +10,28 @@ mod items;
 pub mod iter;
 pub mod json;
 pub mod khr_materials_variants;
+pub mod mesh;
+pub mod skin;
 pub mod texture;
 
 pub use accessor::Accessor;
+pub use animation::Animation;
 pub use buffer::Buffer;
 pub use camera::Camera;
 pub use document::{Document, RawDocument};
 pub use file::{Gltf, RawGltf};
-pub use gltf_casting::{animation, mesh, skin};
 pub use gltf_data::{accessor, list};
 pub use gltf_glb::{Error, Glb, Result, binary};
 pub use gltf_look::{camera, image, khr_lights_punctual};
 pub use gltf_material::material;
 pub use gltf_names::{Folder, Name, NamedBytes, NamedFault, Shelf};
 pub use gltf_rules::{Refused, Valid};
+pub use gltf_scene::scene;
 pub use image::Image;
 pub use import::import_slice;
 pub use items::{imported_items, read_items};
 pub use material::Material;
+pub use mesh::{Attribute, Mesh, Primitive, Semantic};
+pub use scene::{Node, Scene};
+pub use skin::Skin;
 pub use texture::Texture;
