@@ -93,23 +93,32 @@ pub rotations_turned : (R S : Reading) (type : Option DataType) (result : Option
     → AreRotationsOf R type result → AreRotationsOf S type result
 rotations_turned R S (Some I8) result i8 u8 i16 u16 f32 h = items_turned rotation.I8 R S result i8 h
 rotations_turned R S (Some U8) result i8 u8 i16 u16 f32 h = items_turned rotation.U8 R S result u8 h
-rotations_turned R S (Some I16) result i8 u8 i16 u16 f32 h = items_turned rotation.I16 R S result i16 h
-rotations_turned R S (Some U16) result i8 u8 i16 u16 f32 h = items_turned rotation.U16 R S result u16 h
-rotations_turned R S (Some F32) result i8 u8 i16 u16 f32 h = items_turned rotation.F32 R S result f32 h
+rotations_turned R S (Some I16) result i8 u8 i16 u16 f32 h =
+    items_turned rotation.I16 R S result i16 h
+rotations_turned R S (Some U16) result i8 u8 i16 u16 f32 h =
+    items_turned rotation.U16 R S result u16 h
+rotations_turned R S (Some F32) result i8 u8 i16 u16 f32 h =
+    items_turned rotation.F32 R S result f32 h
 rotations_turned R S _ result i8 u8 i16 u16 f32 h = h
 
-pub morph_target_weights_turned : (R S : Reading) (type : Option DataType) (result : Option MorphTargetWeights)
+pub morph_target_weights_turned : (R S : Reading) (type : Option DataType)
+    (result : Option MorphTargetWeights)
     → Turns target_weight.I8 R S
     → Turns target_weight.U8 R S
     → Turns target_weight.I16 R S
     → Turns target_weight.U16 R S
     → Turns target_weight.F32 R S
     → AreMorphTargetWeightsOf R type result → AreMorphTargetWeightsOf S type result
-morph_target_weights_turned R S (Some I8) result i8 u8 i16 u16 f32 h = items_turned target_weight.I8 R S result i8 h
-morph_target_weights_turned R S (Some U8) result i8 u8 i16 u16 f32 h = items_turned target_weight.U8 R S result u8 h
-morph_target_weights_turned R S (Some I16) result i8 u8 i16 u16 f32 h = items_turned target_weight.I16 R S result i16 h
-morph_target_weights_turned R S (Some U16) result i8 u8 i16 u16 f32 h = items_turned target_weight.U16 R S result u16 h
-morph_target_weights_turned R S (Some F32) result i8 u8 i16 u16 f32 h = items_turned target_weight.F32 R S result f32 h
+morph_target_weights_turned R S (Some I8) result i8 u8 i16 u16 f32 h =
+    items_turned target_weight.I8 R S result i8 h
+morph_target_weights_turned R S (Some U8) result i8 u8 i16 u16 f32 h =
+    items_turned target_weight.U8 R S result u8 h
+morph_target_weights_turned R S (Some I16) result i8 u8 i16 u16 f32 h =
+    items_turned target_weight.I16 R S result i16 h
+morph_target_weights_turned R S (Some U16) result i8 u8 i16 u16 f32 h =
+    items_turned target_weight.U16 R S result u16 h
+morph_target_weights_turned R S (Some F32) result i8 u8 i16 u16 f32 h =
+    items_turned target_weight.F32 R S result f32 h
 morph_target_weights_turned R S _ result i8 u8 i16 u16 f32 h = h
 
 rgb_turned : (R S : Reading) (type : Option DataType) (result : Option ReadColors)
@@ -151,15 +160,15 @@ pub outputs_turned : (property : Option Property) (R S : Reading) (type : Option
     → Turns rotation.F32 R S → Turns target_weight.I8 R S → Turns target_weight.U8 R S
     → Turns target_weight.I16 R S → Turns target_weight.U16 R S → Turns target_weight.F32 R S
     → AreOutputsOf property R type result → AreOutputsOf property S type result
-outputs_turned (Some animated.Translation) R S type result v i8 u8 i16 u16 f32 wi8 wu8 wi16 wu16 wf32 h =
+outputs_turned (Some animated.Translation) R S type result v i8 u8 i16 u16 f32 a b c d e h =
     items_turned output.Translations R S result v h
-outputs_turned (Some animated.Rotation) R S type result v i8 u8 i16 u16 f32 wi8 wu8 wi16 wu16 wf32 h =
+outputs_turned (Some animated.Rotation) R S type result v i8 u8 i16 u16 f32 a b c d e h =
     come_turned output.Rotations (AreRotationsOf R type) (AreRotationsOf S type) result
     (λ read. rotations_turned R S type read i8 u8 i16 u16 f32) h
-outputs_turned (Some animated.Scale) R S type result v i8 u8 i16 u16 f32 wi8 wu8 wi16 wu16 wf32 h =
+outputs_turned (Some animated.Scale) R S type result v i8 u8 i16 u16 f32 a b c d e h =
     items_turned output.Scales R S result v h
-outputs_turned (Some animated.MorphTargetWeights) R S type result v i8 u8 i16 u16 f32 wi8 wu8 wi16 wu16 wf32 h =
+outputs_turned (Some animated.MorphTargetWeights) R S type result v i8 u8 i16 u16 f32 a b c d e h =
     come_turned output.MorphTargetWeights (AreMorphTargetWeightsOf R type)
     (AreMorphTargetWeightsOf S type) result
-    (λ read. morph_target_weights_turned R S type read wi8 wu8 wi16 wu16 wf32) h
-outputs_turned None R S type result v i8 u8 i16 u16 f32 wi8 wu8 wi16 wu16 wf32 h = h
+    (λ read. morph_target_weights_turned R S type read a b c d e) h
+outputs_turned None R S type result v i8 u8 i16 u16 f32 a b c d e h = h

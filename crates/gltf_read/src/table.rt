@@ -204,8 +204,8 @@ pub(crate) fn outputs<'s, F: Fn(Buffer) -> Option<&'s [u8]>>(
 ) -> Option<ReadOutputs<'s>>
     requires { F.IsAlwaysCallable get_buffer_data.now }
     ensures { let a = accessor_handle accessor.entry in
-        AreOutputs (Some property) (IsRead (λ b o. F.post get_buffer_data.now b o) a.document a.json)
-        a.json result }
+        AreOutputs (Some property)
+        (IsRead (λ b o. F.post get_buffer_data.now b o) a.document a.json) a.json result }
 {
     match property {
         Property::Translation => {

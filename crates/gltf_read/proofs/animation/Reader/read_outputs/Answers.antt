@@ -7,5 +7,6 @@ pub returns : goal.returns
 returns g c =
     outputs_read (λ b o. goal.F-post g (closure_of c.args.self.now) b o)
     (animation_handle c.args.self.now.channel.animation) c.args.self.now.channel.json.now
-    c.target.result c.property-property.result c.sampler.result c.output-output.result c.outputs.result
-    c.target.ensures c.property-property.ensures c.sampler.ensures c.output-output.ensures c.outputs.ensures
+    c.target.result c.property-property.result c.sampler.result c.output-output.result
+    c.outputs.result c.target.ensures c.property-property.ensures c.sampler.ensures
+    c.output-output.ensures c.outputs.ensures
