@@ -1,7 +1,6 @@
 //! glTF 2.0, loaded, checked and proved: after the Rust crate `gltf`.
 #![tactic(auto)]
 
-pub mod animation;
 pub mod buffer;
 mod document;
 mod file;
@@ -10,8 +9,6 @@ mod items;
 pub mod iter;
 pub mod json;
 pub mod khr_materials_variants;
-pub mod mesh;
-pub mod skin;
 pub mod texture;
 
 pub use accessor::Accessor;
@@ -25,6 +22,7 @@ pub use gltf_glb::{Error, Glb, Result, binary};
 pub use gltf_look::{camera, image, khr_lights_punctual};
 pub use gltf_material::material;
 pub use gltf_names::{Folder, Name, NamedBytes, NamedFault, Shelf};
+pub use gltf_read::{animation, mesh, skin};
 pub use gltf_rules::{Refused, Valid};
 pub use gltf_scene::scene;
 pub use image::Image;
