@@ -5,10 +5,9 @@ use crate::tests::texts::{TWO_NODES, TWO_NUMBERS, container};
 use gltf::{Error, Glb, Gltf, binary};
 use std::alloc::Global;
 use std::borrow::CowSlice;
-use std::fs;
-use std::io;
 use std::process::Abort;
 use std::test::Fail;
+use std::{fs, io};
 
 /// A container of `{}` and five bytes, with its filling.
 const WHOLE: &[u8] = b"glTF\x02\0\0\0\x28\0\0\0\x04\0\0\0JSON{}  \
@@ -80,10 +79,15 @@ fn a_header_that_is_refused_ends_the_reading(rt: HostRuntime) {
     assert_eq!(rt; source.given, 12);
     let mut source = Source::of(b"glTF\x02\0\0\0\x0B\0\0\0\0\0\0\0", 100);
     let answer = Glb::from_reader(rt.alloc(), &mut source);
-    assert!(rt; matches!(answer, Err(Error::Binary(binary::Error::Length {
-        length: 11,
-        length_read: 12,
-    }))));
+    assert!(rt;
+        matches!(
+            answer,
+            Err(Error::Binary(binary::Error::Length {
+                length: 11,
+                length_read: 12,
+            }))
+        )
+    );
     assert_eq!(rt; source.given, 12);
     let mut source = Source::of(b"glTF\x02\0\0\0\xFF\xFF\xFF\xFF", 100);
     assert!(rt; is_cut_off(&Glb::from_reader(rt.alloc(), &mut source)));

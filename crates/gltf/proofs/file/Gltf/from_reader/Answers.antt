@@ -11,7 +11,8 @@ returns-in_err-read_file g c =
     let came : List ℕ = c.read_file.new.bytes.items in
     let left = g.R.Read.remaining c.read_file.new.reader in
     let why =
-    stopped_file RefusesTextOrRules IsNoValidDocument left came c.in_err-read_file.field-0.0 (λ none s blob valid. none s blob valid.document)
+    stopped_file RefusesTextOrRules IsNoValidDocument left came c.in_err-read_file.field-0.0
+    (λ none s blob valid. none s blob valid.document)
     c.in_err-read_file.ensures.stopped in
     record {
       came = came;
