@@ -15,7 +15,7 @@ use Rattle.gltf_read.specs.Laws.{IsAlike}
 use Rattle.gltf_read.specs.Members.{HaveSameIndices}
 use Rattle.gltf_read.specs.Reading.{Table, IsMember}
 use Rattle.gltf.specs.Import.{AreParts, IsDocument}
-use Rattle.gltf_read_laws.specs.Files.{IsImport, IsOfBytes}
+use Rattle.gltf_read_laws.specs.Files.{IsOfBytes}
 
 -- ---- one text, and one value
 
