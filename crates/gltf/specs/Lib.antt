@@ -3,3 +3,4 @@ pub mod Errors
 pub mod Shown
 pub mod Import
 pub mod Items
+pub mod Reader

@@ -9,6 +9,7 @@ mod items;
 pub mod iter;
 pub mod json;
 pub mod khr_materials_variants;
+mod reading;
 pub mod texture;
 
 pub use accessor::Accessor;
