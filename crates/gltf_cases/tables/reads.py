@@ -200,7 +200,7 @@ def cast_item(item, source, to):
 
 def cast_color(item, source, to):
     """A colour, cast from one variant to another."""
-    from_type, to_type = source.lstrip("Rgba"), to.lstrip("Rgba")
+    from_type, to_type = (it.removeprefix("Rgb").removeprefix("a") for it in (source, to))
     color = cast_item(item[:3], from_type, to_type)
     if not to.startswith("Rgba"):
         return color
@@ -267,7 +267,9 @@ def file(data, places, of_set=0):
 
 def reads(accessors, places):
     """What every reader reads."""
-    at = lambda call: accessors[places[call]] if call in places else None
+    def at(call):
+        return accessors[places[call]] if call in places else None
+
     texts = [f"{call} {told(read(call, at(call)))}" for call in OF_PRIMITIVE]
     if any(call in places for call in TARGETS):
         texts += [f"{call} {told(read(call, at(call)))}" for call in TARGETS]

@@ -1,5 +1,5 @@
 //! What is read of meshes and animations, cast to each type.
-use crate::reads::{Read, write_items, write_name};
+use crate::reads::{Typed, write_items, write_name};
 use crate::shown::Written;
 use gltf_casting::Casting;
 use gltf_casting::animation::util::{MorphTargetWeights, ReadOutputs, Rotations};
@@ -44,13 +44,13 @@ pub fn write_output_casts<'s, F: Fn(Buffer) -> Option<&'s [u8]>>(
 }
 
 /// Items of one of several types, each of which can be cast.
-trait Cast: Drop {
+trait TypedCasts: Drop {
     /// Writes all items, cast to each type.
     fn write_casts(self, alloc: Global, line: &mut String) -> Written;
 }
 
 /// Writes the name of a call, and what it reads, cast to each type; nothing where it reads nothing.
-fn write_casts_of<R: Cast>(
+fn write_casts_of<R: TypedCasts>(
     alloc: Global,
     name: &str,
     read: Option<R>,
@@ -67,7 +67,7 @@ fn write_casts_of<R: Cast>(
 }
 
 /// Writes the name of a cast, and the items; or that they are floats, and these as they came back.
-fn write_cast<E: Castable<A> + Read, A>(
+fn write_cast<E: Castable<A> + Typed, A>(
     alloc: Global,
     name: &str,
     cast: Result<Casting<E, A>, E>,
@@ -86,7 +86,7 @@ where
     }
 }
 
-impl Cast for ReadColors<'_> {
+impl TypedCasts for ReadColors<'_> {
     fn write_casts(self, alloc: Global, line: &mut String) -> Written {
         write_cast(alloc, "rgb_u8", self.clone()?.into_rgb_u8(), line)?;
         write_cast(alloc, "rgb_u16", self.clone()?.into_rgb_u16(), line)?;
@@ -95,42 +95,33 @@ impl Cast for ReadColors<'_> {
     }
 }
 
-impl Cast for ReadIndices<'_> {
+impl TypedCasts for ReadIndices<'_> {
     fn write_casts(self, alloc: Global, line: &mut String) -> Written {
         write_cast(alloc, "u32", Ok(self.into_u32()), line)
     }
 }
 
-impl Cast for ReadJoints<'_> {
+impl TypedCasts for ReadJoints<'_> {
     fn write_casts(self, alloc: Global, line: &mut String) -> Written {
         write_cast(alloc, "u16", Ok(self.into_u16()), line)
     }
 }
 
-impl Cast for ReadTexCoords<'_> {
+impl TypedCasts for ReadTexCoords<'_> {
     fn write_casts(self, alloc: Global, line: &mut String) -> Written {
         write_cast(alloc, "u8", self.clone()?.into_u8(), line)?;
         write_cast(alloc, "u16", self.into_u16(), line)
     }
 }
 
-impl Cast for ReadWeights<'_> {
+impl TypedCasts for ReadWeights<'_> {
     fn write_casts(self, alloc: Global, line: &mut String) -> Written {
         write_cast(alloc, "u8", self.clone()?.into_u8(), line)?;
         write_cast(alloc, "u16", self.into_u16(), line)
     }
 }
 
-impl Cast for Rotations<'_> {
-    fn write_casts(self, alloc: Global, line: &mut String) -> Written {
-        write_cast(alloc, "i8", self.clone()?.into_i8(), line)?;
-        write_cast(alloc, "u8", self.clone()?.into_u8(), line)?;
-        write_cast(alloc, "i16", self.clone()?.into_i16(), line)?;
-        write_cast(alloc, "u16", self.into_u16(), line)
-    }
-}
-
-impl Cast for MorphTargetWeights<'_> {
+impl TypedCasts for Rotations<'_> {
     fn write_casts(self, alloc: Global, line: &mut String) -> Written {
         write_cast(alloc, "i8", self.clone()?.into_i8(), line)?;
         write_cast(alloc, "u8", self.clone()?.into_u8(), line)?;
@@ -139,7 +130,16 @@ impl Cast for MorphTargetWeights<'_> {
     }
 }
 
-impl Cast for ReadOutputs<'_> {
+impl TypedCasts for MorphTargetWeights<'_> {
+    fn write_casts(self, alloc: Global, line: &mut String) -> Written {
+        write_cast(alloc, "i8", self.clone()?.into_i8(), line)?;
+        write_cast(alloc, "u8", self.clone()?.into_u8(), line)?;
+        write_cast(alloc, "i16", self.clone()?.into_i16(), line)?;
+        write_cast(alloc, "u16", self.into_u16(), line)
+    }
+}
+
+impl TypedCasts for ReadOutputs<'_> {
     fn write_casts(self, alloc: Global, line: &mut String) -> Written {
         match self {
             ReadOutputs::Rotations(rotations) => rotations.write_casts(alloc, line),

@@ -74,13 +74,13 @@ pub fn write_keyframes<'s, F: Fn(Buffer) -> Option<&'s [u8]>>(
 }
 
 /// Items of one of several types.
-pub(crate) trait Read: Drop {
+pub(crate) trait Typed: Drop {
     /// Writes the type's name, where there are several, and all items.
     fn write_all(self, alloc: Global, line: &mut String) -> Written;
 }
 
 /// Writes the name of a call, and what it reads.
-fn write_read<R: Read>(alloc: Global, name: &str, read: Option<R>, line: &mut String) -> Written {
+fn write_read<R: Typed>(alloc: Global, name: &str, read: Option<R>, line: &mut String) -> Written {
     write_name(name, line)?;
     match read {
         Some(read) => read.write_all(alloc, line),
@@ -101,7 +101,8 @@ pub(crate) fn write_items<T: Debug + Drop>(
     items: Result<Vec<T>, AllocError>,
     line: &mut String,
 ) -> Written {
-    write!(line, "{:?}", items?)
+    let items = items?;
+    write!(line, "{items:?}")
 }
 
 /// Writes the name of a type, and all items.
@@ -115,13 +116,13 @@ fn write_typed<T: Item + Debug>(
     items.write_all(alloc, line)
 }
 
-impl<T: Item + Debug> Read for Iter<'_, T> {
+impl<T: Item + Debug> Typed for Iter<'_, T> {
     fn write_all(self, alloc: Global, line: &mut String) -> Written {
         write_items(self.collect(alloc), line)
     }
 }
 
-impl Read for ReadColors<'_> {
+impl Typed for ReadColors<'_> {
     fn write_all(self, alloc: Global, line: &mut String) -> Written {
         match self {
             ReadColors::RgbU8(items) => write_typed(alloc, "RgbU8", items, line),
@@ -134,7 +135,7 @@ impl Read for ReadColors<'_> {
     }
 }
 
-impl Read for ReadIndices<'_> {
+impl Typed for ReadIndices<'_> {
     fn write_all(self, alloc: Global, line: &mut String) -> Written {
         match self {
             ReadIndices::U8(items) => write_typed(alloc, "U8", items, line),
@@ -144,7 +145,7 @@ impl Read for ReadIndices<'_> {
     }
 }
 
-impl Read for ReadJoints<'_> {
+impl Typed for ReadJoints<'_> {
     fn write_all(self, alloc: Global, line: &mut String) -> Written {
         match self {
             ReadJoints::U8(items) => write_typed(alloc, "U8", items, line),
@@ -153,7 +154,7 @@ impl Read for ReadJoints<'_> {
     }
 }
 
-impl Read for ReadTexCoords<'_> {
+impl Typed for ReadTexCoords<'_> {
     fn write_all(self, alloc: Global, line: &mut String) -> Written {
         match self {
             ReadTexCoords::U8(items) => write_typed(alloc, "U8", items, line),
@@ -163,7 +164,7 @@ impl Read for ReadTexCoords<'_> {
     }
 }
 
-impl Read for ReadWeights<'_> {
+impl Typed for ReadWeights<'_> {
     fn write_all(self, alloc: Global, line: &mut String) -> Written {
         match self {
             ReadWeights::U8(items) => write_typed(alloc, "U8", items, line),
@@ -173,7 +174,7 @@ impl Read for ReadWeights<'_> {
     }
 }
 
-impl Read for Rotations<'_> {
+impl Typed for Rotations<'_> {
     fn write_all(self, alloc: Global, line: &mut String) -> Written {
         match self {
             Rotations::I8(items) => write_typed(alloc, "I8", items, line),
@@ -185,7 +186,7 @@ impl Read for Rotations<'_> {
     }
 }
 
-impl Read for MorphTargetWeights<'_> {
+impl Typed for MorphTargetWeights<'_> {
     fn write_all(self, alloc: Global, line: &mut String) -> Written {
         match self {
             MorphTargetWeights::I8(items) => write_typed(alloc, "I8", items, line),
@@ -197,7 +198,7 @@ impl Read for MorphTargetWeights<'_> {
     }
 }
 
-impl Read for ReadOutputs<'_> {
+impl Typed for ReadOutputs<'_> {
     fn write_all(self, alloc: Global, line: &mut String) -> Written {
         match self {
             ReadOutputs::Translations(items) => write_typed(alloc, "Translations", items, line),
