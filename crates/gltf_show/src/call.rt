@@ -6,6 +6,17 @@ pub(crate) enum Call<'w> {
     Chunks(&'w str),
     /// `check PATH`: whether a file is imported, and how much it has.
     Check(&'w str),
+    /// `indices PATH MESH PRIMITIVE`: the indices of a primitive of a mesh.
+    Indices(&'w str, Place),
+}
+
+/// Where a primitive stands.
+#[derive(Clone, Copy)]
+pub(crate) struct Place {
+    /// The index of its mesh.
+    pub(crate) mesh: usize,
+    /// Its index among the primitives of the mesh.
+    pub(crate) primitive: usize,
 }
 
 impl<'w> Call<'w> {
@@ -14,7 +25,21 @@ impl<'w> Call<'w> {
         match words {
             [command, path] if *command == "chunks" => Some(Call::Chunks(*path)),
             [command, path] if *command == "check" => Some(Call::Check(*path)),
+            [command, path, mesh, primitive] if *command == "indices" => {
+                let mesh = number(*mesh)?;
+                let primitive = number(*primitive)?;
+                Some(Call::Indices(*path, Place { mesh, primitive }))
+            }
             _ => None,
         }
+    }
+}
+
+/// The number that a word spells in decimal digits alone, where a usize holds it.
+fn number(word: &str) -> Option<usize> {
+    if word.bytes().all(|byte| byte.is_ascii_digit()) {
+        word.parse::<usize>().ok()
+    } else {
+        None
     }
 }

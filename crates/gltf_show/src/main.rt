@@ -3,6 +3,7 @@
 
 mod call;
 mod chunks;
+mod indices;
 mod refusal;
 mod run;
 mod summary;

@@ -9,6 +9,12 @@ pub(crate) enum Refusal {
     Usage,
     /// The file is refused, or could not be read.
     File(Error),
+    /// The document has no mesh at the index.
+    NoMesh,
+    /// The mesh has no primitive at the index.
+    NoPrimitive,
+    /// The primitive has no indices, or none that can be read.
+    NoIndices,
     /// The answer could not be written.
     Write(io::Error),
 }
@@ -18,7 +24,11 @@ impl Refusal {
     pub(crate) fn status(&self) -> u8 {
         match self {
             Refusal::Usage => 2,
-            Refusal::File(_) | Refusal::Write(_) => 1,
+            Refusal::File(_)
+            | Refusal::NoMesh
+            | Refusal::NoPrimitive
+            | Refusal::NoIndices
+            | Refusal::Write(_) => 1,
         }
     }
 }
@@ -46,6 +56,9 @@ impl fmt::Display for Refusal {
                 "usage: gltf_show chunks PATH | check PATH | indices PATH MESH PRIMITIVE"
             ),
             Refusal::File(error) => write!(f, "{error}"),
+            Refusal::NoMesh => write!(f, "no such mesh"),
+            Refusal::NoPrimitive => write!(f, "no such primitive"),
+            Refusal::NoIndices => write!(f, "no indices"),
             Refusal::Write(cause) => write!(f, "{cause}"),
         }
     }

@@ -1,6 +1,7 @@
 //! The engine of the program, over any source of named bytes and any two writers.
 use crate::call::Call;
 use crate::chunks::Chunks;
+use crate::indices::write_indices;
 use crate::refusal::Refusal;
 use crate::summary::Summary;
 use gltf::{Glb, Name, NamedBytes, import_slice};
@@ -11,7 +12,8 @@ use std::io::Write;
 /// name, and gives the exit status.
 ///
 /// - 0: the answer stands on `out`.
-/// - 1: the file is refused, or a write failed; the reason stands on `err`.
+/// - 1: the file is refused, or has not what is asked for, or a write failed; the reason stands on
+///   `err`.
 /// - 2: the words make no call; the usage stands on `err`.
 pub fn run<S: NamedBytes, O: Write, E: Write>(
     alloc: Global,
@@ -46,6 +48,11 @@ fn answer<S: NamedBytes, O: Write>(
             let bytes = source.read(alloc, Name::File(path))?;
             let (document, _buffers) = import_slice(alloc, &bytes)?;
             write!(out, "{}", Summary(&document)).map_err(Refusal::Write)
+        }
+        Some(Call::Indices(path, place)) => {
+            let bytes = source.read(alloc, Name::File(path))?;
+            let (document, buffers) = import_slice(alloc, &bytes)?;
+            write_indices(&document, &buffers, place, out)
         }
         None => Err(Refusal::Usage),
     }

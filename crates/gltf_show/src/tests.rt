@@ -12,7 +12,16 @@ const USAGE: Option<&str> = Some(
     "usage: gltf_show chunks PATH | check PATH | indices PATH MESH PRIMITIVE\n",
 );
 
-const ROWS: [Row<'static>; 13] = [
+const NO_MESH: Option<&str> = Some("no such mesh\n");
+
+const NO_PRIMITIVE: Option<&str> = Some("no such primitive\n");
+
+const NO_INDICES: Option<&str> = Some("no indices\n");
+
+/// The greatest number that a usize holds.
+const GREATEST: &str = "18446744073709551615";
+
+const ROWS: [Row<'static>; 37] = [
     (
         &["chunks", "box.glb"],
         0,
@@ -49,8 +58,42 @@ const ROWS: [Row<'static>; 13] = [
     (&["chunks"], 2, "", USAGE),
     (&["chunks", "box.glb", "box.glb"], 2, "", USAGE),
     (&["check"], 2, "", USAGE),
-    (&["indices", "box.glb", "0", "0"], 2, "", USAGE),
     (&["Chunks", "no.glb"], 2, "", USAGE),
+    (&["indices", "row.gltf", "0", "0"], 0, "1\n2\n", Some("")),
+    (&["indices", "row.gltf", "00", "000"], 0, "1\n2\n", Some("")),
+    (
+        &["indices", "more.gltf", "1", "0"],
+        0,
+        "1\n9\n2\n0\n",
+        Some(""),
+    ),
+    (&["indices", "more.gltf", "1", "1"], 0, "131073\n", Some("")),
+    (&["indices", "row.gltf", "0", "1"], 1, "", NO_PRIMITIVE),
+    (&["indices", "row.gltf", "0", GREATEST], 1, "", NO_PRIMITIVE),
+    (&["indices", "row.gltf", "1", "1"], 1, "", NO_MESH),
+    (&["indices", "row.gltf", GREATEST, "0"], 1, "", NO_MESH),
+    (&["indices", "a.gltf", "0", "0"], 1, "", NO_MESH),
+    (&["indices", "float.gltf", "0", "0"], 1, "", NO_INDICES),
+    (&["indices", "more.gltf", "0", "0"], 1, "", NO_INDICES),
+    (&["indices", "more.gltf", "1", "2"], 1, "", NO_INDICES),
+    (&["indices", "b.gltf", "0", "0"], 1, "", Some(DANGLING_TOLD)),
+    (
+        &["indices", "box.glb", "0", "0"],
+        1,
+        "",
+        Some("asset: missing member\n"),
+    ),
+    (&["indices", "no.glb", "0", "0"], 1, "", None),
+    (&["indices", "a", "0"], 2, "", USAGE),
+    (&["indices", "a", "0", "18446744073709551616"], 2, "", USAGE),
+    (&["indices", "a", "18446744073709551616", "0"], 2, "", USAGE),
+    (&["indices", "row.gltf", "0", "+0"], 2, "", USAGE),
+    (&["indices", "row.gltf", "-0", "0"], 2, "", USAGE),
+    (&["indices", "row.gltf", "0", ""], 2, "", USAGE),
+    (&["indices", "row.gltf", "0x0", "0"], 2, "", USAGE),
+    (&["indices", "row.gltf", "0", "\u{660}"], 2, "", USAGE),
+    (&["indices", "row.gltf", "0", "0", "0"], 2, "", USAGE),
+    (&["indices", "row.gltf"], 2, "", USAGE),
 ];
 
 /// JSON `{}`, and five bytes padded with three zeros.
@@ -72,6 +115,34 @@ const PLAIN: &str =
         "bufferViews":[{"buffer":0,"byteLength":4}],
         "accessors":[{"bufferView":0,"componentType":5123,"count":2,"type":"SCALAR"}]}"#;
 
+/// The same, and a mesh whose one primitive has the accessor as its indices.
+const INDICES: &str =
+    r#"{"asset":{"version":"2.0"},"buffers":[{"byteLength":4,"uri":"data:;base64,AQACAA=="}],
+        "bufferViews":[{"buffer":0,"byteLength":4}],
+        "accessors":[{"bufferView":0,"componentType":5123,"count":2,"type":"SCALAR"}],
+        "meshes":[{"primitives":[{"attributes":{},"indices":0}]}]}"#;
+
+/// The same, with an accessor of one float.
+const FLOAT_INDICES: &str =
+    r#"{"asset":{"version":"2.0"},"buffers":[{"byteLength":4,"uri":"data:;base64,AQACAA=="}],
+        "bufferViews":[{"buffer":0,"byteLength":4}],
+        "accessors":[{"bufferView":0,"componentType":5126,"count":1,"type":"SCALAR"}],
+        "meshes":[{"primitives":[{"attributes":{},"indices":0}]}]}"#;
+
+/// A mesh whose primitive has no indices, and one whose primitives have four of one byte, of which
+/// the second stands in place of another; one of four bytes; and two that do not fit their view.
+const MORE_INDICES: &str =
+    r#"{"asset":{"version":"2.0"},"buffers":[{"byteLength":6,"uri":"data:;base64,AQACAAEJ"}],
+        "bufferViews":[{"buffer":0,"byteLength":4},{"buffer":0,"byteOffset":4,"byteLength":1},
+            {"buffer":0,"byteOffset":5,"byteLength":1}],
+        "accessors":[{"bufferView":0,"componentType":5121,"count":4,"type":"SCALAR","sparse":
+            {"count":1,"indices":{"bufferView":1,"componentType":5121},"values":{"bufferView":2}}},
+            {"bufferView":0,"componentType":5125,"count":1,"type":"SCALAR"},
+            {"bufferView":0,"componentType":5125,"count":2,"type":"SCALAR"}],
+        "meshes":[{"primitives":[{"attributes":{}}]},{"primitives":[
+            {"attributes":{},"indices":0},{"attributes":{},"indices":1},
+            {"attributes":{},"indices":2}]}]}"#;
+
 /// A node whose mesh and skin are not there, and what is told of it.
 const DANGLING: &str = r#"{"asset":{"version":"2.0"},"nodes":[{"mesh":3,"skin":0}]}"#;
 
@@ -88,6 +159,9 @@ fn shelf(alloc: Global) -> Result<Shelf, Fail> {
         ("version.glb", b"glTF\x01\0\0\0\x0C\0\0\0".as_slice()),
         ("a.gltf", PLAIN.as_bytes()),
         ("b.gltf", DANGLING.as_bytes()),
+        ("row.gltf", INDICES.as_bytes()),
+        ("float.gltf", FLOAT_INDICES.as_bytes()),
+        ("more.gltf", MORE_INDICES.as_bytes()),
     ];
     for (name, bytes) in files {
         shelf.put(Name::File(name), bytes)?;
@@ -128,13 +202,18 @@ fn calls_are_answered(rt: HostRuntime) -> Result<(), Fail> {
 #[test]
 fn an_output_that_takes_no_more_ends_with_1(rt: HostRuntime) -> Result<(), Fail> {
     let mut shelf = shelf(rt.alloc())?;
-    let mut room = [0u8; 12];
-    let mut out = room.as_mut_slice();
-    let mut err = Vec::new(rt.alloc());
-    let words = ["chunks", "box.glb"];
-    let status = run(rt.alloc(), &mut shelf, &words, &mut out, &mut err);
-    assert_eq!(rt; status, 1);
-    assert_eq!(rt; &room[..10], b"glTF 2 40\n".as_slice());
+    let full: [(&[&str], &str); 2] = [
+        (&["chunks", "box.glb"], "glTF 2 40\n"),
+        (&["indices", "row.gltf", "0", "0"], "1\n"),
+    ];
+    for (words, taken) in full {
+        let mut room = [0u8; 12];
+        let mut out = &mut room[..taken.len() + 1];
+        let mut err = Vec::new(rt.alloc());
+        let status = run(rt.alloc(), &mut shelf, words, &mut out, &mut err);
+        assert_eq!(rt; status, 1, "{words:?}");
+        assert_eq!(rt; &room[..taken.len()], taken.as_bytes(), "{words:?}");
+    }
     Ok(())
 }
 
