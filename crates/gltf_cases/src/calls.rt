@@ -100,9 +100,7 @@ fn of_one(alloc: Global, asked: Asked<'_>, bytes: &[u8], line: &mut String) -> W
             line,
         ),
         "read" => items::read(alloc, asked, bytes, line),
-        "import" | "check" | "walk" | "reads" | "casts" => {
-            tell(alloc, asked, import_slice(alloc, bytes), line)
-        }
+        "import" | "check" | "walk" => tell(alloc, asked, import_slice(alloc, bytes), line),
         _ => tell(alloc, asked, Gltf::from_slice(alloc, bytes), line),
     }
 }

@@ -2,7 +2,6 @@
 use crate::asked::Asked;
 use crate::items;
 use crate::members::write_member;
-use crate::reads::{write_casts, write_reads};
 use crate::told::{Told, Written};
 use gltf::Document;
 use gltf::buffer::Data;
@@ -14,14 +13,10 @@ impl Told for (Document, Vec<Data>) {
     ///
     /// - `check`: how much there is.
     /// - `walk TYPE INDEX STEP..`: what a walk over the items of an accessor answers.
-    /// - `reads SET`: what every reader reads.
-    /// - `casts SET`: that, cast to each type.
     fn tell(&self, alloc: Global, asked: Asked<'_>, line: &mut String) -> Written {
         match asked.call {
             "check" => check(self.0.as_json(), &self.1, line),
             "walk" => items::walked(alloc, asked, &self.0, &self.1, line),
-            "reads" => write_reads(alloc, asked, &self.0, &self.1, line),
-            "casts" => write_casts(alloc, asked, &self.0, &self.1, line),
             _ if asked.words.is_empty() => write!(line, "{:?}", self.1),
             _ => write_member(self.0.as_json(), asked.words, line),
         }

@@ -12,7 +12,6 @@ mod items;
 mod iterators;
 mod lists;
 mod members;
-mod reads;
 mod refused;
 mod steps;
 mod told;

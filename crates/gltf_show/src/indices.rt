@@ -43,9 +43,11 @@ fn bytes_of<'s>(buffers: &'s [Data], buffer: Buffer) -> Option<&'s [u8]> {
 }
 
 /// Writes a line for each index.
-fn write_lines<O: Write>(indices: CastingIter<'_, U32>, out: &mut O) -> io::Result<()> {
-    for index in indices {
-        writeln!(out, "{index}")?;
+fn write_lines<O: Write>(mut indices: CastingIter<'_, U32>, out: &mut O) -> io::Result<()> {
+    for _ in 0..indices.len() {
+        if let Some(index) = indices.next() {
+            writeln!(out, "{index}")?;
+        }
     }
     Ok(())
 }
