@@ -14,8 +14,8 @@ export GLTF_FROM := $(value PWD)
 
 help:
 	@echo 'make show [CALL=chunks|check] [FILE=PATH]  chunks of a GLB file, or validates a file'
-	@echo 'make prove                                 proves and builds gltf_show'
-	@echo 'make install [PREFIX=FOLDER]               installs the proved gltf_show'
+	@echo 'make prove                                 proves and builds the programs'
+	@echo 'make install [PREFIX=FOLDER]               installs the proved programs'
 	@echo 'make test                                  the gate: all proofs, and all tests'
 	@echo 'make wrong [NAME=CRATE]                    tries the wrong bodies beside the gate'
 

@@ -6,6 +6,8 @@ TOP = pathlib.Path(__file__).resolve().parent.parent
 
 # What a crate is made of.
 PARTS = ("src", "specs", "proofs")
+# The programs for users.
+PROGRAMS = ("gltf_show", "gltf_repack")
 
 
 def listed():
@@ -18,9 +20,9 @@ def listed():
     return crates
 
 
-def below(name):
-    """The crates of this repository that a crate stands on, and the crate itself: each behind those
-    that it names."""
+def below(*names):
+    """The crates of this repository that some crates stand on, and these themselves: each behind
+    those that it names."""
     crates, order = listed(), []
 
     def visit(crate):
@@ -29,7 +31,8 @@ def below(name):
                 visit(library)
             order.append(crate)
 
-    visit(name)
+    for name in names:
+        visit(name)
     return order
 
 

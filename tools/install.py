@@ -1,5 +1,5 @@
 #!/usr/bin/env python3
-"""Installs the proved program: `make install PREFIX=..`, behind `make prove`.
+"""Installs the proved programs: `make install PREFIX=..`, behind `make prove`.
 
 GLTF_PREFIX has the folder, named from the one that make was called in, GLTF_FROM. DESTDIR stands
 before it."""
@@ -12,24 +12,24 @@ sys.dont_write_bytecode = True
 
 import crates
 
-PROGRAM = "gltf_show"
-
 
 def main():
-    if not crates.is_fresh(PROGRAM):
-        sys.exit(
-            f"make install: {PROGRAM} is not built of these sources: "
-            "make prove proves and builds it"
-        )
+    for program in crates.PROGRAMS:
+        if not crates.is_fresh(program):
+            sys.exit(
+                f"make install: {program} is not built of these sources: "
+                "make prove proves and builds it"
+            )
     prefix = os.path.join(os.environ.get("GLTF_FROM", ""), os.environ["GLTF_PREFIX"])
     folder = pathlib.Path(os.environ.get("DESTDIR", "") + os.path.abspath(prefix)) / "bin"
     folder.mkdir(parents=True, exist_ok=True)
-    # A program that runs is replaced, and not written over.
-    part = folder / f".{PROGRAM}.{os.getpid()}"
-    shutil.copyfile(crates.program(PROGRAM), part)
-    part.chmod(0o755)
-    part.replace(folder / PROGRAM)
-    print(folder / PROGRAM)
+    for program in crates.PROGRAMS:
+        # A program that runs is replaced, and not written over.
+        part = folder / f".{program}.{os.getpid()}"
+        shutil.copyfile(crates.program(program), part)
+        part.chmod(0o755)
+        part.replace(folder / program)
+        print(folder / program)
 
 
 try:

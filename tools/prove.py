@@ -1,5 +1,6 @@
 #!/usr/bin/env python3
-"""Proves and builds gltf_show and each crate that it stands on, lowest first: `make prove`.
+"""Proves and builds the programs for users and each crate that they stand on, lowest first:
+`make prove`.
 
 It prints a line for each crate on standard error. What the prover says goes to a log, which is
 named where it fails."""
@@ -12,8 +13,13 @@ sys.dont_write_bytecode = True
 
 import crates
 
-PROGRAM = "gltf_show"
 LOG = crates.TOP / "out" / "prove.log"
+BOX = os.fspath(crates.TOP / "examples" / "box.glb")
+# What each program is run on once.
+WORDS = {
+    "gltf_show": ["chunks", BOX],
+    "gltf_repack": [BOX, os.fspath(crates.TOP / "out" / "box.glb")],
+}
 
 
 def say(text, end="\n"):
@@ -21,11 +27,9 @@ def say(text, end="\n"):
 
 
 def prove(crate, log):
-    """Whether a crate is proved and built; that of the program is run once, on a file of the
+    """Whether a crate is proved and built; that of a program is run once, on a file of the
     examples."""
-    words = ["rt", "lib"]
-    if crate == PROGRAM:
-        words = ["rt", "run", "--", "chunks", os.fspath(crates.TOP / "examples" / "box.glb")]
+    words = ["rt", "run", "--", *WORDS[crate]] if crate in WORDS else ["rt", "lib"]
     how = {
         "cwd": crates.TOP / "crates" / crate,
         "stdin": subprocess.DEVNULL,
@@ -36,7 +40,7 @@ def prove(crate, log):
 
 
 def main():
-    order = crates.below(PROGRAM)
+    order = crates.below(*crates.PROGRAMS)
     LOG.parent.mkdir(exist_ok=True)
     with open(LOG, "wb") as log:
         for place, crate in enumerate(order, 1):
@@ -47,10 +51,11 @@ def main():
                 say(f"make prove: {crate} is not proved; what the prover says of it ends {LOG}")
                 return 1
             say(f"proved ({time.monotonic() - begun:.0f} s)")
-    # It may have been built before, of the same text: rt has just found that it is of these
-    # sources.
-    os.utime(crates.program(PROGRAM))
-    say(f"{PROGRAM} is proved and built: {crates.program(PROGRAM)}")
+    for program in crates.PROGRAMS:
+        # It may have been built before, of the same text: rt has just found that it is of these
+        # sources.
+        os.utime(crates.program(program))
+        say(f"{program} is proved and built: {crates.program(program)}")
     return 0
 
 

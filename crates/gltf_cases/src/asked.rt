@@ -39,6 +39,16 @@ impl<'t> Asked<'t> {
         }
     }
 
+    /// The call that the first of the words names, with the words behind it.
+    pub(crate) fn inner(self) -> Asked<'t> {
+        let (call, words) = self.words.split_once(" ").unwrap_or((self.words, ""));
+        Asked {
+            call,
+            words,
+            ..self
+        }
+    }
+
     /// One of the words, counted from 0; nothing where there are fewer.
     pub(crate) fn word(&self, place: usize) -> &'t str {
         self.words.split_whitespace().nth(place).unwrap_or("")

@@ -1,10 +1,11 @@
 //! The calls by their names.
 use crate::asked::Asked;
-use crate::containers::{container, write_hex};
+use crate::containers::{container, write_bytes, write_hex};
 use crate::refused::write_error;
 use crate::told::{Written, tell};
 use crate::{broken, documents, items, iterators, words};
 use gltf::{Glb, Gltf, import_slice};
+use gltf_pack::repack;
 use hex::FromHexError;
 use std::alloc::{AllocError, Global};
 
@@ -68,6 +69,9 @@ pub(crate) fn bytes_of(alloc: Global, digits: &str) -> Result<Vec<u8>, AllocErro
 /// - `read TYPE INDEX`: the items of an accessor.
 /// - `over TYPE`: those of the first accessor, where each buffer has the bytes of the blob.
 /// - `each`: what several calls tell, where they tell the same.
+/// - `repack`: the bytes that a file is repacked to.
+/// - `repacked CALL WORD..`: what a call tells of a file that was repacked, and what it tells
+///   otherwise of the file before.
 /// - handles and lists, as `documents` says, and calls on an import, as `imported` says.
 pub(crate) fn of_bytes(
     alloc: Global,
@@ -77,6 +81,8 @@ pub(crate) fn of_bytes(
 ) -> Written {
     match asked.call {
         "each" => of_each(alloc, asked, bytes, line),
+        "repack" => write_bytes(asked, &repack(alloc, bytes), line),
+        "repacked" => of_repacked(alloc, asked, bytes, line),
         _ => of_one(alloc, asked, bytes, line),
     }
 }
@@ -119,6 +125,26 @@ fn of_each(alloc: Global, asked: Asked<'_>, bytes: &[u8], line: &mut String) -> 
         tell_other(alloc, other, bytes, line)?;
     }
     Ok(())
+}
+
+/// What a call tells of a file that was repacked, and what it tells otherwise of the file before.
+fn of_repacked(alloc: Global, asked: Asked<'_>, bytes: &[u8], line: &mut String) -> Written {
+    match &repack(alloc, bytes) {
+        Ok(packed) => of_both(alloc, asked.inner(), packed, bytes, line),
+        Err(error) => write_error(asked, error, line),
+    }
+}
+
+/// What a call tells of a file, and what it tells otherwise of another.
+fn of_both(
+    alloc: Global,
+    asked: Asked<'_>,
+    bytes: &[u8],
+    other: &[u8],
+    line: &mut String,
+) -> Written {
+    of_one(alloc, asked, bytes, line)?;
+    tell_other(alloc, asked, other, line)
 }
 
 /// What a call tells, where the line does not say it yet.

@@ -50,7 +50,7 @@ impl Told for Glb<'_> {
 }
 
 /// Writes the bytes of a container, or why there are none.
-fn write_bytes(asked: Asked<'_>, bytes: &Result<Vec<u8>>, line: &mut String) -> Written {
+pub(crate) fn write_bytes(asked: Asked<'_>, bytes: &Result<Vec<u8>>, line: &mut String) -> Written {
     match bytes {
         Ok(bytes) => write_hex(bytes, line),
         Err(error) => write_error(asked, error, line),

@@ -23,11 +23,13 @@ fn plain_as<T: Item + Debug>(
     steps: &[Step],
     line: &mut String,
 ) -> Written {
-    let items = match items_of::<T>(bytes, asked.number(1)) {
-        Some(items) => Some(Iter::Standard(items)),
-        None => None,
-    };
+    let items = standard_of::<T>(bytes, asked.number(1));
     write_walk(alloc, asked.words, steps, items, line)
+}
+
+/// The items in bytes at a stride as those of an accessor; None where they would overlap.
+fn standard_of<T: Item>(bytes: &[u8], stride: usize) -> Option<Iter<'_, T>> {
+    Some(Iter::Standard(items_of(bytes, stride)?))
 }
 
 /// The items in bytes at a stride; None where they would overlap.
@@ -68,11 +70,13 @@ fn sparse_as<T: Item + Debug>(
     steps: &[Step],
     line: &mut String,
 ) -> Written {
-    let items = match sparse_of::<T>(asked, parts) {
-        Some(items) => Some(Iter::Sparse(items)),
-        None => None,
-    };
+    let items = replaced_of::<T>(asked, parts);
     write_walk(alloc, asked.words, steps, items, line)
+}
+
+/// The sparse items of these parts as those of an accessor.
+fn replaced_of<'p, T: Item>(asked: Asked<'_>, parts: &'p Parts) -> Option<Iter<'p, T>> {
+    Some(Iter::Sparse(sparse_of(asked, parts)?))
 }
 
 /// The sparse items of these parts.

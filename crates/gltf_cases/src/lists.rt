@@ -1,14 +1,14 @@
 //! The lists of a document, walked by words.
 use crate::asked::Asked;
-use crate::handles::Shown;
 use crate::told::Written;
-use gltf::Document;
-use gltf_handles::list::{Indexed, List};
+use gltf::{Document, Material, Primitive};
+use gltf_lines::{Shown, write_attribute_steps, write_list, write_list_or_none};
 
 /// Writes what the steps over a list of handles give, or extensions that are not known.
 ///
 /// - `buffers`, `views`, `accessors`, `used` and `required`, each with steps.
 /// - `extensions`, and `extension NAME`.
+/// - handles of looks and of scenes, as `write_look` and `write_scene` say.
 pub(crate) fn write(document: &Document, asked: Asked<'_>, line: &mut String) -> Written {
     match asked.call {
         "buffers" => write_list(document.buffers(), asked.words, line),
@@ -18,46 +18,54 @@ pub(crate) fn write(document: &Document, asked: Asked<'_>, line: &mut String) ->
         "required" => write_list(document.extensions_required(), asked.words, line),
         "extension" => write!(line, "{:?}", document.extension_value(asked.words)),
         "extensions" => write!(line, "{:?}", document.extensions()),
+        _ => write_look(document, asked, line),
+    }
+}
+
+/// Writes what the steps over a list of handles of looks give.
+///
+/// - `images`, `textures`, `samplers`, `cameras`, `lights`, `variants` and `materials`, each with
+///   steps.
+/// - `default`: the default material.
+fn write_look(document: &Document, asked: Asked<'_>, line: &mut String) -> Written {
+    match asked.call {
+        "images" => write_list(document.images(), asked.words, line),
+        "textures" => write_list(document.textures(), asked.words, line),
+        "samplers" => write_list(document.samplers(), asked.words, line),
+        "cameras" => write_list(document.cameras(), asked.words, line),
+        "lights" => write_list_or_none(document.lights(), asked.words, line),
+        "variants" => write_list_or_none(document.variants(), asked.words, line),
+        "materials" => write_list(document.materials(), asked.words, line),
+        "default" => Material::default(document.as_valid()).show(line),
+        _ => write_scene(document, asked, line),
+    }
+}
+
+/// Writes what the steps over a list of handles of scenes give.
+///
+/// - `meshes`, `nodes`, `scenes`, `skins` and `animations`, each with steps.
+/// - `attributes`, with steps: those of the first primitive of the first mesh.
+/// - `scene`: the default scene.
+fn write_scene(document: &Document, asked: Asked<'_>, line: &mut String) -> Written {
+    match asked.call {
+        "meshes" => write_list(document.meshes(), asked.words, line),
+        "nodes" => write_list(document.nodes(), asked.words, line),
+        "scenes" => write_list(document.scenes(), asked.words, line),
+        "skins" => write_list(document.skins(), asked.words, line),
+        "animations" => write_list(document.animations(), asked.words, line),
+        "attributes" => match first_primitive(document) {
+            Some(first) => write_attribute_steps(first.attributes(), asked.words, line),
+            None => line.push_str("no primitive"),
+        },
+        "scene" => match document.default_scene() {
+            Some(scene) => scene.show(line),
+            None => line.push_str("no scene"),
+        },
         _ => line.push_str("no call"),
     }
 }
 
-/// Writes what the steps over a list give: `next`, `nth:NUMBER`, `len`, `hint`, `last` and `count`.
-fn write_list<S: Indexed>(mut list: List<S>, words: &str, line: &mut String) -> Written
-where
-    S::Item: Shown,
-{
-    for word in words.split_whitespace() {
-        if !line.is_empty() {
-            line.push_str("; ")?;
-        }
-        write_step(&mut list, word, line)?;
-    }
-    Ok(())
-}
-
-/// Writes what a step over a list gives.
-fn write_step<S: Indexed>(list: &mut List<S>, word: &str, line: &mut String) -> Written
-where
-    S::Item: Shown,
-{
-    match word {
-        "next" => write_item(list.next(), line),
-        "len" => write!(line, "{}", list.len()),
-        "hint" => write!(line, "{:?}", list.size_hint()),
-        "last" => write_item(list.clone()?.last(), line),
-        "count" => write!(line, "{}", list.clone()?.count()),
-        _ => {
-            let places = word.strip_prefix("nth:").unwrap_or("");
-            write_item(list.nth(places.parse::<usize>().unwrap_or(0)), line)
-        }
-    }
-}
-
-/// Writes an item of a list.
-fn write_item<T: Shown + Drop>(item: Option<T>, line: &mut String) -> Written {
-    match &item {
-        Some(item) => item.show(line),
-        None => line.push_str("none"),
-    }
+/// The first primitive of the first mesh.
+fn first_primitive(document: &Document) -> Option<Primitive<'_>> {
+    document.meshes().nth(0)?.primitives().nth(0)
 }

@@ -7,7 +7,6 @@ mod broken;
 mod calls;
 mod containers;
 mod documents;
-mod handles;
 mod imported;
 mod items;
 mod iterators;

@@ -11,7 +11,9 @@ pub(crate) fn write_error(asked: Asked<'_>, error: &Error, line: &mut String) ->
         Error::Deserialize(json::Error::Text(_)) => line.push_str("no JSON"),
         Error::Binary(binary::Error::Io(_)) => line.push_str("container ends early"),
         Error::Io(_) => line.push_str("not to be written"),
-        Error::Binary(fault) if asked.call == "glb" => write!(line, "{fault:?}: {error}"),
+        Error::Binary(fault) if asked.call == "glb" || asked.call == "repack" => {
+            write!(line, "{fault:?}: {error}")
+        }
         _ => write!(line, "{error}"),
     }
 }

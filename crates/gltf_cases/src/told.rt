@@ -2,11 +2,9 @@
 use crate::asked::Asked;
 use crate::refused::write_error;
 use gltf::Result;
+pub(crate) use gltf_lines::Written;
 use std::alloc::{AllocError, Global};
 use std::fmt::Debug;
-
-/// What writes into a line answers.
-pub(crate) type Written = std::result::Result<(), AllocError>;
 
 /// An answer that a line can tell of.
 pub(crate) trait Told {

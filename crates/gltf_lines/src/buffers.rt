@@ -1,28 +1,15 @@
-//! What a line tells of a handle: all that its getters give.
-use crate::told::Written;
-use gltf::accessor::sparse::Sparse;
-use gltf::buffer::View;
-use gltf::{Accessor, Buffer};
-
-/// An item of a list that a line can tell of. Of extensions the one named X is looked up.
-pub(crate) trait Shown {
-    /// Writes all that it gives.
-    fn show(&self, line: &mut String) -> Written;
-}
-
-impl Shown for &str {
-    fn show(&self, line: &mut String) -> Written {
-        line.push_str(*self)
-    }
-}
+//! Buffers, views and accessors (glTF 2.0, section 3.6).
+use crate::shown::{Shown, Written, write_next, write_rest};
+use gltf_handles::accessor::Accessor;
+use gltf_handles::accessor::sparse::Sparse;
+use gltf_handles::buffer::{Buffer, View};
 
 impl Shown for Buffer<'_> {
     fn show(&self, line: &mut String) -> Written {
         write!(line, "buffer {}: length {}", self.index(), self.length())?;
-        write!(line, ", {:?}, name {:?}", self.source(), self.name())?;
-        write!(line, ", extensions {:?}", self.extensions())?;
-        write!(line, ", X {:?}", self.extension_value("X"))?;
-        write!(line, ", extras {:?}", self.extras())
+        write!(line, ", {:?}", self.source())?;
+        write_next("name", self.name(), line)?;
+        write_rest!(self, line)
     }
 }
 
@@ -35,16 +22,10 @@ impl Shown for View<'_> {
             self.buffer().index()
         )?;
         write!(line, ": offset {}, length {}", self.offset(), self.length())?;
-        write!(
-            line,
-            ", stride {:?}, target {:?}",
-            self.stride(),
-            self.target()
-        )?;
-        write!(line, ", name {:?}", self.name())?;
-        write!(line, ", extensions {:?}", self.extensions())?;
-        write!(line, ", X {:?}", self.extension_value("X"))?;
-        write!(line, ", extras {:?}", self.extras())
+        write_next("stride", self.stride(), line)?;
+        write_next("target", self.target(), line)?;
+        write_next("name", self.name(), line)?;
+        write_rest!(self, line)
     }
 }
 
@@ -52,12 +33,11 @@ impl Shown for Accessor<'_> {
     fn show(&self, line: &mut String) -> Written {
         write_place(self, line)?;
         write_size(self, line)?;
-        write!(line, ", normalized {}", self.normalized())?;
-        write!(line, ", min {:?}, max {:?}", self.min(), self.max())?;
-        write!(line, ", name {:?}", self.name())?;
-        write!(line, ", extensions {:?}", self.extensions())?;
-        write!(line, ", X {:?}", self.extension_value("X"))?;
-        write!(line, ", extras {:?}", self.extras())?;
+        write_next("normalized", self.normalized(), line)?;
+        write_next("min", self.min(), line)?;
+        write_next("max", self.max(), line)?;
+        write_next("name", self.name(), line)?;
+        write_rest!(self, line)?;
         match self.sparse() {
             Some(sparse) => write_sparse(sparse, line),
             None => Ok(()),

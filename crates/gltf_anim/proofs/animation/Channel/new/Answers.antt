@@ -1,0 +1,9 @@
+use Rattle.gltf_validation.specs.Animations.{within_animation}
+use Rattle.gltf_validation.specs.Documents.{counts_of}
+use Rattle.gltf_anim.proofs.animation.Channel.new.Goals as goal
+
+pub invariant_of-result : goal.invariant_of-result
+invariant_of-result c =
+    let a = c.args.animation in
+    let counts = within_animation (counts_of a.document.now) a.json.now in
+    record { holds = c.element.ensures.hold counts (rw c.deref.ensures.value a.holds.0) }

@@ -1,0 +1,3 @@
+pub mod Animations
+pub mod Lists
+pub mod Documents

@@ -1,0 +1,291 @@
+//! Animations, what they animate, and by which keyframes (glTF 2.0, section 3.11, "Animations").
+
+pub mod iter;
+
+ghost use Rattle.std.specs.Prelude.{◌≡◌, ◌<◌, length};
+ghost use Rattle.std.specs.Option.{option_copied};
+ghost use Rattle.gltf_handles.specs.Members.{text, unknown_extensions, extension_named, IsCode};
+ghost use Rattle.gltf_validation.specs.Animations.{animation_rules, animation_sampler_rules};
+ghost use Rattle.gltf_validation.specs.Animations.{channel_rules, target_rules, within_animation};
+ghost use Rattle.gltf_validation.specs.Documents.{counts_of};
+ghost use Rattle.gltf_validation.specs.Rules.{Hold, Hold-prop};
+
+use crate::animation::iter::{Channels, ChannelsOf, Samplers, SamplersOf};
+use gltf_handles::accessor::Accessor;
+use gltf_handles::list::List;
+use gltf_handles::member::{meaning, unknown_extensions};
+pub use gltf_json::animation::{Interpolation, Property};
+use gltf_json::{Map, Value, animation, kinds};
+use gltf_rules::{Valid, element};
+use gltf_scene::scene::Node;
+
+/// An animation of nodes (glTF 2.0, section 5.5, "Animation").
+#[derive(Clone, Copy, Debug)]
+pub struct Animation<'a> {
+    document: &'a Valid,
+    index: usize,
+    json: &'a animation::Animation,
+    ghost holds: { Hold (animation_rules (counts_of document.now) json.now) } by { Hold-prop
+        (animation_rules (counts_of document.now) json.now) },
+}
+
+impl<'a> Animation<'a> {
+    ghost use Rattle.gltf_anim.specs.Animations.{animation_handle, IsAnimation};
+    ghost use Rattle.gltf_anim.specs.Lists.{AreChannels, AreSamplers};
+    ghost use Rattle.gltf_handles.specs.Lists.{position};
+
+    /// The animation at an index below the number of animations.
+    pub fn new(document: &'a Valid, index: usize) -> Self
+        requires { index < length document.now.animations.items }
+        ensures { IsAnimation document.now index result }
+    {
+        Animation {
+            document,
+            index,
+            json: document.get::<kinds::Animation>(index),
+        }
+    }
+
+    /// The position among the animations of the document.
+    pub fn index(&self) -> usize
+        ensures { result ≡ (animation_handle self.now).index }
+    {
+        self.index
+    }
+
+    /// The name given by the user.
+    pub fn name(&self) -> Option<&'a str>
+        ensures { option_copied result ≡ text (animation_handle self.now).json.name }
+    {
+        self.json.name.as_deref()
+    }
+
+    /// What is animated, and by which samplers, in stored order: `channels`.
+    pub fn channels(&self) -> Channels<'a>
+        ensures { AreChannels (animation_handle self.now) (position result) }
+    {
+        List::new(ChannelsOf { animation: *self })
+    }
+
+    /// The keyframes, in stored order: `samplers`.
+    pub fn samplers(&self) -> Samplers<'a>
+        ensures { AreSamplers (animation_handle self.now) (position result) }
+    {
+        List::new(SamplersOf { animation: *self })
+    }
+
+    /// The extensions, none of which is known at an animation; None where there is no member
+    /// `extensions`.
+    pub fn extensions(&self) -> Option<&'a Map<String, Value>>
+        ensures { option_copied result
+            ≡ unknown_extensions (animation_handle self.now).json.extensions }
+    {
+        unknown_extensions(&self.json.extensions)
+    }
+
+    /// The extension of this name.
+    pub fn extension_value(&self, name: &str) -> Option<&'a Value>
+        ensures { option_copied result ≡ extension_named name.now
+            (unknown_extensions (animation_handle self.now).json.extensions) }
+    {
+        self.extensions()?.get(name)
+    }
+
+    /// What the application stores here: `extras`.
+    pub fn extras(&self) -> Option<&'a Value>
+        ensures { option_copied result ≡ (animation_handle self.now).json.extras }
+    {
+        self.json.extras.as_ref()
+    }
+}
+
+/// A sampler beside what it animates (glTF 2.0, section 5.6, "Animation Channel").
+#[derive(Clone, Copy, Debug)]
+pub struct Channel<'a> {
+    animation: Animation<'a>,
+    index: usize,
+    json: &'a animation::Channel,
+    ghost holds: { Hold (channel_rules
+        (within_animation (counts_of animation.document.now) animation.json.now)
+        json.now) } by { Hold-prop (channel_rules
+            (within_animation (counts_of animation.document.now) animation.json.now) json.now) },
+}
+
+impl<'a> Channel<'a> {
+    ghost use Rattle.gltf_anim.specs.Animations.{animation_handle, channel_handle, IsChannel};
+    ghost use Rattle.gltf_anim.specs.Animations.{IsSampler, IsTarget};
+
+    /// The channel at an index below the number of an animation's channels.
+    pub fn new(animation: Animation<'a>, index: usize) -> Self
+        requires { index < length (animation_handle animation).json.channels.items }
+        ensures { IsChannel (animation_handle animation.entry) index result }
+    {
+        Channel {
+            animation,
+            index,
+            json: element(&animation.json.channels, index),
+        }
+    }
+
+    /// The animation that the channel is of.
+    pub fn animation(&self) -> Animation<'a>
+        ensures { animation_handle result ≡ (channel_handle self.now).animation }
+    {
+        self.animation
+    }
+
+    /// The sampler, of the same animation: `sampler`.
+    pub fn sampler(&self) -> Sampler<'a>
+        ensures { IsSampler (channel_handle self.now).animation
+            (channel_handle self.now).json.sampler result }
+    {
+        Sampler::new(self.animation, self.json.sampler.value())
+    }
+
+    /// What is animated: `target`.
+    pub fn target(&self) -> Target<'a>
+        ensures { IsTarget (channel_handle self.now).animation
+            (channel_handle self.now).json.target result }
+    {
+        Target {
+            animation: self.animation,
+            json: &self.json.target,
+        }
+    }
+
+    /// The position among the channels of the animation.
+    pub fn index(&self) -> usize
+        ensures { result ≡ (channel_handle self.now).index }
+    {
+        self.index
+    }
+
+    /// What the application stores here: `extras`.
+    pub fn extras(&self) -> Option<&'a Value>
+        ensures { option_copied result ≡ (channel_handle self.now).json.extras }
+    {
+        self.json.extras.as_ref()
+    }
+}
+
+/// What a channel animates (glTF 2.0, section 5.7, "Animation Channel Target").
+#[derive(Clone, Copy, Debug)]
+pub struct Target<'a> {
+    animation: Animation<'a>,
+    json: &'a animation::Target,
+    ghost holds: { Hold (target_rules (counts_of animation.document.now) json.now) } by { Hold-prop
+        (target_rules (counts_of animation.document.now) json.now) },
+}
+
+impl<'a> Target<'a> {
+    ghost use Rattle.gltf_anim.specs.Animations.{animation_handle, target_handle};
+    ghost use Rattle.gltf_scene.specs.Nodes.{IsNode};
+
+    /// The animation that the target is of.
+    pub fn animation(&self) -> Animation<'a>
+        ensures { animation_handle result ≡ (target_handle self.now).animation }
+    {
+        self.animation
+    }
+
+    /// The node: `node`.
+    pub fn node(&self) -> Node<'a>
+        ensures { IsNode (target_handle self.now).animation.document
+            (target_handle self.now).json.node result }
+    {
+        Node::new(self.animation.document, self.json.node.value())
+    }
+
+    /// What of the node is animated: `path`.
+    pub fn property(&self) -> Property
+        ensures { IsCode (target_handle self.now).json.path result }
+    {
+        meaning(self.json.path)
+    }
+
+    /// What the application stores here: `extras`.
+    pub fn extras(&self) -> Option<&'a Value>
+        ensures { option_copied result ≡ (target_handle self.now).json.extras }
+    {
+        self.json.extras.as_ref()
+    }
+}
+
+/// Keyframes, and how values between two of them are made (glTF 2.0, section 5.8, "Animation
+/// Sampler").
+#[derive(Clone, Copy, Debug)]
+pub struct Sampler<'a> {
+    animation: Animation<'a>,
+    index: usize,
+    json: &'a animation::Sampler,
+    ghost holds: { Hold
+        (animation_sampler_rules (counts_of animation.document.now) json.now) } by { Hold-prop
+            (animation_sampler_rules (counts_of animation.document.now) json.now) },
+}
+
+impl<'a> Sampler<'a> {
+    ghost use Rattle.gltf_anim.specs.Animations.{animation_handle, sampler_handle, IsSampler};
+    ghost use Rattle.gltf_handles.specs.Accessors.{IsAccessor};
+
+    /// The sampler at an index below the number of an animation's samplers.
+    pub fn new(animation: Animation<'a>, index: usize) -> Self
+        requires { index < length (animation_handle animation).json.samplers.items }
+        ensures { IsSampler (animation_handle animation.entry) index result }
+    {
+        Sampler {
+            animation,
+            index,
+            json: animation
+                .document
+                .element(animation.json.samplers.as_slice(), index),
+        }
+    }
+
+    /// The animation that the sampler is of.
+    pub fn animation(&self) -> Animation<'a>
+        ensures { animation_handle result ≡ (sampler_handle self.now).animation }
+    {
+        self.animation
+    }
+
+    /// The position among the samplers of the animation.
+    pub fn index(&self) -> usize
+        ensures { result ≡ (sampler_handle self.now).index }
+    {
+        self.index
+    }
+
+    /// The accessor of the keyframes' times, in seconds from the animation's start: `input`, one
+    /// number a keyframe.
+    pub fn input(&self) -> Accessor<'a>
+        ensures { IsAccessor (sampler_handle self.now).animation.document
+            (sampler_handle self.now).json.input result }
+    {
+        Accessor::new(self.animation.document, self.json.input.value())
+    }
+
+    /// How values between two keyframes are made: `interpolation`, `Linear` where that is absent.
+    pub fn interpolation(&self) -> Interpolation
+        ensures { IsCode (sampler_handle self.now).json.interpolation result }
+    {
+        meaning(self.json.interpolation)
+    }
+
+    /// The accessor of the keyframes' values: `output`. A translation or a scale is three numbers,
+    /// a rotation a quaternion of four (x, y, z and w), a weight one number a morph target; where
+    /// the interpolation is `CubicSpline`, each keyframe has an in-tangent, a value and an
+    /// out-tangent.
+    pub fn output(&self) -> Accessor<'a>
+        ensures { IsAccessor (sampler_handle self.now).animation.document
+            (sampler_handle self.now).json.output result }
+    {
+        Accessor::new(self.animation.document, self.json.output.value())
+    }
+
+    /// What the application stores here: `extras`.
+    pub fn extras(&self) -> Option<&'a Value>
+        ensures { option_copied result ≡ (sampler_handle self.now).json.extras }
+    {
+        self.json.extras.as_ref()
+    }
+}

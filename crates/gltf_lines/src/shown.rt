@@ -1,0 +1,104 @@
+//! What a line tells of a handle.
+use gltf_handles::list::{Indexed, List};
+use gltf_json::{Map, Value};
+use std::alloc::AllocError;
+use std::fmt::Debug;
+
+/// What writes into a line answer.
+pub type Written = Result<(), AllocError>;
+
+/// What a line can tell of.
+pub trait Shown {
+    /// Writes all that its getters give, each behind the name of the getter. Of extensions the one
+    /// named X is looked up.
+    fn show(&self, line: &mut String) -> Written;
+}
+
+impl Shown for &str {
+    fn show(&self, line: &mut String) -> Written {
+        line.push_str(*self)
+    }
+}
+
+/// Writes the name of a getter that is not the first, and what it gives.
+pub(crate) fn write_next<T: Debug + Copy>(name: &str, given: T, line: &mut String) -> Written {
+    write!(line, ", {name} {given:?}")
+}
+
+/// Writes the name of a getter that is not the first, and in parentheses all that the getters of
+/// that give which it gives.
+pub(crate) fn write_part<T: Shown + Copy>(
+    name: &str,
+    part: Option<T>,
+    line: &mut String,
+) -> Written {
+    write!(line, ", {name} ")?;
+    match part {
+        Some(part) => {
+            line.push_str("(")?;
+            part.show(line)?;
+            line.push_str(")")
+        }
+        None => line.push_str("None"),
+    }
+}
+
+/// Writes the name of a getter that is not the first, and in brackets all that the getters of each
+/// item give of the list which it gives.
+pub(crate) fn write_parts<S: Indexed>(name: &str, parts: List<S>, line: &mut String) -> Written
+where
+    S::Item: Shown,
+{
+    write!(line, ", {name} [")?;
+    for part in parts {
+        line.push_str("(")?;
+        part.show(line)?;
+        line.push_str(")")?;
+    }
+    line.push_str("]")
+}
+
+/// What is told by its number alone where it stands in a list.
+pub(crate) trait Numbered {
+    /// Its index among those of its kind.
+    fn number(&self) -> usize;
+}
+
+/// Writes the name of a getter that is not the first, and in brackets the number of each item of
+/// the list that it gives.
+pub(crate) fn write_numbers<S: Indexed>(name: &str, items: List<S>, line: &mut String) -> Written
+where
+    S::Item: Numbered,
+{
+    write!(line, ", {name} [")?;
+    for item in items {
+        write!(line, "({})", item.number())?;
+    }
+    line.push_str("]")
+}
+
+/// Writes what the getters give that each handle with extensions has.
+macro_rules! write_rest {
+    ($handle:expr, $line:ident) => {
+        $crate::shown::write_extensions(
+            $handle.extensions(),
+            $handle.extension_value("X"),
+            $handle.extras(),
+            $line,
+        )
+    };
+}
+
+pub(crate) use write_rest;
+
+/// Writes what getters of extensions give, and that of what the application stores.
+pub(crate) fn write_extensions(
+    extensions: Option<&Map<String, Value>>,
+    named_x: Option<&Value>,
+    extras: Option<&Value>,
+    line: &mut String,
+) -> Written {
+    write_next("extensions", extensions, line)?;
+    write_next("X", named_x, line)?;
+    write_next("extras", extras, line)
+}

@@ -1,0 +1,5 @@
+pub mod Spaces
+pub mod Parts
+pub mod Alike
+pub mod Kept
+pub mod Written

@@ -1,0 +1,2 @@
+pub mod Repacked
+pub mod Laws

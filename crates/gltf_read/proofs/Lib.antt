@@ -1,0 +1,7 @@
+pub mod Members
+pub mod Rows
+pub mod Answered
+pub mod AlikeReadings
+pub mod Targets
+pub mod Samplers
+pub mod SameIndices

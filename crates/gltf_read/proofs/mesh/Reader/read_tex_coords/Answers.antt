@@ -1,0 +1,9 @@
+use Rattle.gltf_read.specs.Primitives.{closure_of}
+use Rattle.gltf_read.specs.TexCoords.{AreTexCoords}
+use Rattle.gltf_read.proofs.Members.{of_member}
+use Rattle.gltf_read.proofs.mesh.Reader.read_tex_coords.Goals as goal
+
+pub returns : goal.returns
+returns g c =
+    of_member AreTexCoords (λ b o. goal.F-post g (closure_of c.args.self.now) b o) _ _
+    c.in_ok-get.field-0 c.tex_coords.result c.in_ok-get.ensures c.tex_coords.ensures

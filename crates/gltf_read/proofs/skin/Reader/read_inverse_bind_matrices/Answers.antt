@@ -1,0 +1,10 @@
+use Rattle.gltf_read.specs.Reading.{AreItems}
+use Rattle.gltf_read.specs.Skins.{closure_of}
+use Rattle.gltf_read.proofs.Members.{of_member}
+use Rattle.gltf_read.proofs.skin.Reader.read_inverse_bind_matrices.Goals as goal
+
+pub returns : goal.returns
+returns g c =
+    of_member AreItems (λ b o. goal.F-post g (closure_of c.args.self.now) b o) _ _
+    c.in_ok-inverse_bind_matrices.field-0 c.items.result c.in_ok-inverse_bind_matrices.ensures
+    c.items.ensures

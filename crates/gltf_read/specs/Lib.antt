@@ -1,0 +1,15 @@
+pub mod Reading
+pub mod Colors
+pub mod Indices
+pub mod Joints
+pub mod TexCoords
+pub mod Weights
+pub mod Rotations
+pub mod MorphTargetWeights
+pub mod Outputs
+pub mod Laws
+pub mod Primitives
+pub mod Skins
+pub mod MorphTargets
+pub mod Channels
+pub mod Members

@@ -1,0 +1,61 @@
+//! Why nothing was repacked.
+use gltf_glb::Error;
+use std::alloc::AllocError;
+use std::{fmt, io};
+
+const USAGE: &str = "usage: gltf_repack IN OUT
+
+Writes the glTF file IN, GLB or JSON, to OUT as one GLB container with the same import.
+
+The bytes go to OUT.part, a new file, which takes the name OUT once it is whole; so OUT may be IN.
+Where a write fails, OUT is what it was before, and OUT.part is removed. Where the program is
+stopped, or OUT.part cannot be removed, it is left behind with a part of the bytes; the program
+writes to no OUT.part that is there already.";
+
+/// Why nothing was repacked.
+#[derive(Debug, Drop)]
+pub(crate) enum Refusal {
+    /// The words are not two.
+    Usage,
+    /// The first file could not be read.
+    Read(io::Error),
+    /// The first file is refused.
+    File(Error),
+    /// The file of this name could not be written whole, or not take its last name.
+    Write(String, io::Error),
+    /// The second file is whole, and the line that says so could not be written.
+    Line(io::Error),
+}
+
+impl Refusal {
+    /// The exit status.
+    pub(crate) fn status(&self) -> u8 {
+        match self {
+            Refusal::Usage => 2,
+            _ => 1,
+        }
+    }
+}
+
+impl From<Error> for Refusal {
+    fn from(error: Error) -> Self {
+        Refusal::File(error)
+    }
+}
+
+impl From<AllocError> for Refusal {
+    fn from(_cause: AllocError) -> Self {
+        Refusal::File(Error::Memory)
+    }
+}
+
+impl fmt::Display for Refusal {
+    fn fmt<W: fmt::Write>(&self, f: &mut fmt::Formatter<W>) -> fmt::Result {
+        match self {
+            Refusal::Usage => write!(f, "{USAGE}"),
+            Refusal::File(error) => write!(f, "{error}"),
+            Refusal::Write(name, cause) => write!(f, "{name}: {cause}"),
+            Refusal::Read(cause) | Refusal::Line(cause) => write!(f, "{cause}"),
+        }
+    }
+}

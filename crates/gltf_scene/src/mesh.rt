@@ -1,0 +1,285 @@
+//! Meshes, their primitives and morph targets (glTF 2.0, section 3.7, "Geometry").
+
+mod bounds;
+pub mod iter;
+
+ghost use Rattle.std.specs.Prelude.{◌≡◌, ◌<◌, length};
+ghost use Rattle.std.specs.BTreeMap.{get_by};
+ghost use Rattle.std.specs.Option.{option_copied, option_and_then, option_map};
+ghost use Rattle.gltf_handles.specs.Accessors.{IsAccessor};
+ghost use Rattle.gltf_handles.specs.Lists.{position};
+ghost use Rattle.gltf_handles.specs.Members.{text, unknown_extensions, extension_named};
+ghost use Rattle.gltf_handles.specs.Members.{Follows, FollowsOr, IsCode};
+ghost use Rattle.gltf_json_geometry.specs.Semantics.{semantic_cmp};
+ghost use Rattle.gltf_material.specs.Materials.{IsMaterial, IsDefaultMaterial};
+ghost use Rattle.gltf_validation.specs.Documents.{counts_of};
+ghost use Rattle.gltf_validation.specs.Meshes.{mesh_rules, primitive_rules, morph_target_rules};
+ghost use Rattle.gltf_validation.specs.Rules.{Hold, Hold-prop};
+
+use crate::mesh::bounds::three_numbers;
+pub use crate::mesh::bounds::{BoundingBox, Bounds};
+use crate::mesh::iter::{
+    Attributes, Mappings, MappingsOf, MorphTargets, MorphTargetsOf, Primitives, PrimitivesOf,
+};
+use gltf_handles::accessor::Accessor;
+use gltf_handles::list::List;
+use gltf_handles::member::{meaning, unknown_extensions};
+pub use gltf_json::mesh::{Mode, Semantic};
+use gltf_json::{Map, Value, kinds, mesh};
+use gltf_json_geometry::laws::order_is_the_stated_one;
+use gltf_material::material::Material;
+use gltf_rules::Valid;
+
+/// An attribute of a primitive: what it means, and its accessor.
+pub type Attribute<'a> = (&'a Semantic, Accessor<'a>);
+
+/// A set of primitives (glTF 2.0, section 5.23, "Mesh").
+#[derive(Clone, Copy, Debug)]
+pub struct Mesh<'a> {
+    document: &'a Valid,
+    index: usize,
+    json: &'a mesh::Mesh,
+    ghost holds: { Hold (mesh_rules (counts_of document.now) json.now) } by { Hold-prop
+        (mesh_rules (counts_of document.now) json.now) },
+}
+
+impl<'a> Mesh<'a> {
+    ghost use Rattle.gltf_scene.specs.Meshes.{mesh_handle, IsMesh};
+    ghost use Rattle.gltf_scene.specs.Primitives.{ArePrimitives};
+
+    /// The mesh at an index below the number of meshes.
+    pub fn new(document: &'a Valid, index: usize) -> Self
+        requires { index < length document.now.meshes.items }
+        ensures { IsMesh document.now index result }
+    {
+        Mesh {
+            document,
+            index,
+            json: document.get::<kinds::Mesh>(index),
+        }
+    }
+
+    /// The position among the meshes of the document.
+    pub fn index(&self) -> usize
+        ensures { result ≡ (mesh_handle self.now).index }
+    {
+        self.index
+    }
+
+    /// The name given by the user.
+    pub fn name(&self) -> Option<&'a str>
+        ensures { option_copied result ≡ text (mesh_handle self.now).json.name }
+    {
+        self.json.name.as_deref()
+    }
+
+    /// The primitives, in stored order.
+    pub fn primitives(&self) -> Primitives<'a>
+        ensures { ArePrimitives (mesh_handle self.now) (position result) }
+    {
+        List::new(PrimitivesOf { mesh: *self })
+    }
+
+    /// The weights of the morph targets, as they stand: `weights`, a list of numbers.
+    pub fn weights(&self) -> Option<&'a Value>
+        ensures { option_copied result ≡ (mesh_handle self.now).json.weights }
+    {
+        self.json.weights.as_ref()
+    }
+
+    /// The extensions, none of which is known at a mesh; None where there is no member
+    /// `extensions`.
+    pub fn extensions(&self) -> Option<&'a Map<String, Value>>
+        ensures { option_copied result
+            ≡ unknown_extensions (mesh_handle self.now).json.extensions }
+    {
+        unknown_extensions(&self.json.extensions)
+    }
+
+    /// The extension of this name.
+    pub fn extension_value(&self, name: &str) -> Option<&'a Value>
+        ensures { option_copied result ≡ extension_named name.now
+            (unknown_extensions (mesh_handle self.now).json.extensions) }
+    {
+        self.extensions()?.get(name)
+    }
+
+    /// What the application stores here: `extras`.
+    pub fn extras(&self) -> Option<&'a Value>
+        ensures { option_copied result ≡ (mesh_handle self.now).json.extras }
+    {
+        self.json.extras.as_ref()
+    }
+}
+
+/// Geometry to be drawn with one material (glTF 2.0, section 5.24, "Mesh Primitive").
+#[derive(Clone, Copy, Debug)]
+pub struct Primitive<'a> {
+    document: &'a Valid,
+    index: usize,
+    json: &'a mesh::Primitive,
+    ghost holds: { Hold (primitive_rules (counts_of document.now) json.now) } by { Hold-prop
+        (primitive_rules (counts_of document.now) json.now) },
+}
+
+impl<'a> Primitive<'a> {
+    ghost use Rattle.gltf_scene.specs.Attributes.{attributes_left};
+    ghost use Rattle.gltf_scene.specs.Bounds.{corners, stated_box};
+    ghost use Rattle.gltf_scene.specs.Meshes.{primitive_handle};
+    ghost use Rattle.gltf_scene.specs.Primitives.{AreMorphTargets, AreMappings};
+
+    /// The position among the primitives of the mesh.
+    pub fn index(&self) -> usize
+        ensures { result ≡ (primitive_handle self.now).index }
+    {
+        self.index
+    }
+
+    /// The accessor of the attribute that means this.
+    pub fn get(&self, semantic: &Semantic) -> Option<Accessor<'a>>
+        ensures { Follows (IsAccessor (primitive_handle self.now).document)
+            (get_by (semantic_cmp semantic.now)
+            (primitive_handle self.now).json.attributes) result }
+    {
+        order_is_the_stated_one();
+        let index = self.json.attributes.get(semantic)?;
+        Some(Accessor::new(self.document, index.value()))
+    }
+
+    /// The accessor of the vertex indices: `indices`.
+    pub fn indices(&self) -> Option<Accessor<'a>>
+        ensures { Follows (IsAccessor (primitive_handle self.now).document)
+            (primitive_handle self.now).json.indices result }
+    {
+        let index = self.json.indices?;
+        Some(Accessor::new(self.document, index.value()))
+    }
+
+    /// The attributes, each once, in the order of `Semantic`.
+    pub fn attributes(&self) -> Attributes<'a>
+        ensures document { (attributes_left result).document
+            ≡ (primitive_handle self.now).document }
+        ensures entries { (attributes_left result).entries
+            ≡ (primitive_handle self.now).json.attributes.entries }
+    {
+        Attributes {
+            document: self.document,
+            entries: self.json.attributes.iter(),
+        }
+    }
+
+    /// The material; the default material where the primitive names none.
+    pub fn material(&self) -> Material<'a>
+        ensures { FollowsOr (IsDefaultMaterial (primitive_handle self.now).document)
+            (IsMaterial (primitive_handle self.now).document)
+            (primitive_handle self.now).json.material result }
+    {
+        match self.json.material {
+            Some(index) => Material::new(self.document, index.value()),
+            None => Material::default(self.document),
+        }
+    }
+
+    /// How vertices are joined: `mode`, triangles where that is absent.
+    pub fn mode(&self) -> Mode
+        ensures { IsCode (primitive_handle self.now).json.mode result }
+    {
+        meaning(self.json.mode)
+    }
+
+    /// The morph targets, in stored order.
+    pub fn morph_targets(&self) -> MorphTargets<'a>
+        ensures { AreMorphTargets (primitive_handle self.now) (position result) }
+    {
+        List::new(MorphTargetsOf { primitive: *self })
+    }
+
+    /// The materials that variants give (`KHR_materials_variants`), in stored order: none where the
+    /// extension is absent.
+    pub fn mappings(&self) -> Mappings<'a>
+        ensures { AreMappings (primitive_handle self.now) (position result) }
+    {
+        List::new(MappingsOf { primitive: *self })
+    }
+
+    /// The box that the positions are in, as it stands: `min` and `max` of the accessor of
+    /// `POSITION`. None where that attribute is absent, or one of the two is absent or no list of
+    /// three numbers.
+    pub fn bounding_box(&self) -> Option<BoundingBox<'a>>
+        ensures { option_map corners result ≡ stated_box (primitive_handle self.now) }
+    {
+        let positions = self.get(&Semantic::Positions)?;
+        let (x, y, z) = three_numbers(positions.min()?)?;
+        let min = [x, y, z];
+        let (x, y, z) = three_numbers(positions.max()?)?;
+        let max = [x, y, z];
+        let bounds = Bounds { min, max };
+        Some(bounds)
+    }
+
+    /// The extensions that are not known at a primitive; None where there is no member
+    /// `extensions`.
+    pub fn extensions(&self) -> Option<&'a Map<String, Value>>
+        ensures { option_copied result
+            ≡ option_map (λ e. e.others) (primitive_handle self.now).json.extensions }
+    {
+        Some(&self.json.extensions.as_ref()?.others)
+    }
+
+    /// The extension of this name, where it is not known at a primitive.
+    pub fn extension_value(&self, name: &str) -> Option<&'a Value>
+        ensures { option_copied result ≡ extension_named name.now
+            (option_map (λ e. e.others) (primitive_handle self.now).json.extensions) }
+    {
+        self.extensions()?.get(name)
+    }
+
+    /// What the application stores here: `extras`.
+    pub fn extras(&self) -> Option<&'a Value>
+        ensures { option_copied result ≡ (primitive_handle self.now).json.extras }
+    {
+        self.json.extras.as_ref()
+    }
+}
+
+/// What a morph target adds to the vertices of a primitive (glTF 2.0, section 3.7.2.2, "Morph
+/// Targets").
+#[derive(Clone, Copy, Debug)]
+pub struct MorphTarget<'a> {
+    document: &'a Valid,
+    index: usize,
+    json: &'a mesh::MorphTarget,
+    ghost holds: { Hold (morph_target_rules (counts_of document.now) json.now) } by { Hold-prop
+        (morph_target_rules (counts_of document.now) json.now) },
+}
+
+impl<'a> MorphTarget<'a> {
+    ghost use Rattle.gltf_scene.specs.Meshes.{morph_target_handle};
+
+    /// The accessor of what is added to positions: `POSITION`.
+    pub fn positions(&self) -> Option<Accessor<'a>>
+        ensures { Follows (IsAccessor (morph_target_handle self.now).document)
+            (morph_target_handle self.now).json.positions result }
+    {
+        let index = self.json.positions?;
+        Some(Accessor::new(self.document, index.value()))
+    }
+
+    /// The accessor of what is added to normals: `NORMAL`.
+    pub fn normals(&self) -> Option<Accessor<'a>>
+        ensures { Follows (IsAccessor (morph_target_handle self.now).document)
+            (morph_target_handle self.now).json.normals result }
+    {
+        let index = self.json.normals?;
+        Some(Accessor::new(self.document, index.value()))
+    }
+
+    /// The accessor of what is added to tangents: `TANGENT`.
+    pub fn tangents(&self) -> Option<Accessor<'a>>
+        ensures { Follows (IsAccessor (morph_target_handle self.now).document)
+            (morph_target_handle self.now).json.tangents result }
+    {
+        let index = self.json.tangents?;
+        Some(Accessor::new(self.document, index.value()))
+    }
+}
