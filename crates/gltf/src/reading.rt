@@ -107,13 +107,14 @@ fn root_in(alloc: Global, bytes: Vec<u8>) -> Result<(Root, Option<Vec<u8>>)>
 /// The JSON text and the blob. The bytes of plain text are handed on.
 #[tactic(auto, unfolding(crate::specs::Import::AreParts))]
 fn parts_in(alloc: Global, bytes: Vec<u8>) -> Result<(Vec<u8>, Option<Vec<u8>>)>
-    ensures parts { IfOk result (λ parts. AreParts bytes.items parts.0.items (blob_bytes parts.1)) }
+    ensures parts { IfOk result (λ parts. AreParts bytes.items parts.0.items
+        (blob_bytes parts.1)) }
     ensures only { IfOk result (λ parts. (text : List ℕ) (blob : Option (List ℕ))
         → AreParts bytes.items text blob
         → (text ≡ parts.0.items) × (blob ≡ blob_bytes parts.1)) }
     ensures refused { IfErr result (OutOfMemoryOr (RefusesContainer bytes.items)) }
-    ensures exact { IfErr result (λ e. e ≢ Memory → (text : List ℕ) (blob : Option (List ℕ))
-        → AreParts bytes.items text blob → ⊥) }
+    ensures exact { IfErr result (λ e. e ≢ Memory → (text : List ℕ)
+        (blob : Option (List ℕ)) → AreParts bytes.items text blob → ⊥) }
 {
     if bytes.starts_with(b"glTF") {
         let glb = Glb::from_vec(alloc, bytes)?;
