@@ -59,7 +59,8 @@ unfolding root_lights
 lights_within-alike None None e = refl
 lights_within-alike None (Some y) e = cc
 lights_within-alike (Some x) None e = cc
-lights_within-alike (Some x) (Some y) e = length_alike light.content x.lights.items y.lights.items cc
+lights_within-alike (Some x) (Some y) e =
+    length_alike light.content x.lights.items y.lights.items cc
 
 lights_of-alike : (o p : Option extended.Root)
     → option_map root_extensions.content o ≡ option_map root_extensions.content p

@@ -2,7 +2,9 @@
 -- (KHR_lights_punctual), in the order of their members.
 use Rattle.std.specs.Prelude.{List, [], Option, Some, None, Bool, codes, false, true}
 use Rattle.std.specs.Option.{option_and_then}
-use Rattle.gltf_json.specs.declared.extensions.root.KhrLightsPunctual.{KhrLightsPunctual as LightsExtension}
+use Rattle.gltf_json.specs.declared.extensions.root.KhrLightsPunctual.{
+  KhrLightsPunctual as LightsExtension,
+}
 use Rattle.gltf_json.specs.declared.extensions.root.Root as extended
 use Rattle.gltf_json_scene.specs.declared.extensions.scene.khr_lights_punctual.Light.{Light}
 use Rattle.gltf_json_scene.specs.declared.extensions.scene.KhrLightsPunctual.{KhrLightsPunctual}
