@@ -1,5 +1,5 @@
 -- Names as contracts see them.
-use Rattle.std.specs.Prelude.{◌≡◌, ℕ, List, Bool, false, ◌⊎◌}
+use Rattle.std.specs.Prelude.{◌≡◌, ℕ, List, [], ◌∷◌, Option, Some, None, Bool, false, ◌⊎◌}
 use Rattle.std.specs.Coded.{Coded, coded_list, coded⊎, coded_ℕ, code_by}
 use Rattle.std.specs.Str.{bytes_eq}
 use Rattle.std.proofs.Common.{refl, inl, inr}
@@ -22,6 +22,15 @@ is_same (File one) (File other) = bytes_eq one other
 is_same (File one) (Relative other) = false
 is_same (Relative one) (File other) = false
 is_same (Relative one) (Relative other) = bytes_eq one other
+
+abbrev pub text_of : Named → List ℕ
+text_of (File text) = text
+text_of (Relative text) = text
+
+-- the text of the name that failed last, where one did
+abbrev pub text_of_last : List Named → Option (List ℕ)
+text_of_last [] = None
+text_of_last (name ∷ earlier) = Some (text_of name)
 
 abbrev pub split : Named → List ℕ ⊎ List ℕ
 split (File text) = inl text

@@ -15,10 +15,10 @@ folder_base folder = folder.base.now
 
 -- the names whose reads failed, the last of them first
 abbrev pub folder_failures : {R F D : Type 0} → Folder R F D → List Named
-folder_failures folder = folder.failures.names
+folder_failures folder = folder.log.failures.names
 
 abbrev pub shelf_failures : Shelf → List Named
-shelf_failures shelf = shelf.failures.names
+shelf_failures shelf = shelf.log.failures.names
 
 -- the bytes that a map has at a text
 abbrev pub bytes_at : BTreeMap (String Global) (Vec ℕ Global) → List ℕ → Option (List ℕ)

@@ -4,7 +4,7 @@ ghost use Rattle.gltf_names.specs.Named.{named};
 ghost use Rattle.gltf_names.specs.Paths.{path_of};
 ghost use Rattle.gltf_names.specs.Sources.{folder_base, folder_failures};
 
-use crate::failures::Failures;
+use crate::log::Log;
 use crate::name::{Name, NamedBytes, NamedFault};
 use std::alloc::{AllocError, Global};
 use std::fs::File;
@@ -18,7 +18,7 @@ use std::rt::Files;
 pub struct Folder<'a, R: Files> {
     rt: &'a R,
     base: &'a str,
-    failures: Failures,
+    log: Log,
 }
 
 impl<'a, R: Files> Folder<'a, R> {
@@ -31,7 +31,7 @@ impl<'a, R: Files> Folder<'a, R> {
         Folder {
             rt,
             base,
-            failures: Failures::new(),
+            log: Log::new(),
         }
     }
 
@@ -52,10 +52,14 @@ impl<'a, R: Files> NamedBytes for Folder<'a, R> {
             Ok(bytes) => Ok(bytes),
             Err(NamedFault::Memory) => Err(NamedFault::Memory),
             Err(NamedFault::Io(cause)) => {
-                self.failures = self.failures.and(&name);
+                self.log.note(alloc, &name);
                 Err(NamedFault::Io(cause))
             }
         }
+    }
+
+    fn last_failed(&self) -> Option<&str> {
+        self.log.last()
     }
 }
 

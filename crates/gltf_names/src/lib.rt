@@ -3,6 +3,7 @@
 
 mod failures;
 mod folder;
+mod log;
 mod name;
 mod shelf;
 

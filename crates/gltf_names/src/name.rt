@@ -1,6 +1,6 @@
 //! Names of bytes, and sources that hold what they name.
-ghost use Rattle.std.specs.Prelude.{◌≡◌, List, ℕ, Option, None};
-ghost use Rattle.gltf_names.specs.Named.{Named, named};
+ghost use Rattle.std.specs.Prelude.{◌≡◌, List, ℕ, Option, Some, None, IfSome};
+ghost use Rattle.gltf_names.specs.Named.{Named, named, text_of, text_of_last};
 ghost use Rattle.gltf_names.specs.Answers.{NotesFailure, GivesHeld};
 
 use std::alloc::{AllocError, Global};
@@ -13,6 +13,18 @@ pub enum Name<'a> {
     File(&'a str),
     /// A relative reference of a document, percent-decoded (glTF 2.0, section 2.8).
     Relative(&'a str),
+}
+
+impl<'a> Name<'a> {
+    /// The path, or the reference.
+    pub(crate) fn text(&self) -> &'a str
+        ensures { result.now ≡ text_of (named self.now) }
+    {
+        match self {
+            Name::File(text) => text,
+            Name::Relative(text) => text,
+        }
+    }
 }
 
 /// Why a name's bytes were not given.
@@ -56,4 +68,10 @@ pub trait NamedBytes {
             (failures self.old) (failures self.new) }
         ensures honest { GivesHeld result (named name.entry) (bytes_by_name self.old) }
         ensures kept { bytes_by_name self.new ≡ bytes_by_name self.old };
+
+    /// The text of the name whose read failed last; `None` where no read failed, or where there
+    /// was no memory to keep the text.
+    fn last_failed(&self) -> Option<&str>
+        ensures { IfSome result
+            (λ text. text_of_last (failures self.now) ≡ Some text.now) };
 }

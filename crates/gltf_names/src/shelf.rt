@@ -8,7 +8,7 @@ ghost use Rattle.gltf_names.specs.Answers.{NotesFailure, GivesHeld, GivesExactly
 ghost use Rattle.gltf_names.specs.Sources.{bytes_at, shelf_failures, shelf_holds, shelf_due};
 ghost use Rattle.gltf_names.specs.Sources.{PutsBytes, HoldsTheSame, unless_due, due_after};
 
-use crate::failures::Failures;
+use crate::log::Log;
 use crate::name::{Name, NamedBytes, NamedFault};
 use std::alloc::{AllocError, Global};
 use std::collections::BTreeMap;
@@ -21,7 +21,7 @@ pub struct Shelf {
     files: BTreeMap<String, Vec<u8>>,
     relatives: BTreeMap<String, Vec<u8>>,
     due: Option<usize>,
-    failures: Failures,
+    log: Log,
 }
 
 impl Shelf {
@@ -36,7 +36,7 @@ impl Shelf {
             files: BTreeMap::new(alloc),
             relatives: BTreeMap::new(alloc),
             due: None,
-            failures: Failures::new(),
+            log: Log::new(),
         }
     }
 
@@ -79,7 +79,7 @@ impl Shelf {
         ensures due { shelf_due self.new ≡ due_after (shelf_due self.old) }
         ensures files { self.new.files ≡ self.old.files }
         ensures relatives { self.new.relatives ≡ self.old.relatives }
-        ensures failures { self.new.failures ≡ self.old.failures }
+        ensures log { self.new.log ≡ self.old.log }
         ensures when { (bytes : Option (List ℕ)) → (if result then None else bytes)
             ≡ unless_due (shelf_due self.old) bytes }
     {
@@ -104,7 +104,7 @@ impl Shelf {
         ensures relatives { self.new.relatives ≡ self.old.relatives }
         ensures due { self.new.due ≡ self.old.due }
     {
-        self.failures = self.failures.and(name);
+        self.log.note(self.alloc, name);
         NamedFault::Io(io::Error::from(io::ErrorKind::NotFound))
     }
 }
@@ -151,5 +151,9 @@ impl NamedBytes for Shelf {
             Ok(bytes) => Ok(bytes),
             Err(_) => Err(NamedFault::Memory),
         }
+    }
+
+    fn last_failed(&self) -> Option<&str> {
+        self.log.last()
     }
 }
