@@ -1,7 +1,10 @@
 -- Names as contracts see them.
-use Rattle.std.specs.Prelude.{◌≡◌, ℕ, List, [], ◌∷◌, Option, Some, None, Bool, false, ◌⊎◌}
+use Rattle.std.specs.Prelude.{◌≡◌, ℕ, List, [], ◌∷◌, Option, Some, None, IfSome, Bool, false, ◌⊎◌}
+use Rattle.std.specs.Prelude.{string_bytes}
 use Rattle.std.specs.Coded.{Coded, coded_list, coded⊎, coded_ℕ, code_by}
 use Rattle.std.specs.Str.{bytes_eq}
+use Rattle.std.specs.declared.alloc.Global.{Global}
+use Rattle.std.specs.declared.string.String.{String}
 use Rattle.std.proofs.Common.{refl, inl, inr}
 use Rattle.gltf_names.specs.declared.name.Name as code
 use Rattle.gltf_names.specs.declared.name.Name.TheVariants as code_name
@@ -31,6 +34,10 @@ text_of (Relative text) = text
 abbrev pub text_of_last : List Named → Option (List ℕ)
 text_of_last [] = None
 text_of_last (name ∷ earlier) = Some (text_of name)
+
+-- a text that was kept is that of the name that failed last
+abbrev pub IsTextOfLast : List Named → Option (String Global) → Type 0
+IsTextOfLast names kept = IfSome kept (λ text. text_of_last names ≡ Some (string_bytes text))
 
 abbrev pub split : Named → List ℕ ⊎ List ℕ
 split (File text) = inl text

@@ -6,8 +6,9 @@ ghost use Rattle.gltf_names.specs.Sources.{folder_base, folder_failures};
 
 use crate::log::Log;
 use crate::name::{Name, NamedBytes, NamedFault};
+use gltf_stream::{PIECE, ReadFault, read_to_end};
 use std::alloc::{AllocError, Global};
-use std::fs::File;
+use std::fs::{File, OpenFile};
 use std::io;
 use std::io::Read;
 use std::rt::Files;
@@ -38,7 +39,10 @@ impl<'a, R: Files> Folder<'a, R> {
     fn find(&self, alloc: Global, name: &Name<'_>) -> Result<Vec<u8>, NamedFault> {
         let path = path_of(alloc, self.base, name)?;
         match File::open(self.rt, path.as_str()) {
-            Ok(mut file) => all_of(alloc, &mut file),
+            Ok(mut file) => {
+                let size = file.metadata().map_or(0, |about| about.len());
+                all_of(alloc, &mut file, size)
+            }
             Err(cause) => Err(fault_of(cause)),
         }
     }
@@ -80,16 +84,24 @@ fn path_of(alloc: Global, base: &str, name: &Name<'_>) -> Result<String, AllocEr
     }
 }
 
-/// All that a reader still gives.
-fn all_of<R: Read>(alloc: Global, reader: &mut R) -> Result<Vec<u8>, NamedFault>
+/// All that a reader still gives. There is room for this many bytes from the first read on, so that
+/// no more memory is taken where they are all.
+fn all_of<R: Read>(alloc: Global, reader: &mut R, size: u64) -> Result<Vec<u8>, NamedFault>
     ensures { IfOk result
         (λ bytes. IfSome (R.remaining reader.old) (λ known. bytes.items ≡ known)) }
 {
-    let mut bytes = Vec::new(alloc);
-    match reader.read_to_end(&mut bytes) {
-        Ok(_) => Ok(bytes),
-        Err(cause) => Err(fault_of(cause)),
+    let mut bytes = Vec::with_capacity(alloc, room_for(size))?;
+    match read_to_end(reader, &mut bytes) {
+        Ok(()) => Ok(bytes),
+        Err(ReadFault::Ended) => unreachable!(),
+        Err(ReadFault::Failed(cause)) => Err(fault_of(cause)),
+        Err(ReadFault::Memory) => Err(NamedFault::Memory),
     }
+}
+
+/// Room for so many bytes, and for the read behind the last of them that finds the end.
+fn room_for(size: u64) -> usize {
+    size.saturating_add(PIECE as u64) as usize
 }
 
 fn fault_of(cause: io::Error) -> NamedFault {

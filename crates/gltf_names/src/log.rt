@@ -1,7 +1,7 @@
 //! The names whose reads failed, and the text of the last of them.
-ghost use Rattle.std.specs.Prelude.{◌≡◌, [], ◌∷◌, IfSome, Some, string_bytes};
+ghost use Rattle.std.specs.Prelude.{◌≡◌, [], ◌∷◌, IfSome, Some};
 ghost use Rattle.std.proofs.Props.{props};
-ghost use Rattle.gltf_names.specs.Named.{named, text_of_last};
+ghost use Rattle.gltf_names.specs.Named.{named, text_of_last, IsTextOfLast};
 
 use crate::failures::Failures;
 use crate::name::Name;
@@ -11,7 +11,7 @@ use std::alloc::Global;
 pub(crate) struct Log {
     failures: Failures,
     last: Option<String>,
-    ghost is_last: { IfSome last (λ text. text_of_last failures.names ≡ Some (string_bytes text)) } by { Prim.hlevel props },
+    ghost is_last: { IsTextOfLast failures.names last } by { Prim.hlevel props },
 }
 
 impl Log {

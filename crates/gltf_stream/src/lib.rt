@@ -5,5 +5,5 @@
 mod reading;
 mod writing;
 
-pub use reading::{ReadFault, read_to_end, read_up_to};
+pub use reading::{PIECE, ReadFault, read_to_end, read_up_to};
 pub use writing::write_pieces;

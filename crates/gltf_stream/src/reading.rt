@@ -31,7 +31,7 @@ impl From<AllocError> for ReadFault {
 
 /// The most bytes that one read is asked for, and so the most for which room is made before they
 /// come.
-const PIECE: usize = 8192;
+pub const PIECE: usize = 8192;
 
 /// Reads until there are this many bytes. What came stands behind what was there, also where the
 /// answer says why no more did.
