@@ -1,6 +1,7 @@
 pub mod Words
 pub mod Types
 pub mod Chunks
+pub mod Places
 pub mod Containers
 pub mod Rows
 pub mod Lengths

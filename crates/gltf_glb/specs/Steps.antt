@@ -1,8 +1,10 @@
 -- What the steps of a reading answer.
-use Rattle.std.specs.Prelude.{◌≡◌, ℕ, ◌<◌, ◌≤◌, ◌^◌, List, [], ◌++◌, length, None}
+use Rattle.std.specs.Prelude.{◌≡◌, ℕ, ◌<◌, ◌≤◌, ◌^◌, List, [], ◌++◌, length, Option, None}
+use Rattle.std.specs.Prelude.{option_map}
 use Rattle.gltf_glb.specs.declared.binary.Error.{Error}
 use Rattle.gltf_glb.specs.declared.binary.Error.TheVariants as binary
 use Rattle.gltf_glb.specs.declared.binary.Header.{Header}
+use Rattle.gltf_glb.specs.declared.binary.reading.Blob.{Blob}
 use Rattle.gltf_glb.specs.declared.binary.reading.Next.{Next}
 use Rattle.gltf_glb.specs.declared.binary.reading.Next.TheVariants.{End, Bin, Skip}
 use Rattle.gltf_glb.specs.Bytes.{magic, json_tag, bin_tag, word_at, tag_at, chunk}
@@ -42,6 +44,15 @@ CutsJson body json left =
 -- what the first of the chunks that are left is
 abbrev pub IsNext : List ℕ → Next → Type 0
 IsNext left End = left ≡ []
-IsNext left (Bin bin) =
-    (length bin.now < 2 ^ 32) × (rest : List ℕ) × (left ≡ chunk bin_tag bin.now ++ rest)
+IsNext left (Bin blob) =
+    (length blob.contents.now < 2 ^ 32)
+    × (left ≡ chunk bin_tag blob.contents.now ++ blob.behind.now)
 IsNext left (Skip rest) = (other : Other) × IsOther other × (left ≡ spelled other ++ rest.now)
+
+abbrev pub bytes_of_blob : Option Blob → Option (List ℕ)
+bytes_of_blob blob = option_map (λ (found : Blob). found.contents.now) blob
+
+-- the blob stands among these bytes, and behind it what it says up to their end
+abbrev pub StandsIn : List ℕ → Blob → Type 0
+StandsIn bytes blob =
+    (front : List ℕ) × (bytes ≡ front ++ (blob.contents.now ++ blob.behind.now))

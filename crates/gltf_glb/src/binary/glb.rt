@@ -1,12 +1,15 @@
 //! The two parts of a GLB container.
-ghost use Rattle.std.specs.Prelude.{◌≡◌, OnOk, IfOk, IfErr, IfSome, OnErr};
-ghost use Rattle.std.specs.Prelude.{option_copied, option_map};
+ghost use Rattle.std.specs.Prelude.{◌≡◌, ◌≤◌, ◌+◌, length, take, drop, OnOk, IfOk, IfErr, IfSome};
+ghost use Rattle.std.specs.Prelude.{OnErr, Ok, vec_capacity};
 ghost use Rattle.std.specs.Cow.{cow_slice_items, IsBorrowedSlice};
-ghost use Rattle.gltf_glb.specs.Glb.{items_of, IsReadFrom, Refuses, IsCopy, IsWritten};
+ghost use Rattle.gltf_glb.specs.Glb.{items_of, IsReadFrom, Refuses, IsCopy, IsWritten, HasRoom};
 ghost use Rattle.gltf_glb.specs.Glb.{RefusesToWrite, IsTakenFrom, RefusesOrRunsOut};
+ghost use Rattle.gltf_glb.specs.Reading.{IsReadingOf};
+ghost use Rattle.gltf_glb.specs.Steps.{IsHeader, bytes_of_blob, StandsIn};
 ghost use Rattle.gltf_glb.specs.Reader.{ReadsContainer};
 ghost use Rattle.gltf_glb.specs.Writer.{WritesContainer, RefusesToWriteTo};
 
+use crate::binary::reading::Blob;
 use crate::binary::{Header, read_bytes, reading, writing};
 use crate::error::{Error, Result};
 use std::alloc::{AllocError, Global};
@@ -37,24 +40,40 @@ impl<'a> Glb<'a> {
         ensures parts { IfOk result (IsReadFrom bytes.now) }
         ensures fault { IfErr result (Refuses bytes.now) }
     {
-        let (header, body) = reading::header_of(bytes)?;
-        let (json, bin) = reading::parts_of(body)?;
+        let (header, json, blob) = parts_of(bytes)?;
         Ok(Glb {
             header,
             json: CowSlice::Borrowed(json),
-            bin: lent(bin),
+            bin: lent(blob),
         })
     }
 
-    /// The same of bytes that are given up: both parts are owned.
+    /// The same of bytes that are given up: both parts are owned. The binary buffer is handed on in
+    /// the room that the bytes had; memory is taken for the JSON alone.
     ///
     /// Answers [`Error::Binary`] with the one fault that the bytes have, or [`Error::Memory`].
     pub fn from_vec(alloc: Global, bytes: Vec<u8>) -> Result<Glb<'static>>
         ensures parts { IfOk result (IsTakenFrom bytes.items) }
+        ensures moved { IfOk result (λ glb. IfSome glb.bin (HasRoom (vec_capacity bytes))) }
         ensures fault { IfErr result (RefusesOrRunsOut bytes.items) }
     {
-        let glb = Glb::from_slice(&bytes)?;
-        owned(alloc, &glb)
+        let (header, json, blob) = parts_of(&bytes)?;
+        let json = CowSlice::Owned(Vec::from_slice(alloc, json)?);
+        let Some(Blob { contents, behind }) = blob else {
+            return Ok(Glb {
+                header,
+                json,
+                bin: None,
+            });
+        };
+        let count = contents.len();
+        let at = header.length as usize - behind.len() - count;
+        let bin = CowSlice::Owned(cut_out(bytes, at, count));
+        Ok(Glb {
+            header,
+            json,
+            bin: Some(bin),
+        })
     }
 
     /// The parts of the container that a reader gives, both owned. It is read up to the length that
@@ -140,34 +159,38 @@ impl<'a> Glb<'a> {
     }
 }
 
-/// The same parts, both owned.
-fn owned(alloc: Global, glb: &Glb<'_>) -> Result<Glb<'static>>
-    ensures ok { IfOk result (IsCopy glb.now) }
-    ensures err { IfErr result (λ e. e ≡ Error.Memory) }
+/// The header, the JSON and the binary buffer of the container that the bytes are.
+fn parts_of(bytes: &[u8]) -> Result<(Header, &[u8], Option<Blob<'_>>)>
+    ensures parts { IfOk result (λ parts. IsReadingOf bytes.now
+        (Ok (parts.1.now, bytes_of_blob parts.2))) }
+    ensures header { IfOk result (λ parts. IsHeader bytes.now parts.0) }
+    ensures declared { IfOk result (λ parts. parts.0.length ≤ length bytes.now) }
+    ensures place { IfOk result (λ parts. IfSome parts.2
+        (StandsIn (take parts.0.length bytes.now))) }
+    ensures fault { IfErr result (Refuses bytes.now) }
 {
-    let json = owned_part(alloc, &glb.json)?;
-    let bin = match &glb.bin {
-        Some(bin) => Some(owned_part(alloc, bin)?),
-        None => None,
-    };
-    Ok(Glb {
-        header: glb.header,
-        json,
-        bin,
-    })
+    let (header, body) = reading::header_of(bytes)?;
+    let (json, blob) = reading::parts_of(body)?;
+    Ok((header, json, blob))
 }
 
-fn owned_part(alloc: Global, part: &CowSlice<'_, u8>) -> Result<CowSlice<'static, u8>, AllocError>
-    ensures { IfOk result (λ copy. cow_slice_items copy ≡ cow_slice_items part.now) }
+/// So many of the bytes from a place on, in the room that all had.
+fn cut_out(bytes: Vec<u8>, at: usize, count: usize) -> Vec<u8>
+    requires { at + count ≤ length bytes.items }
+    ensures items { result.items ≡ take count (drop at bytes.items) }
+    ensures room { vec_capacity result ≡ vec_capacity bytes }
 {
-    Ok(CowSlice::Owned(Vec::from_slice(alloc, part.as_slice())?))
+    let mut bytes = bytes;
+    bytes.copy_within(at..at + count, 0);
+    bytes.truncate(count);
+    bytes
 }
 
-fn lent(part: Option<&[u8]>) -> Option<CowSlice<'_, u8>>
-    ensures items { items_of result ≡ option_copied part.entry }
+fn lent(blob: Option<Blob<'_>>) -> Option<CowSlice<'_, u8>>
+    ensures items { items_of result ≡ bytes_of_blob blob.entry }
     ensures lent { IfSome result IsBorrowedSlice }
 {
-    part.map(|part| CowSlice::Borrowed(part))
+    blob.map(|blob| CowSlice::Borrowed(blob.contents))
 }
 
 fn copy_of<'a>(alloc: Global, part: &CowSlice<'a, u8>) -> Result<CowSlice<'a, u8>, AllocError>

@@ -1,10 +1,11 @@
 //! A container out of bytes: the header, the JSON chunk, and what stands behind it.
 ghost use Rattle.std.specs.Prelude.{◌≡◌, ◌≤◌, ◌+◌, length, None, Some, Ok, Err, MatchResult};
-ghost use Rattle.std.specs.Prelude.{option_copied, Result};
+ghost use Rattle.std.specs.Prelude.{IfOk, IfSome, Result};
 ghost use Rattle.gltf_glb.specs.Bytes.{word_at, tag_at};
 ghost use Rattle.gltf_glb.specs.Faults.{Short, type_of, later_fault, json_fault, header_fault};
 ghost use Rattle.gltf_glb.specs.Container.{Later, IsBody, HasBodyFault};
 ghost use Rattle.gltf_glb.specs.Steps.{fault_of, IsNext, CutsJson, CutsHeader};
+ghost use Rattle.gltf_glb.specs.Steps.{bytes_of_blob, StandsIn};
 
 use crate::binary::{ChunkType, Error, Header};
 use byteorder::{ByteOrder, LittleEndian};
@@ -88,15 +89,23 @@ pub(crate) fn header_of(bytes: &[u8]) -> Result<(Header, &[u8]), Error>
     Ok((header, body))
 }
 
+/// The bytes of a BIN chunk, and what stands behind them up to the declared end.
+#[derive(Clone, Copy)]
+pub(crate) struct Blob<'a> {
+    pub(crate) contents: &'a [u8],
+    pub(crate) behind: &'a [u8],
+}
+
 /// The two parts of what stands between the header and the declared end.
-pub(crate) fn parts_of(body: &[u8]) -> Result<(&[u8], Option<&[u8]>), Error>
-    ensures { MatchResult result
-        (λ parts. IsBody body.now parts.0.now (option_copied parts.1))
+pub(crate) fn parts_of(body: &[u8]) -> Result<(&[u8], Option<Blob<'_>>), Error>
+    ensures parts { MatchResult result
+        (λ parts. IsBody body.now parts.0.now (bytes_of_blob parts.1))
         (λ e. HasBodyFault body.now (fault_of e)) }
+    ensures place { IfOk result (λ parts. IfSome parts.1 (StandsIn body.now)) }
 {
     let (json, left) = json_of(body)?;
-    let bin = bin_of(left)?;
-    Ok((json, bin))
+    let blob = blob_of(left)?;
+    Ok((json, blob))
 }
 
 /// The bytes of the JSON chunk, and what stands behind it.
@@ -131,16 +140,17 @@ fn json_of(body: &[u8]) -> Result<(&[u8], &[u8]), Error>
 
 /// The BIN chunk among the chunks behind the JSON chunk: those of unknown type are skipped.
 #[tactic(auto, using(crate::proofs::Chunks::later_here, crate::proofs::Chunks::later_skip))]
-fn bin_of(chunks: &[u8]) -> Result<Option<&[u8]>, Error>
-    ensures { MatchResult result
-        (λ bin. Later chunks.now (Ok (option_copied bin)))
+fn blob_of(chunks: &[u8]) -> Result<Option<Blob<'_>>, Error>
+    ensures later { MatchResult result
+        (λ blob. Later chunks.now (Ok (bytes_of_blob blob)))
         (λ e. Later chunks.now (Err (fault_of e))) }
+    ensures place { IfOk result (λ blob. IfSome blob (StandsIn chunks.now)) }
 {
     let mut left = chunks;
     'chunks: loop {
         match next_of(left)? {
             Next::End => return Ok(None),
-            Next::Bin(bin) => return Ok(Some(bin)),
+            Next::Bin(blob) => return Ok(Some(blob)),
             Next::Skip(rest) => left = rest,
         }
     }
@@ -150,8 +160,8 @@ fn bin_of(chunks: &[u8]) -> Result<Option<&[u8]>, Error>
 enum Next<'a> {
     /// No chunk is left.
     End,
-    /// A BIN chunk of these bytes.
-    Bin(&'a [u8]),
+    /// A BIN chunk.
+    Bin(Blob<'a>),
     /// A chunk of unknown type, and what stands behind it.
     Skip(&'a [u8]),
 }
@@ -182,8 +192,8 @@ fn next_of(left: &[u8]) -> Result<Next<'_>, Error>
                     length_read: contents.len(),
                 });
             }
-            let (bin, _) = contents.split_at(length as usize);
-            Ok(Next::Bin(bin))
+            let (contents, behind) = contents.split_at(length as usize);
+            Ok(Next::Bin(Blob { contents, behind }))
         }
         None => {
             if is_long {
