@@ -1,45 +1,21 @@
-//! A document and the bytes of its buffers, from the bytes of a file.
+//! The layers of a document over bytes that are lent.
 ghost use Rattle.std.specs.Prelude.{◌≡◌, ◌≢◌, ℕ, List, Option, IfOk, IfErr};
 ghost use Rattle.std.specs.Cow.{cow_slice_items};
 ghost use Rattle.gltf_glb.specs.Glb.{items_of};
 ghost use Rattle.gltf_glb.specs.declared.error.Error.TheVariants.{Memory};
 ghost use Rattle.gltf.specs.Errors.{OutOfMemoryOr};
-ghost use Rattle.gltf.specs.Import.{AreParts, IsDocument, IsValidDocument, Accepts};
-ghost use Rattle.gltf.specs.Import.{IsOnlyDocument, IsOnlyImport, IsNoDocument, IsNoValidDocument};
-ghost use Rattle.gltf.specs.Import.{IsNotAccepted, RefusesContainer, RefusesRecords};
-ghost use Rattle.gltf.specs.Import.{RefusesDocument, RefusesImport};
-ghost use Rattle.gltf.specs.Shown.{blob_bytes, bytes_of_each};
+ghost use Rattle.gltf.specs.Import.{AreParts, IsDocument, IsValidDocument};
+ghost use Rattle.gltf.specs.Import.{IsOnlyDocument, IsNoDocument, IsNoValidDocument};
+ghost use Rattle.gltf.specs.Import.{RefusesContainer, RefusesRecords, RefusesDocument};
+ghost use Rattle.gltf.specs.Shown.{blob_bytes};
 
-use crate::buffer::{Data, read_buffers};
 use crate::document::{Document, RawDocument};
 use gltf_glb::{Glb, Result};
-use gltf_json::laws::what_shows_the_same_is_alike_in_each_member;
 use gltf_json::root::Root;
 use gltf_json_deserialize::deserialize;
 use gltf_rules::laws::what_shows_the_same_breaks_the_same_rules;
 use std::alloc::Global;
 use std::borrow::CowSlice;
-
-/// The document and the bytes of its buffers, by index, from the bytes of a file: a GLB container
-/// where they begin with `glTF`, else JSON text (glTF 2.0, sections 2.8, 3.6.1 and 4.4).
-///
-/// The bytes are accepted exactly where the container, the text, the records, the rules and the
-/// buffers hold; the error is that of the first of these that does not. No name is asked for: a URI
-/// that leads outside is [`gltf_glb::Error::ExternalReferenceInSliceImport`].
-pub fn import_slice(alloc: Global, bytes: &[u8]) -> Result<(Document, Vec<Data>)>
-    ensures accepted { IfOk result (λ read. Accepts bytes.now read.0
-        (bytes_of_each read.1.items)) }
-    ensures only { IfOk result (λ read. IsOnlyImport bytes.now read.0
-        (bytes_of_each read.1.items)) }
-    ensures refused { IfErr result (OutOfMemoryOr (RefusesImport bytes.now)) }
-    ensures exact { IfErr result (λ e. e ≢ Memory → IsNotAccepted bytes.now) }
-{
-    // A law that the proof stands on; the call does nothing.
-    what_shows_the_same_is_alike_in_each_member();
-    let (document, blob) = document_of(alloc, bytes)?;
-    let data = read_buffers(alloc, &document.as_json().buffers, blob)?;
-    Ok((document, data))
-}
 
 /// The document, and the blob.
 pub(crate) fn document_of(alloc: Global, bytes: &[u8]) -> Result<(Document, Option<Vec<u8>>)>
