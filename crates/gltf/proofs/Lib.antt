@@ -1,7 +1,8 @@
 pub mod Answered
-pub mod Buffers
 pub mod Parts
 pub mod Layers
 pub mod Once
+pub mod WithBuffers
+pub mod Files
 pub mod Readers
 mod Imported

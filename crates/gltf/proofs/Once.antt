@@ -1,7 +1,7 @@
 -- That bytes are imported in one way, and not refused as well.
 use Rattle.std.proofs.Common.{ℕ, ◌≡◌, ◌≢◌, ◌<◌, List, [], ◌∷◌, length, map, get_or, refl, sym, ◌∙◌}
-use Rattle.std.proofs.Common.{ap, arith, inl, inr, Result, Ok}
-use Rattle.std.specs.Prelude.{Option}
+use Rattle.std.proofs.Common.{ap, arith, inl, inr, Result, Ok, Err}
+use Rattle.std.specs.Prelude.{Option, Some, None, slice_get}
 use Rattle.std.proofs.lemmas.Option.{slice_get_cases}
 use Rattle.std.proofs.lemmas.List.{ext_get_or}
 use Rattle.gltf_glb.specs.declared.error.Error.{Error}
@@ -11,12 +11,17 @@ use Rattle.gltf_json_geometry.specs.declared.buffer.Buffer.{Buffer}
 use Rattle.gltf_json.specs.Alike.{AreAlikeInEachMember}
 use Rattle.gltf_json.specs.Documents.{root}
 use Rattle.gltf_json.specs.declared.root.Root.{Root}
-use Rattle.gltf.specs.Buffers.{Source, BufferFault, source_of, sources_of, bytes_of, blob_for}
-use Rattle.gltf.specs.Buffers.{AreBytes, HasBufferFault}
-use Rattle.gltf.specs.Errors.{OutOfMemoryOr, NamesFault}
-use Rattle.gltf.specs.Import.{IsOnlyDocument, IsOnlyImport, IsNotAccepted}
-use Rattle.gltf.proofs.Answered.{told_other}
-use Rattle.gltf.proofs.Buffers.{inside, names_more}
+use Rattle.gltf_names.specs.Named.{Named}
+use Rattle.gltf_uri.specs.Uri.{Meaning, uri_of}
+use Rattle.gltf_uri.specs.Uri as uri
+use Rattle.gltf_buffers.specs.Buffers.{Source, BufferFault, source_of, sources_of, bytes_outside}
+use Rattle.gltf_buffers.specs.Buffers.{meant_bytes, raw_bytes, filled_bytes, checked_bytes}
+use Rattle.gltf_buffers.specs.Buffers.{bytes_of, name_at, IsBytesOf, blob_for, AreBytes}
+use Rattle.gltf_buffers.specs.Buffers.{HasBufferFault, IsAskedFor}
+use Rattle.gltf_buffers.specs.Errors.{FailsOrNames, NamesFault}
+use Rattle.gltf_buffers.specs.Names.{Names, Nowhere, Anywhere, Held, AreKnown, MayBeGiven, name_of}
+use Rattle.gltf.specs.Files.{IsNoFailure}
+use Rattle.gltf.specs.Import.{IsOnlyDocument, IsOnlyImportWith, IsNotAcceptedWith}
 
 -- ---- what documents that show the same say of their buffers
 
@@ -45,29 +50,85 @@ sources_alike r s same = map_through buffer.content source_seen source_of r.buff
 
 -- ---- the bytes of buffers
 
-no_fault : (sources : List Source) (blob : Option (List ℕ)) (buffers : List (List ℕ))
-    (fault : BufferFault) → AreBytes sources blob (length sources) buffers
-    → HasBufferFault sources blob fault → ⊥
-no_fault sources blob buffers fault all wrong =
+-- what may have been given for one name is one thing, where names are known
+meant_alike : (names : Names) (meaning : Meaning) (g h : Option (List ℕ)) → AreKnown names
+    → MayBeGiven names (name_of meaning) g → MayBeGiven names (name_of meaning) h
+    → meant_bytes g meaning ≡ meant_bytes h meaning
+meant_alike names (uri.Payload text) g h known p q = refl
+meant_alike names uri.Unsupported g h known p q = refl
+meant_alike Nowhere (uri.File text) g h known p q = ap bytes_outside (p ∙ sym q)
+meant_alike Nowhere (uri.Relative text) g h known p q = ap bytes_outside (p ∙ sym q)
+meant_alike Anywhere (uri.File text) g h known p q = absurd known
+meant_alike Anywhere (uri.Relative text) g h known p q = absurd known
+meant_alike (Held holds) (uri.File text) g h known p q = ap bytes_outside (sym p.1 ∙ q.1)
+meant_alike (Held holds) (uri.Relative text) g h known p q = ap bytes_outside (sym p.1 ∙ q.1)
+
+raw_alike : (names : Names) (blob uri : Option (List ℕ)) (g h : Option (List ℕ))
+    → AreKnown names → MayBeGiven names (name_at uri) g → MayBeGiven names (name_at uri) h
+    → raw_bytes g blob uri ≡ raw_bytes h blob uri
+raw_alike names blob None g h known p q = refl
+raw_alike names blob (Some text) g h known p q = meant_alike names (uri_of text) g h known p q
+
+-- a buffer's bytes, or its fault, are one thing
+one_bytes : (names : Names) (blob : Option (List ℕ)) (i : ℕ) (source : Source)
+    (x y : Result (List ℕ) BufferFault) → AreKnown names
+    → IsBytesOf names blob i source x → IsBytesOf names blob i source y → x ≡ y
+unfolding bytes_of
+one_bytes names blob i source x y known p q =
+    sym p.is
+    ∙ ap (λ r. checked_bytes i source.declared (filled_bytes r))
+    (raw_alike names blob source.uri p.given q.given known p.may q.may)
+    ∙ q.is
+
+inside : {A : Type 0} (xs : List A) (i : ℕ) (x : A) → slice_get xs i ≡ Some x → i < length xs
+inside xs i x at = elim ((slice_get_cases xs i).1) [
+  | inl found ↦ found.1
+  | inr past ↦ cc (past.1, at)
+]
+
+no_fault : (names : Names) (sources : List Source) (blob : Option (List ℕ))
+    (buffers : List (List ℕ)) (fault : BufferFault) → AreKnown names
+    → AreBytes names sources blob (length sources) buffers
+    → HasBufferFault names sources blob fault → ⊥
+no_fault names sources blob buffers fault known all wrong =
     let there = inside sources wrong.index wrong.source wrong.there in
-    let fine = all.each wrong.index wrong.source there.0 wrong.there in
-    cc (fine, wrong.wrong)
+    let fine = all.each wrong.index wrong.source there wrong.there in
+    let same : Ok (get_or buffers wrong.index []) ≡ Err fault =
+    one_bytes names (blob_for sources blob wrong.index) wrong.index wrong.source
+    (Ok (get_or buffers wrong.index [])) (Err fault) known fine wrong.wrong in
+    cc
 
-none_named : (e : Error) → NamesFault (λ fault. ⊥) e → ⊥
-none_named (error.Base64 fault) told = told
-none_named _ told = told
+none_named : (P : BufferFault → Type 0) (e : Error) → ((fault : BufferFault) → P fault → ⊥)
+    → NamesFault P e → ⊥
+none_named P (error.Base64 fault) none told = none _ told
+none_named P (error.BufferLength i x y) none told = none _ told
+none_named P error.MissingBlob none told = none _ told
+none_named P error.ExternalReferenceInSliceImport none told = none _ told
+none_named P error.UnsupportedScheme none told = none _ told
+none_named P _ none told = told
 
-ok_once : {A E : Type 0} (x : Result A E) (a b : A) → x ≡ Ok a → x ≡ Ok b → a ≡ b
-ok_once x a b p q = cc
+none_fails : (P : BufferFault → Type 0) (Q : Named → Type 0) (old new : List Named) (e : Error)
+    → ((fault : BufferFault) → P fault → ⊥) → e ≢ error.Memory → IsNoFailure e
+    → FailsOrNames P Q old new e → ⊥
+none_fails P Q old new (error.Io cause) none other fine told = fine
+none_fails P Q old new error.Memory none other fine told = other refl
+none_fails P Q old new e none other fine told = none_named P e none told.1
 
-one_read : (sources : List Source) (blob : Option (List ℕ)) (ds es : List (List ℕ))
-    → AreBytes sources blob (length sources) ds → AreBytes sources blob (length sources) es
+ok_once : {A E : Type 0} (a b : A) → (let one : Result A E = Ok a in one ≡ Ok b) → a ≡ b
+ok_once a b e = cc
+
+one_read : (names : Names) (sources : List Source) (blob : Option (List ℕ))
+    (ds es : List (List ℕ)) → AreKnown names
+    → AreBytes names sources blob (length sources) ds
+    → AreBytes names sources blob (length sources) es
     → (k : ℕ) → k < length ds → get_or ds k [] ≡ get_or es k []
-one_read sources blob ds es x y k l =
+one_read names sources blob ds es known x y k l =
     let inside_k : k < length sources = omega (arith, x.count) in
     elim ((slice_get_cases sources k).1) [
-      | inl found ↦ ok_once (bytes_of (blob_for sources blob k) k found.0) (get_or ds k [])
-          (get_or es k []) (x.each k found.0 inside_k found.2) (y.each k found.0 inside_k found.2)
+      | inl found ↦ ok_once {E = BufferFault} (get_or ds k []) (get_or es k [])
+          (one_bytes names (blob_for sources blob k) k found.0 (Ok (get_or ds k []))
+          (Ok (get_or es k [])) known (x.each k found.0 inside_k found.2)
+          (y.each k found.0 inside_k found.2))
       | inr past ↦ absurd (omega (arith, past.0))
     ]
 
@@ -75,34 +136,35 @@ one_read sources blob ds es x y k l =
 
 -- the premises: what is read of the document, and that documents that show the same are alike in
 -- each member
-abbrev Alike : Type 0
+abbrev pub Alike : Type 0
 Alike = (r s : Root) → root.content r ≡ root.content s → AreAlikeInEachMember r s
 
 -- the bytes determine the root, as far as it shows, and the bytes of its buffers
-pub one_import : (bytes : List ℕ) (r : Root) (blob : Option (List ℕ)) (buffers : List (List ℕ))
-    → Alike → IsOnlyDocument bytes r blob
-    → AreBytes (sources_of r) blob (length (sources_of r)) buffers → IsOnlyImport bytes r buffers
-one_import bytes r blob buffers alike only all s others accepted =
+pub one_import : (names : Names) (bytes : List ℕ) (r : Root) (blob : Option (List ℕ))
+    (buffers : List (List ℕ)) → Alike → AreKnown names → IsOnlyDocument bytes r blob
+    → AreBytes names (sources_of r) blob (length (sources_of r)) buffers
+    → IsOnlyImportWith names bytes r buffers
+one_import names bytes r blob buffers alike known only all s others accepted =
     let same = only s accepted.blob accepted.valid.document in
     let sources = sources_alike s r (alike s r same.0) in
-    let again : AreBytes (sources_of r) blob (length (sources_of r)) others =
+    let again : AreBytes names (sources_of r) blob (length (sources_of r)) others =
     rw (sources, same.1) at accepted.data_ in (
       same.0,
       ext_get_or [] others buffers (again.count ∙ sym all.count)
-          (one_read (sources_of r) blob others buffers again all),
+          (one_read names (sources_of r) blob others buffers known again all),
     )
 
 -- where a buffer has a fault, the bytes are not accepted
-pub not_accepted : (bytes : List ℕ) (r : Root) (blob : Option (List ℕ)) (e : Error) → Alike
-    → IsOnlyDocument bytes r blob
-    → OutOfMemoryOr (NamesFault (HasBufferFault (sources_of r) blob)) e → e ≢ error.Memory
-    → IsNotAccepted bytes
-not_accepted bytes r blob e alike only fails other s buffers accepted =
+pub not_accepted : (names : Names) (bytes : List ℕ) (r : Root) (blob : Option (List ℕ))
+    (old new : List Named) (e : Error) → Alike → AreKnown names → IsOnlyDocument bytes r blob
+    → FailsOrNames (HasBufferFault names (sources_of r) blob)
+    (IsAskedFor names (sources_of r) blob) old new e
+    → e ≢ error.Memory → IsNoFailure e → IsNotAcceptedWith names bytes
+not_accepted names bytes r blob old new e alike known only fails other fine s buffers accepted =
     let same = only s accepted.blob accepted.valid.document in
     let sources = sources_alike s r (alike s r same.0) in
-    let all : AreBytes (sources_of r) blob (length (sources_of r)) buffers =
+    let all : AreBytes names (sources_of r) blob (length (sources_of r)) buffers =
     rw (sources, same.1) at accepted.data_ in
-    let P : BufferFault → Type 0 = HasBufferFault (sources_of r) blob in
-    none_named e (names_more P (λ fault. ⊥) e
-    (λ fault wrong. no_fault (sources_of r) blob buffers fault all wrong)
-    (told_other (NamesFault P) e fails other))
+    none_fails (HasBufferFault names (sources_of r) blob) (IsAskedFor names (sources_of r) blob)
+    old new e (λ fault wrong. no_fault names (sources_of r) blob buffers fault known all wrong)
+    other fine fails

@@ -17,8 +17,10 @@ use Rattle.gltf_json.specs.Documents.{root}
 use Rattle.gltf_json.specs.Reading.{Reads, Refuses}
 use Rattle.gltf_json.specs.declared.root.Root.{Root}
 use Rattle.gltf_validation.specs.Documents.{Faults}
-use Rattle.gltf.specs.Buffers.{sources_of, AreBytes, HasBufferFault}
-use Rattle.gltf.specs.Errors.{TellsRules, NamesFault}
+use Rattle.gltf_buffers.specs.Buffers.{sources_of, AreBytes, HasBufferFault}
+use Rattle.gltf_buffers.specs.Errors.{NamesFault}
+use Rattle.gltf_buffers.specs.Names.{Names, Nowhere}
+use Rattle.gltf.specs.Errors.{TellsRules}
 
 -- the JSON text and the blob: those of a container where the bytes begin with `glTF`, else all
 -- bytes and none
@@ -40,10 +42,15 @@ pub record IsValidDocument (bytes : List ℕ) (r : Root) (blob : Option (List �
   pub rules : Faults r ≡ []
 
 -- all five layers hold: r is the root, and these are the bytes of its buffers
-pub record Accepts (bytes : List ℕ) (r : Root) (buffers : List (List ℕ)) : Type 0 where
+pub record AcceptsWith (names : Names) (bytes : List ℕ) (r : Root) (buffers : List (List ℕ))
+    : Type 0 where
   pub blob : Option (List ℕ)
   pub valid : IsValidDocument bytes r blob
-  pub data_ : AreBytes (sources_of r) blob (length (sources_of r)) buffers
+  pub data_ : AreBytes names (sources_of r) blob (length (sources_of r)) buffers
+
+-- the same where no name can be asked for
+abbrev pub Accepts : List ℕ → Root → List (List ℕ) → Type 0
+Accepts bytes r buffers = AcceptsWith Nowhere bytes r buffers
 
 -- the bytes begin with `glTF` and are no container; the error names their one fault
 pub record RefusesContainer (bytes : List ℕ) (e : Error) : Type 0 where
@@ -70,11 +77,15 @@ pub record RefusesRules (bytes : List ℕ) (e : Error) : Type 0 where
   pub fails : TellsRules root e
 
 -- container, text, records and rules hold; the error names the fault of the first buffer with one
-pub record RefusesBuffers (bytes : List ℕ) (e : Error) : Type 0 where
+pub record RefusesBuffersWith (names : Names) (bytes : List ℕ) (e : Error) : Type 0 where
   pub root : Root
   pub blob : Option (List ℕ)
   pub valid : IsValidDocument bytes root blob
-  pub fails : NamesFault (HasBufferFault (sources_of root) blob) e
+  pub fails : NamesFault (HasBufferFault names (sources_of root) blob) e
+
+-- the same where no name can be asked for
+abbrev pub RefusesBuffers : List ℕ → Error → Type 0
+RefusesBuffers bytes e = RefusesBuffersWith Nowhere bytes e
 
 -- the container does not hold, or the text or the records in it do not
 abbrev pub RefusesRecords : List ℕ → Error → Type 0
@@ -85,8 +96,12 @@ abbrev pub RefusesDocument : List ℕ → Error → Type 0
 RefusesDocument bytes e = RefusesRecords bytes e ⊎ RefusesRules bytes e
 
 -- one of these does not hold, or the buffers do not
+abbrev pub RefusesImportWith : Names → List ℕ → Error → Type 0
+RefusesImportWith names bytes e = RefusesDocument bytes e ⊎ RefusesBuffersWith names bytes e
+
+-- the same where no name can be asked for
 abbrev pub RefusesImport : List ℕ → Error → Type 0
-RefusesImport bytes e = RefusesDocument bytes e ⊎ RefusesBuffers bytes e
+RefusesImport bytes e = RefusesImportWith Nowhere bytes e
 
 -- of no other root can these bytes be the document, but for how it lies in memory, and of no other
 -- blob
@@ -95,9 +110,13 @@ IsOnlyDocument bytes r blob = (s : Root) (other : Option (List ℕ)) → IsDocum
     → (root.content s ≡ root.content r) × (other ≡ blob)
 
 -- the same of the root and the bytes of its buffers
-abbrev pub IsOnlyImport : List ℕ → Root → List (List ℕ) → Type 0
-IsOnlyImport bytes r buffers = (s : Root) (others : List (List ℕ)) → Accepts bytes s others
+abbrev pub IsOnlyImportWith : Names → List ℕ → Root → List (List ℕ) → Type 0
+IsOnlyImportWith names bytes r buffers =
+    (s : Root) (others : List (List ℕ)) → AcceptsWith names bytes s others
     → (root.content s ≡ root.content r) × (others ≡ buffers)
+
+abbrev pub IsOnlyImport : List ℕ → Root → List (List ℕ) → Type 0
+IsOnlyImport bytes r buffers = IsOnlyImportWith Nowhere bytes r buffers
 
 abbrev pub IsNoDocument : List ℕ → Type 0
 IsNoDocument bytes = (s : Root) (blob : Option (List ℕ)) → IsDocument bytes s blob → ⊥
@@ -105,5 +124,9 @@ IsNoDocument bytes = (s : Root) (blob : Option (List ℕ)) → IsDocument bytes 
 abbrev pub IsNoValidDocument : List ℕ → Type 0
 IsNoValidDocument bytes = (s : Root) (blob : Option (List ℕ)) → IsValidDocument bytes s blob → ⊥
 
+abbrev pub IsNotAcceptedWith : Names → List ℕ → Type 0
+IsNotAcceptedWith names bytes =
+    (s : Root) (buffers : List (List ℕ)) → AcceptsWith names bytes s buffers → ⊥
+
 abbrev pub IsNotAccepted : List ℕ → Type 0
-IsNotAccepted bytes = (s : Root) (buffers : List (List ℕ)) → Accepts bytes s buffers → ⊥
+IsNotAccepted bytes = IsNotAcceptedWith Nowhere bytes

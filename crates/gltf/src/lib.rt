@@ -4,12 +4,13 @@
 pub mod buffer;
 mod document;
 mod file;
-mod import;
+mod imports;
 mod items;
 pub mod iter;
 pub mod json;
 pub mod khr_materials_variants;
 mod reading;
+mod slice;
 pub mod texture;
 
 pub use accessor::Accessor;
@@ -27,7 +28,9 @@ pub use gltf_read::{animation, mesh, skin};
 pub use gltf_rules::{Refused, Valid};
 pub use gltf_scene::scene;
 pub use image::Image;
-pub use import::import_slice;
+pub use imports::{
+    base_of, import, import_buffers, import_buffers_from, import_from, import_slice,
+};
 pub use items::{imported_items, read_items};
 pub use material::Material;
 pub use mesh::{Attribute, Mesh, Primitive, Semantic};

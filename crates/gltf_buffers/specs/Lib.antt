@@ -1,0 +1,4 @@
+pub mod Names
+pub mod Buffers
+pub mod Errors
+pub mod Shown

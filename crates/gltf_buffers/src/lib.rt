@@ -1,0 +1,12 @@
+//! The bytes of the buffers of a document: what their URIs hold or name, or the blob, with zeros
+//! behind them (glTF 2.0, section 3.6.1, "Buffers and Buffer Views").
+#![tactic(auto)]
+
+mod asking;
+mod data;
+mod reading;
+mod reference;
+
+pub use asking::{Ask, NoNames};
+pub use data::Data;
+pub use reading::read_buffers;

@@ -1,0 +1,81 @@
+//! The bytes of all buffers of a document.
+ghost use Rattle.std.specs.Prelude.{◌≡◌, Ok, Err, IfOk, IfErr, OnOk, is_some, None, map, length};
+ghost use Rattle.std.specs.Prelude.{if◌then◌else◌, option_copied};
+ghost use Rattle.gltf_buffers.specs.Buffers.{IsBytesOf, LeadsTo, source_of, AreBytes};
+ghost use Rattle.gltf_buffers.specs.Buffers.{HasBufferFault, IsAskedFor};
+ghost use Rattle.gltf_buffers.specs.Errors.{FailsOrNames};
+ghost use Rattle.gltf_buffers.specs.Shown.{blob_bytes, bytes_of_each};
+
+use crate::asking::Ask;
+use crate::data::Data;
+use crate::reference::data_of;
+use gltf_glb::{Error, Result};
+use gltf_json::buffer;
+use std::alloc::Global;
+
+/// The bytes of all buffers, by index; the first one without URI is the blob (glTF 2.0, section
+/// 3.6.1.2).
+///
+/// The error is that of the first buffer that has one: that of [`Data::from_source_and_blob`], or
+/// [`Error::BufferLength`] where there are fewer bytes than the buffer declares, the zeros counted.
+pub fn read_buffers<N: Ask>(
+    alloc: Global,
+    buffers: &[buffer::Buffer],
+    names: &mut N,
+    blob: Option<Vec<u8>>,
+) -> Result<Vec<Data>>
+    ensures ok { IfOk result (λ all. AreBytes (N.names names.old) (map source_of buffers.now)
+        (blob_bytes blob) (length (map source_of buffers.now)) (bytes_of_each all.items)) }
+    ensures err { IfErr result (FailsOrNames
+        (HasBufferFault (N.names names.old) (map source_of buffers.now) (blob_bytes blob))
+        (IsAskedFor (N.names names.old) (map source_of buffers.now) (blob_bytes blob))
+        (N.failures names.old) (N.failures names.new)) }
+    ensures fine { OnOk result (N.failures names.new ≡ N.failures names.old) }
+    ensures kept { N.names names.new ≡ N.names names.old }
+{
+    let mut left = blob;
+    let mut all = Vec::new(alloc);
+    'buffers: for (index, buffer) in buffers.iter().enumerate() {
+        let data = read_buffer(alloc, index, buffer, names, &mut left)?;
+        all.push(data)?;
+    }
+    Ok(all)
+}
+
+/// The bytes of one buffer.
+#[tactic(auto, unfolding(crate::specs::Buffers::bytes_of))]
+fn read_buffer<N: Ask>(
+    alloc: Global,
+    index: usize,
+    buffer: &buffer::Buffer,
+    names: &mut N,
+    blob: &mut Option<Vec<u8>>,
+) -> Result<Data>
+    ensures ok { IfOk result (λ read. IsBytesOf (N.names names.old) (blob_bytes blob.old) index
+        (source_of buffer.now) (Ok read.0.items)) }
+    ensures err { IfErr result (FailsOrNames (λ f. IsBytesOf (N.names names.old)
+        (blob_bytes blob.old) index (source_of buffer.now) (Err f))
+        (LeadsTo (N.names names.old) (source_of buffer.now).uri)
+        (N.failures names.old) (N.failures names.new)) }
+    ensures fine { OnOk result (N.failures names.new ≡ N.failures names.old) }
+    ensures kept { N.names names.new ≡ N.names names.old }
+    ensures blob { OnOk result (blob_bytes blob.new
+        ≡ (if is_some (source_of buffer.now).uri then blob_bytes blob.old else None)) }
+{
+    let data = data_of(alloc, uri_of(buffer), names, blob)?;
+    if (data.0.len() as u64) < buffer.byte_length {
+        return Err(Error::BufferLength {
+            buffer: index,
+            expected: buffer.byte_length as usize,
+            actual: data.0.len(),
+        });
+    }
+    Ok(data)
+}
+
+/// The URI of a buffer.
+fn uri_of(buffer: &buffer::Buffer) -> Option<&str>
+    ensures { option_copied result ≡ (source_of buffer.now).uri }
+{
+    buffer.uri.as_deref()
+}
