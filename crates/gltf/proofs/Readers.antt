@@ -67,7 +67,7 @@ names_whole came cause decides = decides
 whole_container : (left : Option (List ℕ)) (came : List ℕ) → starts_with nat_eq came magic ≡ true
     → IsAllThatCounts left came → IsWhole came
 whole_container left came begins all =
-    subst (λ t. MatchBool t (IsWhole came) (IsAtEnd left)) begins all
+    subst (λ t. MatchBool t (IsWhole came) (IsAtEnd left)) begins all.1
 
 -- ---- the answers
 
@@ -152,8 +152,10 @@ all_of_some false W E all = tt
 
 all_unknown : (left : Option (List ℕ)) (came : List ℕ) → IsAllThatCounts left came
     → IsAllThatCounts None came
-all_unknown left came all =
-    all_of_some (starts_with nat_eq came magic) (IsWhole came) (IsAtEnd left) all
+all_unknown left came all = (
+  all.0,
+  all_of_some (starts_with nat_eq came magic) (IsWhole came) (IsAtEnd left) all.1,
+)
 
 told_unknown : (P : List ℕ → Error → Type 0) (left : Option (List ℕ)) (came : List ℕ) (e : Error)
     → StopsReadingOr P left came e → StopsReadingOr P None came e

@@ -19,10 +19,11 @@ pub record Gives (before after : Option (List ℕ)) (Answer : List ℕ → Type 
   pub within : starts_with nat_eq came magic ≡ true → length came ≤ needed_length came
   pub answer : Answer came
 
--- of a container as many bytes came as it declares, of plain text all up to the reader's end
+-- four bytes came or more: of a container as many as it declares, of plain text all up to the
+-- reader's end
 abbrev pub IsAllThatCounts : Option (List ℕ) → List ℕ → Type 0
 IsAllThatCounts left came =
-    MatchBool (starts_with nat_eq came magic) (IsWhole came) (IsAtEnd left)
+    (4 ≤ length came) × MatchBool (starts_with nat_eq came magic) (IsWhole came) (IsAtEnd left)
 
 -- fewer than four bytes came, or they are plain text
 abbrev pub IsNoContainer : List ℕ → Type 0
