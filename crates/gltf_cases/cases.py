@@ -42,8 +42,8 @@ HERE = pathlib.Path(__file__).resolve().parent
 EXAMPLES = HERE.parent.parent / "examples"
 # The tables in the order in which the program reads them.
 TABLES = """containers imports faults rules documents geometry meshes materials scenes animations
-    items walks iterators lists looks surfaces primitives nodes channels uris payloads repacked
-    examples memory""".split()
+    items walks iterators lists looks surfaces primitives nodes channels reads uris payloads
+    repacked examples memory""".split()
 FILES = ("box.glb", "triangle.gltf", "dangling.gltf")
 BYTES = r'"([^"]*)"|(\d+)\.(?!\S)|([0-9A-Fa-f]{2})×(\d+)|([0-9A-Fa-f]+)|\S+'
 # Lines at the margin, and lines below them that are not.

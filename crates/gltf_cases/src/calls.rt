@@ -100,7 +100,9 @@ fn of_one(alloc: Global, asked: Asked<'_>, bytes: &[u8], line: &mut String) -> W
             line,
         ),
         "read" => items::read(alloc, asked, bytes, line),
-        "import" | "check" | "walk" => tell(alloc, asked, import_slice(alloc, bytes), line),
+        "import" | "check" | "walk" | "readers" | "cast" => {
+            tell(alloc, asked, import_slice(alloc, bytes), line)
+        }
         _ => tell(alloc, asked, Gltf::from_slice(alloc, bytes), line),
     }
 }

@@ -1,8 +1,8 @@
 //! What a line tells of an import.
 use crate::asked::Asked;
-use crate::items;
 use crate::members::write_member;
 use crate::told::{Told, Written};
+use crate::{items, reads};
 use gltf::Document;
 use gltf::buffer::Data;
 use gltf::json::Root;
@@ -13,10 +13,13 @@ impl Told for (Document, Vec<Data>) {
     ///
     /// - `check`: how much there is.
     /// - `walk TYPE INDEX STEP..`: what a walk over the items of an accessor answers.
+    /// - `readers SET` and `cast READER CALL..`: what readers give, and what is cast of that.
     fn tell(&self, alloc: Global, asked: Asked<'_>, line: &mut String) -> Written {
         match asked.call {
             "check" => check(self.0.as_json(), &self.1, line),
             "walk" => items::walked(alloc, asked, &self.0, &self.1, line),
+            "readers" => reads::write_reads(&self.0, &self.1, asked, line),
+            "cast" => reads::write_casts(&self.0, &self.1, asked, line),
             _ if asked.words.is_empty() => write!(line, "{:?}", self.1),
             _ => write_member(self.0.as_json(), asked.words, line),
         }

@@ -66,6 +66,6 @@ fn write_scene(document: &Document, asked: Asked<'_>, line: &mut String) -> Writ
 }
 
 /// The first primitive of the first mesh.
-fn first_primitive(document: &Document) -> Option<Primitive<'_>> {
+pub(crate) fn first_primitive(document: &Document) -> Option<Primitive<'_>> {
     document.meshes().nth(0)?.primitives().nth(0)
 }

@@ -12,6 +12,7 @@ mod items;
 mod iterators;
 mod lists;
 mod members;
+mod reads;
 mod refused;
 mod steps;
 mod told;

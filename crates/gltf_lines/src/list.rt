@@ -51,8 +51,5 @@ where
 
 /// Writes an item of a list.
 fn write_item<T: Shown + Drop>(item: Option<T>, line: &mut String) -> Written {
-    match &item {
-        Some(item) => item.show(line),
-        None => line.push_str("none"),
-    }
+    item.show(line)
 }

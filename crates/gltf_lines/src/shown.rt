@@ -20,6 +20,15 @@ impl Shown for &str {
     }
 }
 
+impl<T: Shown> Shown for Option<T> {
+    fn show(&self, line: &mut String) -> Written {
+        match self {
+            Some(it) => it.show(line),
+            None => line.push_str("none"),
+        }
+    }
+}
+
 /// Writes the name of a getter that is not the first, and what it gives.
 pub(crate) fn write_next<T: Debug + Copy>(name: &str, given: T, line: &mut String) -> Written {
     write!(line, ", {name} {given:?}")
