@@ -2,6 +2,7 @@
 use Rattle.std.proofs.Common.{◌≡◌, ℕ, zero, suc, ◌+◌, ◌≤◌, List, [], ◌∷◌, drop, length, slice_get}
 use Rattle.std.proofs.Common.{Option, Some, None, refl, sym, ap, ◌∙◌, subst, arith}
 use Rattle.std.proofs.lemmas.List.{drop-drop}
+use Rattle.std.proofs.lemmas.Option.{slice_get_past}
 use Rattle.std.proofs.Math.ListN.{drop_of_length-le}
 use Rattle.std.specs.Borrow.{Bor}
 use Rattle.gltf_json_geometry.specs.declared.semantic.Semantic.{Semantic}
@@ -22,13 +23,6 @@ past_end : {A : Type 0} (xs : List A) (i : ℕ) → slice_get xs i ≡ None → 
 past_end [] i none = omega arith
 past_end (x ∷ xs) zero none = absurd cc
 past_end (x ∷ xs) (suc i) none = let shorter : length xs ≤ i = past_end xs i none in omega arith
-
-none_past : {A : Type 0} (xs : List A) (i : ℕ) → length xs ≤ i → slice_get xs i ≡ None
-none_past [] i short = refl
-none_past (x ∷ xs) zero short = absurd (omega arith)
-none_past (x ∷ xs) (suc i) short =
-    let shorter : length xs ≤ i = omega arith in
-    none_past xs i shorter
 
 -- what is given at a number of what is left behind some is given at their sum
 at_behind : (old between : AttributesLeft) (p n : ℕ) (given : Option (Bor Semantic × Accessor))
@@ -69,7 +63,7 @@ none_behind old new i n below h =
       entries =
           h.entries ∙ drop_of_length-le old.entries here
           ∙ sym (drop_of_length-le old.entries there);
-      item = none_past old.entries n past;
+      item = slice_get_past old.entries n past;
     }
 
 pub nth_next : (old new : AttributesLeft) (n : ℕ) (given : Option (Bor Semantic × Accessor))
