@@ -28,13 +28,14 @@ prove:
 install:
 	@python3 tools/install.py
 
-# What costs nothing comes first. The last line is that of rt: `N passed, M failed`.
+# What costs nothing comes first. Behind `rt ci` come the scripts that run the programs which it
+# built. The last line adds up all: `N passed, M failed`.
 test:
 	@tools/copies.sh
 	@python3 crates/gltf_cases/cases.py --check
 	@python3 tools/trust.py
 	@python3 tools/edits.py
-	@rt ci
+	@python3 tools/gate.py
 
 wrong:
 	@tools/wrong.sh $(NAME)

@@ -1,0 +1,60 @@
+"""Makes a container of 100 MB, and runs each call on it: `run.sh` does so, with the folder where
+the programs stand."""
+import os
+import pathlib
+import struct
+import subprocess
+import sys
+
+WORK = pathlib.Path(sys.argv[1])
+RUNS = 7
+BLOB_LENGTH = 99_999_996
+TEXT = (
+    '{"asset":{"version":"2.0"},"buffers":[{"byteLength":%d}],'
+    '"bufferViews":[{"buffer":0,"byteLength":%d}],"accessors":[{"bufferView":0,'
+    '"componentType":5126,"count":%d,"type":"VEC3"}]}'
+) % (BLOB_LENGTH, BLOB_LENGTH, BLOB_LENGTH // 12)
+
+
+def make(path):
+    """A container with a short text and a large blob."""
+    text = TEXT.encode()
+    text += b" " * (-len(text) % 4)
+    blob = bytes(range(1, 253)) * (BLOB_LENGTH // 252 + 1)
+    with open(path, "wb") as file:
+        file.write(b"glTF" + struct.pack("<II", 2, 28 + len(text) + BLOB_LENGTH))
+        file.write(struct.pack("<I", len(text)) + b"JSON" + text)
+        file.write(struct.pack("<I", BLOB_LENGTH) + b"BIN\0" + blob[:BLOB_LENGTH])
+
+
+def run(*words):
+    """What a program writes, and the most memory that it had, in megabytes."""
+    process = subprocess.Popen(words, stdout=subprocess.PIPE, text=True)
+    wrote = process.stdout.read()
+    _, status, usage = os.wait4(process.pid, 0)
+    process.returncode = os.waitstatus_to_exitcode(status)
+    if process.returncode:
+        sys.exit(f"{words} ended with {process.returncode}")
+    return int(wrote.split()[0]) / 1000, usage.ru_maxrss / 1000
+
+
+def tell(name, program, call, path):
+    """The least time of some runs, all of them, and the most memory."""
+    runs = [run(program, call, path) for _ in range(RUNS)]
+    times = sorted(time for time, _ in runs)
+    memory = max(memory for _, memory in runs)
+    print(f"{name:<12}{times[0]:>10.1f} to {times[-1]:.1f} ms{memory:>10.1f} MB")
+
+
+def main():
+    path = os.fspath(WORK / "container.glb")
+    make(path)
+    program = WORK / "crates" / "files_bench" / "out" / "files_bench"
+    for call in ("nothing", "std", "read", "open"):
+        tell(call, program, call, path)
+    cgltf = WORK / "cgltf_bench"
+    if cgltf.exists():
+        tell("cgltf", cgltf, "open", path)
+
+
+main()
