@@ -20,11 +20,14 @@ def make(path):
     """A container with a short text and a large blob."""
     text = TEXT.encode()
     text += b" " * (-len(text) % 4)
-    blob = bytes(range(1, 253)) * (BLOB_LENGTH // 252 + 1)
+    piece = bytes(range(1, 253)) * 4
     with open(path, "wb") as file:
         file.write(b"glTF" + struct.pack("<II", 2, 28 + len(text) + BLOB_LENGTH))
         file.write(struct.pack("<I", len(text)) + b"JSON" + text)
-        file.write(struct.pack("<I", BLOB_LENGTH) + b"BIN\0" + blob[:BLOB_LENGTH])
+        file.write(struct.pack("<I", BLOB_LENGTH) + b"BIN\0")
+        # In pieces, since a program's most memory is told as no less than that of this one.
+        for begin in range(0, BLOB_LENGTH, len(piece)):
+            file.write(piece[: BLOB_LENGTH - begin])
 
 
 def run(*words):
