@@ -166,18 +166,20 @@ def line(gives, targets=2):
     return "; ".join(parts)
 
 
+def accessor(component, dimensions, count, offset=0, **more):
+    """The record of an accessor, whose items stand from an offset on."""
+    code = TYPES[component][0]
+    place = {"bufferView": 0, "byteOffset": offset, "componentType": code}
+    return {**place, "count": count, "type": dimensions, **more}
+
+
 def document(length, accessors, **members):
-    """A file with accessors over so many bytes of its container: of each the type of components,
-    the dimensions, the number of items and the offset of the first."""
-    records = [
-        {"bufferView": 0, "byteOffset": at, "componentType": TYPES[it][0], "count": n, "type": like}
-        for it, like, n, at in accessors
-    ]
+    """A file with accessors over so many bytes of its container."""
     whole = {
         "asset": {"version": "2.0"},
         "buffers": [{"byteLength": length}],
         "bufferViews": [{"buffer": 0, "byteLength": length}],
-        "accessors": records,
+        "accessors": accessors,
         "nodes": [{}],
         **members,
     }
@@ -219,7 +221,7 @@ def kinds():
     for place, kind in enumerate(pairs):
         data = numbered(2 * size_of(*kind), place)
         set_number = (0, 1, 2**32 - 1)[place % 3]
-        file = document(len(data), [(*kind, 2, 0)], **used(lambda _name: 0, set_number))
+        file = document(len(data), [accessor(*kind, 2)], **used(lambda _name: 0, set_number))
 
         def gives(name, table):
             return "none" if name in UNNAMED else read(table, *kind, data)
@@ -244,15 +246,15 @@ def absent():
 
     return [
         (
-            f"readers +{data.hex()} 0 : {document(24, [(*kind, 2, 0)], **bare)}",
+            f"readers +{data.hex()} 0 : {document(24, [accessor(*kind, 2)], **bare)}",
             line(keyframes, targets=0),
         ),
         (
-            f"readers +{data.hex()} 1 : {document(24, [(*kind, 2, 0)], **all_used)}",
+            f"readers +{data.hex()} 1 : {document(24, [accessor(*kind, 2)], **all_used)}",
             line(all_but_colors),
         ),
         (
-            f"readers +{data.hex()} 0 : {document(24, [(*kind, 3, 0)], **all_used)}",
+            f"readers +{data.hex()} 0 : {document(24, [accessor(*kind, 3)], **all_used)}",
             line(lambda _name, _table: "none"),
         ),
     ]
@@ -278,7 +280,7 @@ def apart():
         nonlocal end
         kind = kinds.get(name, ("F32", "VEC3"))
         places[name] = end, kind
-        accessors.append((*kind, 1, end))
+        accessors.append(accessor(*kind, 1, end))
         end += size_of(*kind)
         return len(accessors) - 1
 
@@ -292,6 +294,24 @@ def apart():
         return read(table, *kind, data[at : at + size_of(*kind)])
 
     return f"readers +{data.hex()} 0 : {document(end, accessors, **members)}", line(gives)
+
+
+def replaced():
+    """Cases over a sparse accessor (3.6.2.3): 10 20 30 40, where items 1 and 3 are 7 and 9."""
+    data = struct.pack("<4H2B2x2H", 10, 20, 30, 40, 1, 3, 7, 9)
+    items = struct.pack("<4H", 10, 7, 30, 9)
+    indices = {"bufferView": 0, "byteOffset": 8, "componentType": 5121}
+    sparse = {"count": 2, "indices": indices, "values": {"bufferView": 0, "byteOffset": 12}}
+    accessors = [accessor("U16", "SCALAR", 4, sparse=sparse)]
+    file = document(len(data), accessors, **used(lambda _name: 0, 0))
+
+    def gives(name, table):
+        return "none" if name in UNNAMED else read(table, "U16", "SCALAR", items)
+
+    return [
+        (f"readers +{data.hex()} 0 : {file}", line(gives)),
+        (f"cast +{data.hex()} indices into_u32 : {file}", "into_u32 [10, 7, 30, 9]"),
+    ]
 
 
 # The calls that cast what is read, the type of numbers that they cast to, and how many components a
@@ -316,7 +336,7 @@ CALLS = {
 def cast_case(name, component, dimensions, numbers, calls):
     """A case that casts what is read of an accessor of these numbers."""
     data = b"".join(struct.pack(form(component), it) for it in numbers)
-    accessors = [(component, dimensions, len(numbers) // DIMENSIONS[dimensions], 0)]
+    accessors = [accessor(component, dimensions, len(numbers) // DIMENSIONS[dimensions])]
     if name in OUTPUTS:
         reader = "outputs"
         members = {"animations": animations({name: {"input": 0, "output": 0}})}
@@ -386,4 +406,4 @@ def worked():
     return [(cast_case(*it[:4], call), f"{call} {gives}") for *it, call, gives in WORKED]
 
 
-ROWS = [*kinds(), *absent(), apart(), *casts(), *worked()]
+ROWS = [*kinds(), *absent(), apart(), *replaced(), *casts(), *worked()]
