@@ -43,8 +43,15 @@ EXAMPLES = HERE.parent.parent / "examples"
 # The tables in the order in which the program reads them.
 TABLES = """containers imports faults rules documents geometry meshes materials scenes animations
     items walks iterators lists looks surfaces primitives nodes channels reads uris payloads
-    repacked examples memory""".split()
-FILES = ("box.glb", "triangle.gltf", "dangling.gltf")
+    repacked files examples memory""".split()
+# Of the examples, each under its name without its folder.
+FILES = (
+    "box.glb",
+    "triangle.gltf",
+    "dangling.gltf",
+    "two files/square.gltf",
+    "two files/square data.bin",
+)
 BYTES = r'"([^"]*)"|(\d+)\.(?!\S)|([0-9A-Fa-f]{2})×(\d+)|([0-9A-Fa-f]+)|\S+'
 # Lines at the margin, and lines below them that are not.
 BLOCKS = r"(?m)^(?![ \n#])(.*\n(?:(?![ \n#]).+\n)*)((?: .*\n)*)"
@@ -170,7 +177,8 @@ def files_of(tables):
     if twice:
         raise ValueError(f"told twice: {twice[:3]}")
     files = {path: text.encode() for path, text in {**files, "stdout": stdout}.items()}
-    files.update({f"data/{name}": (EXAMPLES / name).read_bytes() for name in FILES})
+    examples = [EXAMPLES / name for name in FILES]
+    files.update({f"data/{path.name}": path.read_bytes() for path in examples})
     return files, len(cases)
 
 

@@ -1,6 +1,6 @@
 -- What a source of named bytes answers for a file, which may name others (glTF 2.0, sections 2.8
 -- and 3.6.1).
-use Rattle.std.specs.Prelude.{◌≡◌, ◌≢◌, ◌⊎◌, ◌<◌, ◌≤◌, ℕ, List, [], ◌∷◌, ◌++◌, length, take, get_or}
+use Rattle.std.specs.Prelude.{◌≡◌, ◌≢◌, ◌<◌, ◌⊎◌, ℕ, List, [], ◌∷◌, ◌++◌, length, get_or}
 use Rattle.std.specs.Prelude.{Option, None, Some, ⊤}
 use Rattle.gltf_glb.specs.declared.error.Error.{Error}
 use Rattle.gltf_glb.specs.declared.error.Error.TheVariants.{Io, Memory}
@@ -68,8 +68,9 @@ abbrev pub names_behind : {A : Type 0} → Option A → Names
 names_behind None = Nowhere
 names_behind (Some base) = Anywhere
 
--- the text of a path up to and with its last `/`
+-- the text of a path up to and with its last `/`: what is left names a file in that folder
 pub record IsBaseOf (path base : List ℕ) : Type 0 where
-  pub begins : base ≡ take (length base) path
+  pub name : List ℕ
+  pub whole : path ≡ base ++ name
+  pub no_slash : (i : ℕ) → i < length name → get_or name i 0 ≢ 47
   pub ends : (base ≡ []) ⊎ ((front : List ℕ) × (base ≡ front ++ 47 ∷ []))
-  pub last : (i : ℕ) → length base ≤ i → i < length path → get_or path i 0 ≢ 47

@@ -1,5 +1,5 @@
 //! A document and the bytes of its buffers, from the bytes of a file or from files by their names.
-ghost use Rattle.std.specs.Prelude.{◌≡◌, ◌≢◌, List, IfOk, IfErr, OnOk};
+ghost use Rattle.std.specs.Prelude.{◌≡◌, ◌≢◌, List, [], IfOk, IfErr, OnOk};
 ghost use Rattle.gltf_buffers.specs.Names.{Anywhere, AreKnown, names_of};
 ghost use Rattle.gltf_glb.specs.declared.error.Error.TheVariants.{Memory};
 ghost use Rattle.gltf_names.specs.Named.{Named};
@@ -23,7 +23,7 @@ use gltf_glb::Result;
 use gltf_json::laws::what_shows_the_same_is_alike_in_each_member;
 use gltf_names::{Folder, Name, NamedBytes};
 use std::alloc::Global;
-use std::rt::Files;
+use std::rt::HostRuntime;
 
 /// The document and the bytes of its buffers, by index, from the bytes of a file: a GLB container
 /// where they begin with `glTF`, else JSON text (glTF 2.0, sections 2.8, 3.6.1 and 4.4).
@@ -80,7 +80,7 @@ pub fn import_from<S: NamedBytes>(
 
 /// [`import_from`] over the files of the system: those that the document names by relative
 /// references are looked for beside the file, behind [`base_of`] its path.
-pub fn import<R: Files>(rt: &R, alloc: Global, path: &str) -> Result<(Document, Vec<Data>)>
+pub fn import(rt: &HostRuntime, alloc: Global, path: &str) -> Result<(Document, Vec<Data>)>
     ensures accepted { IfOk result (λ read. AcceptsFile Anywhere path.now read.0
         (bytes_of_each read.1.items)) }
     ensures refused { IfErr result (λ e. (failed : List Named)
@@ -94,7 +94,7 @@ pub fn import<R: Files>(rt: &R, alloc: Global, path: &str) -> Result<(Document, 
 pub fn base_of(path: &str) -> &str
     ensures { IsBaseOf path.now result.now }
 {
-    match path.rsplit_once("/") {
+    match path.rsplit_once('/') {
         Some((folders, _)) => &path[..folders.len() + 1],
         None => "",
     }

@@ -34,8 +34,8 @@ pub blob_first : (sources : List Source) (blob : Option (List ℕ)) → blob ≡
 unfolding blob_for
 blob_first sources blob = refl
 
-each_more : (names : Names) (sources : List Source) (blob : Option (List ℕ)) (i : ℕ) (data_ : List (List ℕ))
-    (s : Source) (d : List ℕ)
+each_more : (names : Names) (sources : List Source) (blob : Option (List ℕ)) (i : ℕ)
+    (data_ : List (List ℕ)) (s : Source) (d : List ℕ)
     → AreBytes names sources blob i data_ → slice_get sources i ≡ Some s
     → IsBytesOf names (blob_for sources blob i) i s (Ok d)
     → (k : ℕ) (t : Source) → k < i + 1 → slice_get sources k ≡ Some t
@@ -54,8 +54,8 @@ each_more names sources blob i data_ s d so_far there read k t below at = elim (
       rw (e, same, last) read
 ]
 
-pub one_more : (names : Names) (sources : List Source) (blob : Option (List ℕ)) (i : ℕ) (data_ : List (List ℕ))
-    (s : Source) (d : List ℕ)
+pub one_more : (names : Names) (sources : List Source) (blob : Option (List ℕ)) (i : ℕ)
+    (data_ : List (List ℕ)) (s : Source) (d : List ℕ)
     → AreBytes names sources blob i data_ → slice_get sources i ≡ Some s
     → IsBytesOf names (blob_for sources blob i) i s (Ok d)
     → AreBytes names sources blob (i + 1) (data_ ++ d ∷ [])

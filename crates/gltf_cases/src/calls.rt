@@ -3,7 +3,7 @@ use crate::asked::Asked;
 use crate::containers::{container, write_bytes, write_hex};
 use crate::refused::write_error;
 use crate::told::{Written, tell};
-use crate::{broken, documents, items, iterators, words};
+use crate::{broken, documents, files, items, iterators, words};
 use gltf::{Glb, Gltf, import_slice};
 use gltf_pack::repack;
 use hex::FromHexError;
@@ -15,6 +15,7 @@ use std::alloc::{AllocError, Global};
 /// - `plain TYPE STRIDE STEP..`, `sparse TYPE STEP..`, `indices WIDTH STEP..`: iterators over
 ///   bytes.
 /// - `broken COUNT`: a document that breaks so many rules.
+/// - `files`: the import of a file that names others.
 /// - `write`: the bytes of a container of a text and a blob.
 /// - all others are calls on a file, of the text or the bytes, or of a container of the text and a
 ///   blob.
@@ -28,6 +29,7 @@ pub(crate) fn answer(alloc: Global, asked: Asked<'_>, line: &mut String) -> Writ
         "sparse" => iterators::sparse(alloc, asked, line),
         "indices" => iterators::indices(alloc, asked, line),
         "broken" => broken::write_broken(alloc, asked, line),
+        "files" => files::of_shelf(alloc, asked, line),
         "write" => of_container(alloc, asked, line),
         "over" => of_text(alloc, asked, line),
         _ if asked.blob.is_some() => of_container(alloc, asked, line),

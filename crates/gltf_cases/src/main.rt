@@ -7,6 +7,7 @@ mod broken;
 mod calls;
 mod containers;
 mod documents;
+mod files;
 mod imported;
 mod items;
 mod iterators;
@@ -20,7 +21,7 @@ mod words;
 
 use crate::asked::Asked;
 use gltf::Error;
-use std::rt::Files;
+use std::rt::HostRuntime;
 use std::{env, fs};
 
 fn main(rt: HostRuntime) -> Result<(), Error> {
@@ -34,7 +35,7 @@ fn main(rt: HostRuntime) -> Result<(), Error> {
 }
 
 /// Prints the name of a file, and the line that answers each of its cases.
-fn answer_file(rt: &(impl Files + Print + AllocGlobal), path: &str) -> Result<(), Error> {
+fn answer_file(rt: &HostRuntime, path: &str) -> Result<(), Error> {
     println!(rt; "{path}")?;
     let cases = fs::read_to_string(rt, path)?;
     for case in cases.lines() {
@@ -45,13 +46,14 @@ fn answer_file(rt: &(impl Files + Print + AllocGlobal), path: &str) -> Result<()
 }
 
 /// The line that answers a case. What is given as `@NAME` is the file of that name.
-fn answer_of(rt: &(impl Files + AllocGlobal), asked: Asked<'_>) -> Result<String, Error> {
+fn answer_of(rt: &HostRuntime, asked: Asked<'_>) -> Result<String, Error> {
     let mut line = String::new(rt.alloc());
     match asked.given.strip_prefix("@") {
         Some(name) => {
             let bytes = fs::read(rt, name)?;
             calls::of_bytes(rt.alloc(), asked, &bytes, &mut line)?;
         }
+        None if asked.call == "opened" => files::opened(rt, asked, &mut line)?,
         None => calls::answer(rt.alloc(), asked, &mut line)?,
     }
     Ok(line)

@@ -9,13 +9,14 @@ use Rattle.gltf_json.specs.Reading.{Reads, Refuses}
 use Rattle.gltf_json.specs.declared.root.Root.{Root}
 use Rattle.gltf_json_record.specs.declared.error.Error as json
 use Rattle.gltf_json_record.specs.declared.error.Error.TheVariants.{Text, Record, Memory}
-use Rattle.gltf.specs.Buffers.{BufferFault, sources_of, AreBytes, HasBufferFault}
-use Rattle.gltf.specs.Errors.{NamesFault}
+use Rattle.gltf_buffers.specs.Buffers.{BufferFault, sources_of, AreBytes, HasBufferFault}
+use Rattle.gltf_buffers.specs.Errors.{NamesFault}
+use Rattle.gltf_buffers.specs.Names.{Nowhere}
 use Rattle.gltf.specs.Import.{AreParts, IsDocument, IsValidDocument, Accepts}
 use Rattle.gltf.specs.Import.{RefusesText, RefusesRules, RefusesBuffers, RefusesImport}
 use Rattle.gltf_pack.specs.Laws.{SpacesBehind, ImportKept}
 use Rattle.gltf_pack.proofs.Parts.{one_parts, no_fault, answer_parts}
-use Rattle.gltf_pack.proofs.Alike.{AreAlike, turned, same_buffers, same_fault, filled_bytes}
+use Rattle.gltf_pack.proofs.Alike.{AreAlike, turned, same_buffers, same_fault, filled_blob}
 
 -- a fault of the one text is one of the other
 refused_text : (text other : List ℕ) (blob rest : Option (List ℕ)) (cause : json.Error)
@@ -67,8 +68,9 @@ module _ (law : OneReading) (bytes answer text other : List ℕ) (blob rest : Op
       → Accepts answer r buffers
   accepts_too r buffers accepts =
       let same = the_blob r accepts.blob accepts.valid.document in
-      let read : AreBytes (sources_of r) blob (length (sources_of r)) buffers =
-      subst (λ b. AreBytes (sources_of r) b (length (sources_of r)) buffers) same accepts.data_ in
+      let read : AreBytes Nowhere (sources_of r) blob (length (sources_of r)) buffers =
+      subst (λ b. AreBytes Nowhere (sources_of r) b (length (sources_of r)) buffers) same
+      accepts.data_ in
       record {
         blob = rest;
         valid = valid_too r accepts.blob accepts.valid;
@@ -94,14 +96,15 @@ module _ (law : OneReading) (bytes answer text other : List ℕ) (blob rest : Op
   buffers_too : (e : Error) → RefusesBuffers bytes e → RefusesBuffers answer e
   buffers_too e refused =
       let same = the_blob refused.root refused.blob refused.valid.document in
-      let fails : NamesFault (HasBufferFault (sources_of refused.root) blob) e =
-      subst (λ b. NamesFault (HasBufferFault (sources_of refused.root) b) e) same refused.fails in
+      let fails : NamesFault (HasBufferFault Nowhere (sources_of refused.root) blob) e =
+      subst (λ b. NamesFault (HasBufferFault Nowhere (sources_of refused.root) b) e) same
+      refused.fails in
       record {
         root = refused.root;
         blob = rest;
         valid = valid_too refused.root refused.blob refused.valid;
-        fails = names_more (HasBufferFault (sources_of refused.root) blob)
-            (HasBufferFault (sources_of refused.root) rest)
+        fails = names_more (HasBufferFault Nowhere (sources_of refused.root) blob)
+            (HasBufferFault Nowhere (sources_of refused.root) rest)
             (same_fault text other blob rest alike (sources_of refused.root)) e fails;
       }
 
@@ -130,7 +133,7 @@ import_kept law back spaces bytes answer is =
     record {
       read = λ d. (spaces ((4 - length is.text % 4) % 4) is.text d).1;
       unread = λ d. (spaces ((4 - length is.text % 4) % 4) is.text d).0;
-      bytes = λ sources i source. filled_bytes sources is.blob i source;
+      bytes = λ sources i source g. filled_blob sources is.blob i source g;
     } in
     let back_again = turned text other blob rest alike in
     record {

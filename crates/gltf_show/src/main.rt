@@ -33,13 +33,10 @@ fn main(rt: HostRuntime) -> std::io::Result<ExitCode> {
     Ok(ExitCode::from(status))
 }
 
-/// The text of the path up to and with its last `/`.
+/// The folders of the path, which relative names stand behind.
 fn base_of<'w>(words: &[&'w str]) -> &'w str {
     match words {
-        [_, path, ..] => match path.rsplit_once("/") {
-            Some((folders, _)) => &path[..folders.len() + 1],
-            None => "",
-        },
+        [_, path, ..] => gltf::base_of(*path),
         _ => "",
     }
 }

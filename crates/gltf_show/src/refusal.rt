@@ -7,7 +7,7 @@ use std::{fmt, io};
 pub(crate) enum Refusal {
     /// The words make no call.
     Usage,
-    /// The file is refused, or could not be read.
+    /// The file is refused, or it or one that it names could not be read.
     File(Error),
     /// The document has no mesh at the index.
     NoMesh,
@@ -30,6 +30,11 @@ impl Refusal {
             | Refusal::NoIndices
             | Refusal::Write(_) => 1,
         }
+    }
+
+    /// Whether a file could not be read.
+    pub(crate) fn is_failed_read(&self) -> bool {
+        matches!(self, Refusal::File(Error::Io(_)))
     }
 }
 

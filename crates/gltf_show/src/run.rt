@@ -4,16 +4,16 @@ use crate::chunks::Chunks;
 use crate::indices::write_indices;
 use crate::refusal::Refusal;
 use crate::summary::Summary;
-use gltf::{Glb, Name, NamedBytes, import_slice};
+use gltf::{Glb, Name, NamedBytes, import_from};
 use std::alloc::Global;
-use std::io::Write;
+use std::io::{self, Write};
 
 /// Answers the call that the words make, where the words are the arguments behind the program's
 /// name, and gives the exit status.
 ///
 /// - 0: the answer stands on `out`.
-/// - 1: the file is refused, or has not what is asked for, or a write failed; the reason stands on
-///   `err`.
+/// - 1: the file is refused, or has not what is asked for, or a read or a write failed; the reason
+///   stands on `err`, with the name of the file that could not be read.
 /// - 2: the words make no call; the usage stands on `err`.
 pub fn run<S: NamedBytes, O: Write, E: Write>(
     alloc: Global,
@@ -26,9 +26,17 @@ pub fn run<S: NamedBytes, O: Write, E: Write>(
         Ok(()) => 0,
         Err(refusal) => {
             // Where this write fails too, the status alone tells.
-            let _ = writeln!(err, "{refusal}");
+            let _ = tell(&refusal, source.last_failed(), err);
             refusal.status()
         }
+    }
+}
+
+/// Writes why a call is not answered; where a file was not read, behind the name of that file.
+fn tell<E: Write>(refusal: &Refusal, failed: Option<&str>, err: &mut E) -> io::Result<()> {
+    match failed {
+        Some(name) if refusal.is_failed_read() => writeln!(err, "{name}: {refusal}"),
+        _ => writeln!(err, "{refusal}"),
     }
 }
 
@@ -45,13 +53,11 @@ fn answer<S: NamedBytes, O: Write>(
             write!(out, "{}", Chunks(&glb)).map_err(Refusal::Write)
         }
         Some(Call::Check(path)) => {
-            let bytes = source.read(alloc, Name::File(path))?;
-            let (document, _buffers) = import_slice(alloc, &bytes)?;
+            let (document, _buffers) = import_from(alloc, source, path)?;
             write!(out, "{}", Summary(&document)).map_err(Refusal::Write)
         }
         Some(Call::Indices(path, place)) => {
-            let bytes = source.read(alloc, Name::File(path))?;
-            let (document, buffers) = import_slice(alloc, &bytes)?;
+            let (document, buffers) = import_from(alloc, source, path)?;
             write_indices(&document, &buffers, place, out)
         }
         None => Err(Refusal::Usage),

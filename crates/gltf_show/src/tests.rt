@@ -21,7 +21,7 @@ const NO_INDICES: Option<&str> = Some("no indices\n");
 /// The greatest number that a usize holds.
 const GREATEST: &str = "18446744073709551615";
 
-const ROWS: [Row<'static>; 37] = [
+const ROWS: [Row<'static>; 40] = [
     (
         &["chunks", "box.glb"],
         0,
@@ -54,6 +54,19 @@ const ROWS: [Row<'static>; 37] = [
         Some(""),
     ),
     (&["check", "b.gltf"], 1, "", Some(DANGLING_TOLD)),
+    (
+        &["check", "outside.gltf"],
+        0,
+        "ok buffers=1 accessors=1 meshes=1 nodes=0\n",
+        Some(""),
+    ),
+    (
+        &["indices", "outside.gltf", "0", "0"],
+        0,
+        "1\n2\n",
+        Some(""),
+    ),
+    (&["check", "short.gltf"], 1, "", Some(SHORT_TOLD)),
     (&[], 2, "", USAGE),
     (&["chunks"], 2, "", USAGE),
     (&["chunks", "box.glb", "box.glb"], 2, "", USAGE),
@@ -122,6 +135,22 @@ const INDICES: &str =
         "accessors":[{"bufferView":0,"componentType":5123,"count":2,"type":"SCALAR"}],
         "meshes":[{"primitives":[{"attributes":{},"indices":0}]}]}"#;
 
+/// The same, with the buffer in a file of its own.
+const OUTSIDE: &str = r#"{"asset":{"version":"2.0"},"buffers":[{"byteLength":4,"uri":"b%20c.bin"}],
+        "bufferViews":[{"buffer":0,"byteLength":4}],
+        "accessors":[{"bufferView":0,"componentType":5123,"count":2,"type":"SCALAR"}],
+        "meshes":[{"primitives":[{"attributes":{},"indices":0}]}]}"#;
+
+/// A buffer that declares more than its file has, and what is told of it.
+const SHORT: &str =
+    r#"{"asset":{"version":"2.0"},"buffers":[{"byteLength":5,"uri":"file:///t/b"}]}"#;
+
+const SHORT_TOLD: &str = "buffer 0: expected 5 bytes but received 4 bytes\n";
+
+/// Two buffers, of which the second is in no file.
+const MISSING: &str = r#"{"asset":{"version":"2.0"},"buffers":[
+        {"byteLength":4,"uri":"b%20c.bin"},{"byteLength":4,"uri":"no%20such.bin"}]}"#;
+
 /// The same, with an accessor of one float.
 const FLOAT_INDICES: &str =
     r#"{"asset":{"version":"2.0"},"buffers":[{"byteLength":4,"uri":"data:;base64,AQACAA=="}],
@@ -162,10 +191,15 @@ fn shelf(alloc: Global) -> Result<Shelf, Fail> {
         ("row.gltf", INDICES.as_bytes()),
         ("float.gltf", FLOAT_INDICES.as_bytes()),
         ("more.gltf", MORE_INDICES.as_bytes()),
+        ("outside.gltf", OUTSIDE.as_bytes()),
+        ("short.gltf", SHORT.as_bytes()),
+        ("missing.gltf", MISSING.as_bytes()),
+        ("/t/b", b"abc".as_slice()),
     ];
     for (name, bytes) in files {
         shelf.put(Name::File(name), bytes)?;
     }
+    shelf.put(Name::Relative("b c.bin"), &[1, 0, 2, 0])?;
     Ok(shelf)
 }
 
@@ -196,6 +230,26 @@ fn calls_are_answered(rt: HostRuntime) -> Result<(), Fail> {
         &mut shelf,
         (&["chunks", "box.glb"], 1, "", None),
     );
+    Ok(())
+}
+
+#[test]
+fn the_name_of_a_file_that_was_not_read_is_told(rt: HostRuntime) -> Result<(), Fail> {
+    let mut shelf = shelf(rt.alloc())?;
+    let calls: [(&[&str], &str); 4] = [
+        (&["chunks", "no.glb"], "no.glb: "),
+        (&["check", "no.gltf"], "no.gltf: "),
+        (&["check", "missing.gltf"], "no such.bin: "),
+        (&["indices", "missing.gltf", "0", "0"], "no such.bin: "),
+    ];
+    for (words, told) in calls {
+        let mut out = Vec::new(rt.alloc());
+        let mut err = Vec::new(rt.alloc());
+        let status = run(rt.alloc(), &mut shelf, words, &mut out, &mut err);
+        assert_eq!(rt; status, 1, "{words:?}");
+        assert!(rt; out.is_empty(), "{words:?}");
+        assert!(rt; err.starts_with(told.as_bytes()), "{words:?}");
+    }
     Ok(())
 }
 

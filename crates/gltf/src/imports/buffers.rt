@@ -13,7 +13,7 @@ use gltf_buffers::{Ask, NoNames, read_buffers};
 use gltf_glb::Result;
 use gltf_names::{Folder, NamedBytes};
 use std::alloc::Global;
-use std::rt::Files;
+use std::rt::HostRuntime;
 
 /// The document with the bytes of its buffers.
 pub(crate) fn with_buffers<N: Ask>(
@@ -66,8 +66,8 @@ pub fn import_buffers_from<S: NamedBytes>(
 
 /// [`import_buffers_from`] over the files of the system, where relative references stand behind the
 /// base; or without names, where there is no base.
-pub fn import_buffers<R: Files>(
-    rt: &R,
+pub fn import_buffers(
+    rt: &HostRuntime,
     alloc: Global,
     document: &Document,
     base: Option<&str>,
@@ -80,9 +80,11 @@ pub fn import_buffers<R: Files>(
         (IsAskedFor (names_behind base.entry) (sources_of document.now) (blob_bytes blob))
         [] failed e) }
 {
-    let buffers = &document.as_json().buffers;
     match base {
-        Some(base) => read_buffers(alloc, buffers, &mut Folder::new(rt, base), blob),
-        None => read_buffers(alloc, buffers, &mut NoNames, blob),
+        Some(base) => {
+            let mut folder = Folder::new(rt, base);
+            read_buffers(alloc, &document.as_json().buffers, &mut folder, blob)
+        }
+        None => read_buffers(alloc, &document.as_json().buffers, &mut NoNames, blob),
     }
 }

@@ -1,0 +1,86 @@
+//! Imports of files that name others.
+use crate::asked::Asked;
+use crate::calls::bytes_of;
+use crate::containers::container;
+use crate::refused::write_error;
+use crate::told::{Written, tell};
+use gltf::buffer::Data;
+use gltf::{Document, Error, Name, NamedBytes, Result, Shelf, import, import_from};
+use std::alloc::{AllocError, Global};
+use std::rt::HostRuntime;
+
+/// The import of the file `a.gltf` from a shelf, where it is the given text, or a container of the
+/// text and the blob. The words say what else is on the shelf:
+///
+/// - `NAME=DIGITS`: the bytes that the digits spell, by a relative reference, in which `+` stands
+///   for a space; or by the path of a file, behind `file:`.
+/// - `fail=K`: the read behind the next K ones fails.
+///
+/// The line has the bytes of the buffers, or what is wrong, and which name failed.
+pub(crate) fn of_shelf(alloc: Global, asked: Asked<'_>, line: &mut String) -> Written {
+    if asked.blob.is_none() {
+        return of_file(alloc, asked, asked.given.as_bytes(), line);
+    }
+    match &container(alloc, asked) {
+        Ok(bytes) => of_file(alloc, asked, bytes, line),
+        Err(error) => write_error(asked, error, line),
+    }
+}
+
+fn of_file(alloc: Global, asked: Asked<'_>, file: &[u8], line: &mut String) -> Written {
+    let mut shelf = shelf_of(alloc, asked, file)?;
+    let answer = import_from(alloc, &mut shelf, "a.gltf");
+    write_import(asked, &answer, line)?;
+    match shelf.last_failed() {
+        Some(name) => write!(line, "; {name} failed"),
+        None => Ok(()),
+    }
+}
+
+/// Writes the bytes of the buffers, or what is wrong.
+fn write_import(
+    asked: Asked<'_>,
+    answer: &Result<(Document, Vec<Data>)>,
+    line: &mut String,
+) -> Written {
+    match answer {
+        Ok(read) => write!(line, "{:?}", read.1),
+        Err(Error::Io(_)) => line.push_str("not read"),
+        Err(error) => write_error(asked, error, line),
+    }
+}
+
+/// What the words put on a shelf, beside the file.
+fn shelf_of(
+    alloc: Global,
+    asked: Asked<'_>,
+    file: &[u8],
+) -> std::result::Result<Shelf, AllocError> {
+    let mut shelf = Shelf::new(alloc);
+    shelf.put(Name::File("a.gltf"), file)?;
+    for word in asked.words.split_whitespace() {
+        put(alloc, &mut shelf, word)?;
+    }
+    Ok(shelf)
+}
+
+/// What one word puts on a shelf.
+fn put(alloc: Global, shelf: &mut Shelf, word: &str) -> std::result::Result<(), AllocError> {
+    let (name, told) = word.split_once("=").unwrap_or((word, ""));
+    if name == "fail" {
+        shelf.fail_at(told.parse::<usize>().unwrap_or(0));
+        return Ok(());
+    }
+    let bytes = bytes_of(alloc, told)?;
+    if let Some(path) = name.strip_prefix("file:") {
+        return shelf.put(Name::File(path), &bytes);
+    }
+    let name = name.replace(alloc, "+", " ")?;
+    shelf.put(Name::Relative(name.as_str()), &bytes)
+}
+
+/// The import of the file of a path, which the words are; `check` tells how much it has.
+pub(crate) fn opened(rt: &HostRuntime, asked: Asked<'_>, line: &mut String) -> Written {
+    let answer = import(rt, rt.alloc(), asked.given);
+    tell(rt.alloc(), asked.inner(), answer, line)
+}
