@@ -1,4 +1,4 @@
-use Rattle.std.proofs.Common.{◌≡◌, ◌≢◌, ◌<◌, ◌+◌, ◌∷◌, [], ◌++◌, ◌∙◌, ℕ, List}
+use Rattle.std.proofs.Common.{◌≡◌, ◌≢◌, ◌<◌, ◌+◌, ◌-◌, ◌∷◌, [], ◌++◌, ◌∙◌, ℕ, List}
 use Rattle.std.proofs.Common.{length, take, drop, get_or, refl, sym, ap, inl, inr, arith}
 use Rattle.std.proofs.Common.{append_assoc, length-append}
 use Rattle.std.proofs.lemmas.List.{take-append-drop}
@@ -35,9 +35,11 @@ returns-in-Some c =
     let found = c.in-Some.ensures.cases in
     let none : (k : ℕ) → k < length (drop found.1 path) → get_or (drop found.1 path) k 0 ≢ 47 =
     λ k below. NoCharPasses-char 47 (drop found.1 path) k found.2.0 (omega arith) below in
+    let count : (length c.in-Some.folders.now + 1) - 0 ≡ length c.in-Some.folders.now + 1 =
+    omega arith in
     behind_last path c.in-Some.folders.now c.range.result.now found.0 found.1
     (drop_at_char 47 path found.0 found.1 found.2.1 (omega arith)) found.3 none
-    c.range.ensures.value
+    (c.range.ensures.value ∙ ap (λ (n : ℕ). take n path) count)
 
 pub returns-in-None : goal.returns-in-None
 returns-in-None c =
