@@ -48,6 +48,23 @@ fn a_shelf_fails_at_the_read_that_was_set(rt: HostRuntime) -> Result<(), Fail> {
 }
 
 #[test]
+fn sources_tell_the_name_that_failed_last(rt: HostRuntime) -> Result<(), Fail> {
+    let mut shelf = Shelf::new(rt.alloc());
+    assert!(rt; shelf.last_failed().is_none());
+    assert!(rt; shelf.read(rt.alloc(), Name::File("a")).is_err());
+    assert!(rt; shelf.read(rt.alloc(), Name::Relative("b c.bin")).is_err());
+    assert!(rt; shelf.last_failed() == Some("b c.bin"));
+    shelf.put(Name::File("a"), &[4])?;
+    assert!(rt; shelf.read(rt.alloc(), Name::File("a")).is_ok());
+    assert!(rt; shelf.last_failed() == Some("b c.bin"));
+    let mut folder = Folder::new(&rt, "missing/");
+    assert!(rt; folder.last_failed().is_none());
+    assert!(rt; folder.read(rt.alloc(), Name::Relative("c.bin")).is_err());
+    assert!(rt; folder.last_failed() == Some("c.bin"));
+    Ok(())
+}
+
+#[test]
 fn a_folder_opens_relative_names_behind_its_base(rt: HostRuntime) -> Result<(), Fail> {
     fs::create_dir_all(&rt, "models")?;
     fs::write(&rt, "models/b.bin", [1u8, 2].as_slice())?;
