@@ -2,7 +2,7 @@
 use gltf::accessor::{End, F32, ItemIter, Iter, SparseIndicesIter, SparseIter, Step, walk};
 use gltf::buffer::Data;
 use gltf::json::{Root, Value, deserialize};
-use gltf::{Document, Error, Glb, Result, import_slice, read_items};
+use gltf::{Document, Error, Glb, Name, Result, Shelf, import_from, import_slice, read_items};
 use gltf_rules::validate as broken_rules;
 
 /// The parts of a container out of a reader.
@@ -30,6 +30,16 @@ pub(crate) fn import(rt: &(impl Print + AllocGlobal), bytes: &[u8]) -> Result<()
         Err(Error::Memory) => Err(Error::Memory),
         Err(error) => tell_error(rt, error),
     }
+}
+
+/// The buffers of a file that names two others.
+pub(crate) fn import_names(rt: &(impl Print + AllocGlobal), text: &[u8]) -> Result<()> {
+    let mut shelf = Shelf::new(rt.alloc());
+    shelf.put(Name::File("two.gltf"), text)?;
+    shelf.put(Name::Relative("a.bin"), &[1])?;
+    shelf.put(Name::Relative("b.bin"), &[2, 3])?;
+    let imported = import_from(rt.alloc(), &mut shelf, "two.gltf")?;
+    tell_buffers(rt, imported)
 }
 
 fn tell_buffers(rt: &impl Print, imported: (Document, Vec<Data>)) -> Result<()> {

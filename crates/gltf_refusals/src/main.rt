@@ -11,13 +11,14 @@ use std::process::ExitCode;
 use std::{env, io};
 
 /// The names of the rows.
-const ROWS: [&str; 11] = [
+const ROWS: [&str; 12] = [
     "container_read",
     "container_written",
     "data_uri_imported",
     "blob_taken_twice_imported",
     "broken_imported",
     "sparse_imported",
+    "two_names_imported",
     "sparse_items_read",
     "items_read",
     "sparse_items_walked",
@@ -75,6 +76,7 @@ fn tell(rt: &(impl Print + AllocGlobal), row: &str) -> Result<()> {
         "blob_taken_twice_imported" => calls::import(rt, rows::BLOB_TAKEN_TWICE),
         "broken_imported" => calls::import(rt, rows::BROKEN.as_bytes()),
         "sparse_imported" => calls::import(rt, rows::ONE_REPLACED.as_bytes()),
+        "two_names_imported" => calls::import_names(rt, rows::TWO_NAMES.as_bytes()),
         "sparse_items_read" => calls::read_floats(rt, rows::ONE_REPLACED.as_bytes()),
         "items_read" => calls::read_numbers(rt, rows::TWO_NUMBERS.as_bytes()),
         "sparse_items_walked" => calls::walk_sparse(rt),

@@ -29,3 +29,7 @@ pub(crate) const TWO_NUMBERS: &str =
     r#"{"asset":{"version":"2.0"},"buffers":[{"byteLength":4,"uri":"data:;base64,AQACAA=="}],
     "bufferViews":[{"buffer":0,"byteLength":4}],
     "accessors":[{"bufferView":0,"componentType":5123,"count":2,"type":"SCALAR"}]}"#;
+
+/// Two buffers of one and of two bytes, each in a name of its own.
+pub(crate) const TWO_NAMES: &str = r#"{"asset":{"version":"2.0"},
+    "buffers":[{"byteLength":1,"uri":"a.bin"},{"byteLength":2,"uri":"b.bin"}]}"#;
