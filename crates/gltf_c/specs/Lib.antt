@@ -1,3 +1,4 @@
+pub mod Info
 pub mod Message
 pub mod Owned
 pub mod Status

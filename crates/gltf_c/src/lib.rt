@@ -6,6 +6,7 @@ ghost use Rattle.std.specs.Prelude.{◌≡◌, None};
 mod bare;
 pub mod file;
 pub mod handle;
+pub mod info;
 mod message;
 pub mod status;
 
