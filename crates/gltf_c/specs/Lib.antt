@@ -1,4 +1,6 @@
+pub mod Front
 pub mod Info
 pub mod Message
 pub mod Owned
+pub mod Read
 pub mod Status

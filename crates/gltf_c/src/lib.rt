@@ -6,8 +6,10 @@ ghost use Rattle.std.specs.Prelude.{◌≡◌, None};
 mod bare;
 pub mod file;
 pub mod handle;
+mod bytes;
 pub mod info;
 mod message;
+mod read;
 pub mod status;
 
 use crate::handle::GltfFile;
