@@ -1,6 +1,6 @@
 -- What a file has, as C sees it.
 use Rattle.std.specs.Prelude.{◌≡◌, ℕ, Bool, true, false, List, [], ◌∷◌, length, slice_get, Option}
-use Rattle.std.specs.Prelude.{Some, None, is_some}
+use Rattle.std.specs.Prelude.{Some, None, is_some, unwrap_or, option_map}
 use Rattle.gltf_json.specs.declared.root.Root.{Root}
 use Rattle.gltf_json_geometry.specs.declared.accessor.Accessor.{Accessor}
 use Rattle.gltf_handles.specs.Sizes.{code_of, data_type, dimensions, multiplicity, item_size}
@@ -67,3 +67,7 @@ description a = record {
 abbrev pub IsDescribed : Option Accessor → Status → GltfAccessor → GltfAccessor → Type 0
 IsDescribed None status old new = (status ≡ NoSuchIndex) × (new ≡ old)
 IsDescribed (Some a) status old new = (status ≡ Success) × (new ≡ description a)
+
+-- how many records there are of the kind of a number; none where the number has no kind
+abbrev pub count_of : ℕ → Root → ℕ
+count_of number r = unwrap_or (option_map (λ kind. counted kind r) (kind_of number)) 0

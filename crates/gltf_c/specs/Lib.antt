@@ -1,3 +1,4 @@
+pub mod Calls
 pub mod Front
 pub mod Info
 pub mod Message
