@@ -42,12 +42,12 @@ module _ {M : Type 1} {𝓤 : Ura M} {𝓛 : Logic 𝓤} {K : Type 0} {Γ : List
   -- a handle is made of its pointer and what is there
   pub handle_in : K → (p : Ptr) (v : Option File)
       → Step K 𝓛 (‵ (handle.the_row.own_val (record { at = p; value = v }) (pointer p ∷ [])) ∷ Γ) G
-        (‵ (handle_owns p v) ∷ Γ) G
+      (‵ (handle_owns p v) ∷ Γ) G
   handle_in t p v = step (λ rest.
       nothing t $ feq_i t (List Val) (ptr_val p ∷ []) (ptr_val p ∷ []) refl $ fjoin t $
       feq_i t (List Val) (pointer p ∷ []) (pointer p ∷ []) refl $ fjoin t $
       fpack t (Valss (RawPtr ∷ [])) (within (shape handle.the_type) (p, tt) (pointer p ∷ []))
-        (ptr_val p ∷ [], tt) $ fjoin t $ rest)
+      (ptr_val p ∷ [], tt) $ fjoin t $ rest)
 
   pub handle_out : K → (d : GltfFile) (vs : List Val)
       → (vs ≡ pointer d.at ∷ [] → Seq K 𝓛 (‵ (handle_owns d.at d.value) ∷ Γ) G)
@@ -60,11 +60,11 @@ module _ {M : Type 1} {𝓤 : Ura M} {𝓛 : Logic 𝓤} {K : Type 0} {Γ : List
   pub by_value : K → (p : Ptr) (v : Option File)
       → (v ≡ None → p ≡ null_ptr → Seq K 𝓛 Γ G)
       → ((b o : ℕ) (x : File) → v ≡ Some x → p ≡ block_ptr b o → Testable (block_ptr b o)
-        → Seq K 𝓛 (‵ (owned_at held (block_ptr b o) x) ∷ Γ) G)
+      → Seq K 𝓛 (‵ (owned_at held (block_ptr b o) x) ∷ Γ) G)
       → Seq K 𝓛 (‵ (handle_owns p v) ∷ Γ) G
   by_value t p None none some = feq_l t (λ e. none refl e)
   by_value t p (Some x) none some =
       in_a_block t p (λ q. owned_at held q x)
       (fst∗ 𝓤 (never 𝓤) (sem 𝓛 (chunk (bits (lone held.mir)) null_ptr))) (λ b o e.
       use1 𝓛 (given (Testable (block_ptr b o)) (‵ (owned_at held (block_ptr b o) x)))
-        (testable 𝓛 (block_ptr b o) x) $ learn t (λ may. some b o x refl e may))
+      (testable 𝓛 (block_ptr b o) x) $ learn t (λ may. some b o x refl e may))

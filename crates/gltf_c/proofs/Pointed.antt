@@ -64,22 +64,22 @@ module _ (R : RattleType) {M : Type 1} {𝓤 : Ura M} {𝓛 : Logic 𝓤} {K : T
   -- what stood in a box at p makes a bare one
   pub bare_in : K → (p : Ptr) (x : R.Denot)
       → Step K 𝓛 (‵ ((bare.the_row R).own_val (record { at = p; value = x }) (pointer p ∷ [])) ∷ Γ) G
-        (‵ (owned_at R p x) ∷ Γ) G
+      (‵ (owned_at R p x) ∷ Γ) G
   bare_in t p x = step (λ rest.
       nothing t $ feq_i t (List Val) (ptr_val p ∷ []) (ptr_val p ∷ []) refl $ fjoin t $
       feq_i t (List Val) (pointer p ∷ []) (pointer p ∷ []) refl $ fjoin t $
       fpack t (Valss (RawPtr ∷ [])) (within (shape (bare.the_type R)) (p, tt) (pointer p ∷ []))
-        (ptr_val p ∷ [], tt) $ fjoin t $ rest)
+      (ptr_val p ∷ [], tt) $ fjoin t $ rest)
 
   -- and a bare one is a pointer into a block, with what stands there
   pub bare_out : K → (d : (bare.the_row R).Denot) (vs : List Val)
       → ((b o : ℕ) → d.at ≡ block_ptr b o → vs ≡ pointer (block_ptr b o) ∷ []
-        → Seq K 𝓛 (‵ (owned_at R (block_ptr b o) d.value) ∷ Γ) G)
+      → Seq K 𝓛 (‵ (owned_at R (block_ptr b o) d.value) ∷ Γ) G)
       → Seq K 𝓛 (‵ ((bare.the_row R).own_val d vs) ∷ Γ) G
   bare_out t d vs next =
       fsplit t $ fpick t (λ vss. fsplit t $ feq_l t (λ whole. fsplit t $ feq_l t (λ field. drop t $
       in_a_block t d.at (λ p. owned_at R p d.value)
-        (fst∗ 𝓤 (never 𝓤) (sem 𝓛 (chunk (bits (lone R.mir)) null_ptr))) (λ b o at.
+      (fst∗ 𝓤 (never 𝓤) (sem 𝓛 (chunk (bits (lone R.mir)) null_ptr))) (λ b o at.
       next b o at
       (subst (λ (p : Ptr). vs ≡ pointer p ∷ []) at
-        (subst (λ (ps : List Val). vs ≡ vstruct (of_list (ps ++ [])) ∷ []) field whole))))))
+      (subst (λ (ps : List Val). vs ≡ vstruct (of_list (ps ++ [])) ∷ []) field whole))))))

@@ -73,4 +73,4 @@ abbrev pub CopiesBuffer : Option File → ℕ → ℕ → ℕ → List ℕ → L
 CopiesBuffer None index offset n old new = IsClosed n old new
 CopiesBuffer (Some file) index offset n old new =
     Answers (λ status. IsCopied offset (slice_get (bytes_of_each file.buffers.items) index) status
-        old new) n
+    old new) n

@@ -20,7 +20,9 @@ impl<T> Model for Bare<T> {
 pub(crate) fn into_bare<T: Drop>(held: Box<T>) -> Bare<T>
     ensures { result.value ≡ held.value }
 {
-    Bare { at: Box::into_raw(held) }
+    Bare {
+        at: Box::into_raw(held),
+    }
 }
 
 /// Makes a box of it again.

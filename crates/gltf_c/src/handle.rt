@@ -27,7 +27,9 @@ impl Model for GltfFile {
 fn closed() -> GltfFile
     ensures { result.value ≡ None }
 {
-    GltfFile { at: ptr::null_mut() }
+    GltfFile {
+        at: ptr::null_mut(),
+    }
 }
 
 fn sealed(part: Bare<File>) -> GltfFile
@@ -44,7 +46,9 @@ fn opened(handle: GltfFile) -> Option<Bare<File>>
     if at.is_null() {
         None
     } else {
-        Some(Bare { at: at as *mut File })
+        Some(Bare {
+            at: at as *mut File,
+        })
     }
 }
 

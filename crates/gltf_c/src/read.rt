@@ -18,7 +18,12 @@ pub(crate) fn read(file: &File, index: usize, out: &mut [u8]) -> Status
     ensures { IsRead file.now index (accessor_at file.now.document index) result out.old out.new }
 {
     if index < file.document.as_json().accessors.len() {
-        read_of(file, index, Accessor::new(file.document.as_valid(), index), out)
+        read_of(
+            file,
+            index,
+            Accessor::new(file.document.as_valid(), index),
+            out,
+        )
     } else {
         Status::NoSuchIndex
     }
@@ -29,7 +34,13 @@ fn read_of(file: &File, index: usize, accessor: Accessor<'_>, out: &mut [u8]) ->
     ensures { IsReadAs file.now index (item_size (accessor_handle accessor.entry).json)
         result out.old out.new }
 {
-    read_sized(file, index, accessor.data_type(), accessor.dimensions(), out)
+    read_sized(
+        file,
+        index,
+        accessor.data_type(),
+        accessor.dimensions(),
+        out,
+    )
 }
 
 /// The same where an item is made of such components in such a shape.

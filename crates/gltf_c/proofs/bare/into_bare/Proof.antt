@@ -81,14 +81,14 @@ into_bare_spec {M} 𝓤 𝓛 𝓜 𝓡 wired T L drops dropped =
     enter ! 𝓣.C 𝓣.Λ fn (word ∷ []) Post $ alloc_all ! (λ l. pass_all ! refl (typed, tt) $
     sets ! (of_opd ! (get ! refl)) refl typed $
     calls_at ! (fm 𝓛 𝓜 𝓡) k
-      (met 𝓤 𝓛 𝓜 𝓡 (code.calls-std_alloc::boxed::Box::into_raw 𝓡.env wired) T Z L heap_laws allocator.ghosts allocator.dict no_drop drops
-        (passed 𝓡.env (code.calls-std_heap::GlobalAllocator::allocate 𝓡.env wired) (code.calls-std_heap::GlobalAllocator::deallocate 𝓡.env wired)
-          (code.calls-std_heap::GlobalAllocator::grow 𝓡.env wired) (code.calls-std_heap::GlobalAllocator::shrink 𝓡.env wired) M 𝓤 𝓛 𝓜 𝓡)
-        (glues "gltf_c::Destruct++none::drop" 𝓡.env (code.calls-gltf_c::Destruct++none::drop 𝓡.env wired) Z heap_laws M 𝓤 𝓛 𝓜 𝓡)
-        dropped)
-      y (and_then ! (get ! refl) (no_more !)) (λ u.
+    (met 𝓤 𝓛 𝓜 𝓡 (code.calls-std_alloc::boxed::Box::into_raw 𝓡.env wired) T Z L heap_laws allocator.ghosts allocator.dict no_drop drops
+    (passed 𝓡.env (code.calls-std_heap::GlobalAllocator::allocate 𝓡.env wired) (code.calls-std_heap::GlobalAllocator::deallocate 𝓡.env wired)
+    (code.calls-std_heap::GlobalAllocator::grow 𝓡.env wired) (code.calls-std_heap::GlobalAllocator::shrink 𝓡.env wired) M 𝓤 𝓛 𝓜 𝓡)
+    (glues "gltf_c::Destruct++none::drop" 𝓡.env (code.calls-gltf_c::Destruct++none::drop 𝓡.env wired) Z heap_laws M 𝓤 𝓛 𝓜 𝓡)
+    dropped)
+    y (and_then ! (get ! refl) (no_more !)) (λ u.
     use1 𝓛 (later (some (λ (r : Ptr). (both ⊛ ‵ (RawPtr.own_val r (u ∷ []))) ⊛
-      some (λ (ls : Lasts (callee.ended T Z allocator.ghosts allocator.dict no_drop drops) y.0.0 y.0.3). ‵ (lasts (callee.ended T Z allocator.ghosts allocator.dict no_drop drops) y.0.0 y.0.3 ls) ⊛ ‵ (box_owns chunk R r held.value))))) (id⊢ 𝓤 _) $
+    some (λ (ls : Lasts (callee.ended T Z allocator.ghosts allocator.dict no_drop drops) y.0.0 y.0.3). ‵ (lasts (callee.ended T Z allocator.ghosts allocator.dict no_drop drops) y.0.0 y.0.3 ls) ⊛ ‵ (box_owns chunk R r held.value))))) (id⊢ 𝓤 _) $
     await ! tt $ pick ! (λ r. split ! $ move ! (1 ∷ []) $ pick ! (λ _. split ! $ drop ! $
     in_a_block ! r (λ p. box_owns chunk R p held.value) (fst∗ 𝓤 (never 𝓤) (sem 𝓛 (chunk (bits (layout T)) null_ptr))) (λ b' o' at.
     move ! (1 ∷ []) $ split ! $ move ! (1 ∷ []) $ feq_l ! (λ is.

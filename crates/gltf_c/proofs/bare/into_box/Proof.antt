@@ -60,7 +60,7 @@ into_box_spec {M} 𝓤 𝓛 𝓜 𝓡 wired T L drops dropped =
     let inst : Args = bounded (a_type ∷ []) (T, tt) (dcons drops dnil) in let fn : Fn = inst_fn inst code.function in
     let Part : RattleType = bare.the_row R in
     let stays : Stays ended.signature.params ended.kept =
-      (stay_dropped (plain (λ _. heap.the_row)) yes, (stay_dropped (plain (λ _. Part)) no, tt)) in
+    (stay_dropped (plain (λ _. heap.the_row)) yes, (stay_dropped (plain (λ _. Part)) no, tt)) in
     proved_at 𝓛 ended stays c 𝓜 𝓡
     (Goes-dropped 𝓛 1 (plain (λ _. heap.the_row)) yes (λ κs x w. refl), (Goes-dropped 𝓛 1 (plain (λ _. Part)) no (λ κs x f. refl), tt)) (self inst) fn
     (code.unfolded 𝓤 H 𝓜 𝓡 wired (T, tt) drops) (λ z are.
@@ -89,14 +89,14 @@ into_box_spec {M} 𝓤 𝓛 𝓜 𝓡 wired T L drops dropped =
     enter ! 𝓣.C 𝓣.Λ fn (h ∷ word ∷ []) Post $ alloc_all ! (λ l. pass_all ! refl (gh, ((tt, (tt, tt)), tt)) $ let Ev = env fn.locals l in
     sets ! (of_opd ! (get_in ! (fld ! refl (stop !)) (sub ! 0 refl (whole !)))) refl (tt, tt) $ first ! $ blocks ! $
     calls_at_last ! (fm 𝓛 𝓜 𝓡) k
-      (met 𝓤 𝓛 𝓜 𝓡 (code.calls-std_alloc::boxed::Box::from_raw 𝓡.env wired) T Z L heap_laws allocator.ghosts allocator.dict no_drop
-        (passed 𝓡.env (code.calls-std_heap::GlobalAllocator::allocate 𝓡.env wired) (code.calls-std_heap::GlobalAllocator::deallocate 𝓡.env wired)
-          (code.calls-std_heap::GlobalAllocator::grow 𝓡.env wired) (code.calls-std_heap::GlobalAllocator::shrink 𝓡.env wired) M 𝓤 𝓛 𝓜 𝓡)
-        (glues "gltf_c::Destruct++none::drop" 𝓡.env (code.calls-gltf_c::Destruct++none::drop 𝓡.env wired) Z heap_laws M 𝓤 𝓛 𝓜 𝓡))
-      y (and_then ! (get ! refl) (and_then ! (get ! refl) (no_more !))) (λ u.
+    (met 𝓤 𝓛 𝓜 𝓡 (code.calls-std_alloc::boxed::Box::from_raw 𝓡.env wired) T Z L heap_laws allocator.ghosts allocator.dict no_drop
+    (passed 𝓡.env (code.calls-std_heap::GlobalAllocator::allocate 𝓡.env wired) (code.calls-std_heap::GlobalAllocator::deallocate 𝓡.env wired)
+    (code.calls-std_heap::GlobalAllocator::grow 𝓡.env wired) (code.calls-std_heap::GlobalAllocator::shrink 𝓡.env wired) M 𝓤 𝓛 𝓜 𝓡)
+    (glues "gltf_c::Destruct++none::drop" 𝓡.env (code.calls-gltf_c::Destruct++none::drop 𝓡.env wired) Z heap_laws M 𝓤 𝓛 𝓜 𝓡))
+    y (and_then ! (get ! refl) (and_then ! (get ! refl) (no_more !))) (λ u.
     use1 𝓛 (later (some (λ (r : Whole.Denot). (both ⊛ ‵ (Whole.own_val r (u ∷ []))) ⊛
-      some (λ (ls : Lasts (callee.ended T Z allocator.ghosts allocator.dict no_drop) y.0.0 y.0.3). ‵ (lasts (callee.ended T Z allocator.ghosts allocator.dict no_drop) y.0.0 y.0.3 ls) ⊛
-        (raw (fact 𝓤 (r.value ≡ part.value)) ⊛ raw (fact 𝓤 (r.alloc ≡ a))))))) (id⊢ 𝓤 (k.post y u)) $
+    some (λ (ls : Lasts (callee.ended T Z allocator.ghosts allocator.dict no_drop) y.0.0 y.0.3). ‵ (lasts (callee.ended T Z allocator.ghosts allocator.dict no_drop) y.0.0 y.0.3 ls) ⊛
+    (raw (fact 𝓤 (r.value ≡ part.value)) ⊛ raw (fact 𝓤 (r.alloc ≡ a))))))) (id⊢ 𝓤 (k.post y u)) $
     await ! tt $ pick ! (λ r. split ! $ move ! (1 ∷ []) $ pick ! (λ _. split3 ! $ drop ! $ move ! (2 ∷ []) $ split ! $ move ! (1 ∷ []) $
     box_out E ! r (u ∷ []) (λ b' o' h' at' us fits. box_in E ! r b' o' r.value at' refl $ rewrite ! 0 (λ (xs : List Val). ‵ (Whole.own_val r xs)) (sym us) refl $
     -- [the box; the tokens; its value; its allocator]

@@ -20,8 +20,8 @@ returns-else-fits g c =
     record {
       items = Some (counted_items c.in-Some.items).items;
       reads =
-          subst (λ (data : List Data). ReadsAt (as_bytes g.row.N) c.args.file.now.document
-          (slice_get (bytes_of_each data)) c.args.index
+          subst (λ (all : List Data). ReadsAt (as_bytes g.row.N) c.args.file.now.document
+          (slice_get (bytes_of_each all)) c.args.index
           (Some (counted_items c.in-Some.items).items)) c.deref.ensures.value c.in-Some.ensures.items;
       written = rw more (refl, refl);
     }
