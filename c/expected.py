@@ -1,0 +1,77 @@
+#!/usr/bin/env python3
+"""What `list` has to tell of files, read here by Python's own means: `expected.py FILE..`."""
+import base64
+import json
+import struct
+import sys
+
+KINDS = ("buffers", "bufferViews", "accessors", "meshes", "nodes", "materials", "scenes")
+COMPONENTS = {"SCALAR": 1, "VEC2": 2, "VEC3": 3, "VEC4": 4, "MAT2": 4, "MAT3": 9, "MAT4": 16}
+LETTERS = {5120: "b", 5121: "B", 5122: "h", 5123: "H", 5125: "I", 5126: "f"}
+
+
+def parts(data):
+    """The document and the binary chunk of a file."""
+    if data[:4] != b"glTF":
+        return json.loads(data), None
+    length = struct.unpack_from("<I", data, 12)[0]
+    document, behind = json.loads(data[20:20 + length]), 20 + length
+    if behind == len(data):
+        return document, None
+    size = struct.unpack_from("<I", data, behind)[0]
+    return document, data[behind + 8:behind + 8 + size]
+
+
+def bytes_of(buffer, blob):
+    if "uri" not in buffer:
+        return blob
+    return base64.b64decode(buffer["uri"].partition(",")[2])
+
+
+def numbers(document, buffers, accessor):
+    """The items of an accessor, each a list of numbers."""
+    letter, each = LETTERS[accessor["componentType"]], COMPONENTS[accessor["type"]]
+
+    def read(part, letter, each, count):
+        view = document["bufferViews"][part["bufferView"]]
+        start = view.get("byteOffset", 0) + part.get("byteOffset", 0)
+        form = "<" + letter * each
+        stride = view.get("byteStride", struct.calcsize(form))
+        data = buffers[view["buffer"]]
+        return [struct.unpack_from(form, data, start + k * stride) for k in range(count)]
+
+    count = accessor["count"]
+    if "bufferView" in accessor:
+        items = read(accessor, letter, each, count)
+    else:
+        items = [(0,) * each] * count
+    if "sparse" in accessor:
+        sparse = accessor["sparse"]
+        places = LETTERS[sparse["indices"]["componentType"]]
+        at = [place for place, in read(sparse["indices"], places, 1, sparse["count"])]
+        for place, item in zip(at, read(sparse["values"], letter, each, sparse["count"])):
+            items[place] = item
+    return items
+
+
+def tell(path):
+    with open(path, "rb") as file:
+        document, blob = parts(file.read())
+    buffers = [bytes_of(buffer, blob) for buffer in document.get("buffers", [])]
+    print(", ".join(f"{len(document.get(kind, []))} {kind}" for kind in KINDS))
+    for index, accessor in enumerate(document.get("accessors", [])):
+        letter, each = LETTERS[accessor["componentType"]], COMPONENTS[accessor["type"]]
+        size = struct.calcsize("<" + letter * each)
+        normalized = ", normalized" if accessor.get("normalized") else ""
+        sparse = ", sparse" if "sparse" in accessor else ""
+        form = "%.9g" if letter == "f" else "%d"
+        items = numbers(document, buffers, accessor)
+        told = "".join(" " + form % number for item in items for number in item)
+        print(
+            f"accessor {index}: {accessor['count']} of {size} bytes, {each} of type "
+            f"{accessor['componentType']}{normalized}{sparse}:{told}"
+        )
+
+
+for name in sys.argv[1:]:
+    tell(name)

@@ -1,0 +1,156 @@
+/* glTF 2.0, loaded and checked: the proved loader for C and C++.
+ *
+ *     gltf_file file = GLTF_CLOSED_FILE;
+ *     gltf_accessor what;
+ *     char why[256];
+ *     if (gltf_open(bytes, size, &file, why, sizeof why) != GLTF_SUCCESS) { puts(why); return 1; }
+ *     if (gltf_accessor_info(&file, 0, &what) == GLTF_SUCCESS) {
+ *         unsigned char *items = malloc(what.count * what.item_size);
+ *         gltf_accessor_read(&file, 0, items, what.count * what.item_size);
+ *     }
+ *     gltf_close(&file);
+ *
+ * WHAT IS PROVED of every call that keeps to the duties below. It returns, whatever the bytes are,
+ * and it reads and writes no memory but what its arguments name and what it has from malloc. What
+ * each call answers is said at the call, and is proved as it is said there.
+ * NOT PROVED, but tested: that all memory is given back, and that this header agrees with the code.
+ *
+ * WHAT A CALLER HAS TO KEEP. None of it can be tested by the library.
+ *   1. No pointer is NULL, also where the size beside it is 0. A pointer to bytes points to as many
+ *      as the size says, at most PTRDIFF_MAX. Nothing else writes them during the call.
+ *   2. What a call writes to (`file`, `message`, `out`) overlaps nothing else that it is given, and
+ *      is aligned as its type.
+ *   3. A gltf_file begins as GLTF_CLOSED_FILE, that is as zeros. Nothing but these functions writes
+ *      to it. It may be moved by copying its bytes; then only one of the copies is used.
+ *   4. All calls on a file come from the thread that opened it. Different files may be used at once
+ *      by different threads.
+ *   5. malloc, realloc and free are of one allocator, and align to 16. No call comes from a signal
+ *      handler, nor from the forked child of a process with threads.
+ *   6. The stack has room. No proof bounds it: give a thread that calls this library 256 KiB.
+ * A closed file is a good argument everywhere. Opening an open file lets go of what it held. Closing
+ * twice does nothing.
+ *
+ * Sizes and offsets are in bytes. Indices begin at 0 and follow the order in the file.
+ */
+#ifndef GLTF_H
+#define GLTF_H
+
+#include <stddef.h>
+
+#ifdef __cplusplus
+extern "C" {
+#endif
+
+/* An open or a closed file. Its member is the library's. */
+typedef struct gltf_file {
+    void *held;
+} gltf_file;
+
+#define GLTF_CLOSED_FILE { 0 }
+
+/* What a call answers. A call that does not answer GLTF_SUCCESS has written nothing, but gltf_open,
+ * which closes the file and writes the message. */
+enum {
+    GLTF_SUCCESS = 0,
+    GLTF_NO_MEMORY = 1,
+    GLTF_BAD_CONTAINER = 2,       /* the bytes begin with `glTF` and are no GLB container */
+    GLTF_BAD_JSON = 3,            /* the text is no JSON, or its value is no glTF document */
+    GLTF_BROKEN_RULES = 4,        /* the document breaks rules: the message has all, each with its path */
+    GLTF_BAD_BASE64 = 5,          /* the payload of a data URI is no base64 */
+    GLTF_SHORT_BUFFER = 6,        /* a buffer has fewer bytes than it declares */
+    GLTF_MISSING_BLOB = 7,        /* a buffer has no URI, and there is no BIN chunk for it */
+    GLTF_EXTERNAL_REFERENCE = 8,  /* a URI leads to another file */
+    GLTF_UNSUPPORTED_SCHEME = 9,  /* a URI has another scheme than `data`, or is no text */
+    GLTF_INPUT_OUTPUT = 10,       /* answered by no call */
+    GLTF_CLOSED = 11,             /* the file is closed */
+    GLTF_NO_SUCH_INDEX = 12,      /* nothing has that index */
+    GLTF_UNREADABLE = 13,         /* the accessor does not fit its views, or they their buffers */
+    GLTF_NO_ROOM = 14,            /* the items are more bytes than there is room for */
+    GLTF_OUT_OF_RANGE = 15        /* the buffer ends before the bytes that were asked for */
+};
+typedef unsigned int gltf_status;
+
+/* The kinds of records that a document lists. */
+enum {
+    GLTF_BUFFERS = 0,
+    GLTF_BUFFER_VIEWS = 1,
+    GLTF_ACCESSORS = 2,
+    GLTF_MESHES = 3,
+    GLTF_NODES = 4,
+    GLTF_MATERIALS = 5,
+    GLTF_SCENES = 6,
+    GLTF_SKINS = 7,
+    GLTF_ANIMATIONS = 8,
+    GLTF_IMAGES = 9,
+    GLTF_TEXTURES = 10,
+    GLTF_SAMPLERS = 11,
+    GLTF_CAMERAS = 12
+};
+
+/* The types of components, by their numbers in glTF 2.0. A number stands with its lowest byte first. */
+enum {
+    GLTF_I8 = 5120,
+    GLTF_U8 = 5121,
+    GLTF_I16 = 5122,
+    GLTF_U16 = 5123,
+    GLTF_U32 = 5125,
+    GLTF_F32 = 5126
+};
+
+/* What an accessor is. A matrix is a column behind the other. */
+typedef struct gltf_accessor {
+    size_t count;                /* items; of a sparse accessor without a view any number may stand */
+    size_t item_size;            /* bytes of an item, 1 to 64: its components, with no padding */
+    unsigned int component_type; /* GLTF_I8 .. GLTF_F32 */
+    unsigned int components;     /* of an item: 1, 2, 3, 4, 9 or 16 */
+    unsigned int normalized;     /* 1 where whole numbers stand for fractions, else 0 */
+    unsigned int sparse;         /* 1 where items are overridden, else 0 */
+} gltf_accessor;
+
+/* Opens a file from its `size` bytes: a GLB container where they begin with `glTF`, else JSON text.
+ * Buffers stand in the BIN chunk and in data URIs; no other file is read. What is needed is copied:
+ * the bytes may go after the call. What `file` held before is let go.
+ *
+ * GLTF_SUCCESS exactly where container, text, records, all rules of the format and the buffers hold,
+ * and there was memory: then `file` holds that document and those buffers, and no others are in the
+ * bytes. Else `file` is closed, and the status is that of the first of these layers that does not
+ * hold; then the bytes are not accepted at any other time either. Or it is GLTF_NO_MEMORY, which says
+ * nothing of the bytes.
+ *
+ * `message` gets the text of the error, cut to `message_size` - 1 bytes, with a zero byte behind it,
+ * or an empty text; with a size of 0 nothing is written. Where there was no memory for the text it
+ * says just that, and the status is what it would have been. */
+gltf_status gltf_open(const unsigned char *bytes, size_t size, gltf_file *file, char *message,
+                      size_t message_size);
+
+/* Gives back all that a file took, and leaves it closed. */
+void gltf_close(gltf_file *file);
+
+/* How many records of a kind (GLTF_BUFFERS ..) there are; 0 of a closed file or another kind. */
+size_t gltf_count(gltf_file *file, unsigned int kind);
+
+/* What accessor `index` is. GLTF_SUCCESS, GLTF_CLOSED or GLTF_NO_SUCH_INDEX. */
+gltf_status gltf_accessor_info(gltf_file *file, size_t index, gltf_accessor *out);
+
+/* Writes the items of accessor `index` to the front of `out`, one behind the other, count * item_size
+ * bytes: those of its view, or zeros, with sparse values in place of some. What stands behind them in
+ * `out` stays.
+ *
+ * GLTF_CLOSED where the file is closed, else GLTF_NO_SUCH_INDEX where there is no such accessor, else
+ * GLTF_UNREADABLE where its views do not hold its items, else GLTF_NO_ROOM where these are more than
+ * `out_size` bytes, else GLTF_SUCCESS; each exactly there. */
+gltf_status gltf_accessor_read(gltf_file *file, size_t index, void *out, size_t out_size);
+
+/* How many bytes buffer `index` has: a multiple of 4, at least as many as it declares, filled up with
+ * zeros. GLTF_SUCCESS, GLTF_CLOSED or GLTF_NO_SUCH_INDEX. */
+gltf_status gltf_buffer_size(gltf_file *file, size_t index, size_t *out);
+
+/* Fills `out` with the `out_size` bytes of buffer `index` from `offset` on. GLTF_SUCCESS, GLTF_CLOSED,
+ * GLTF_NO_SUCH_INDEX, or GLTF_OUT_OF_RANGE where the buffer has not so many. */
+gltf_status gltf_buffer_read(gltf_file *file, size_t index, size_t offset, void *out,
+                             size_t out_size);
+
+#ifdef __cplusplus
+}
+#endif
+#endif

@@ -1,0 +1,5 @@
+pub mod Held
+pub mod Pointed
+pub mod Sizes
+pub mod Terminated
+pub mod Written

@@ -1,0 +1,76 @@
+-- What the calls from C do, by what the file holds: `None` is a closed one. A status is the number
+-- that C sees.
+use Rattle.std.specs.Prelude.{◌≡◌, ◌≢◌, ℕ, List, [], Option, Some, None, slice_get, option_map}
+use Rattle.gltf_glb.specs.declared.error.Error.{Error}
+use Rattle.gltf_glb.specs.declared.error.Error.TheVariants.{Memory}
+use Rattle.gltf_data.specs.Documents.{accessor_at}
+use Rattle.gltf.specs.Errors.{OutOfMemoryOr}
+use Rattle.gltf.specs.Import.{Accepts, RefusesImport, IsOnlyImport, IsNotAccepted}
+use Rattle.gltf.specs.Shown.{bytes_of_each}
+use Rattle.gltf_c.specs.Info.{count_of, IsDescribed}
+use Rattle.gltf_c.specs.Message.{terminated, Tells}
+use Rattle.gltf_c.specs.Read.{IsRead, IsSized, IsCopied}
+use Rattle.gltf_c.specs.Status.{code, status_of}
+use Rattle.gltf_c.specs.declared.file.File.{File}
+use Rattle.gltf_c.specs.declared.info.GltfAccessor.{GltfAccessor}
+use Rattle.gltf_c.specs.declared.status.Status.{Status}
+use Rattle.gltf_c.specs.declared.status.Status.TheVariants.{Success, Closed}
+
+-- the bytes are those of this document and these buffers, and of no other
+pub record Holds (bytes : List ℕ) (file : File) : Type 0 where
+  pub accepted : Accepts bytes file.document (bytes_of_each file.buffers.items)
+  pub only : IsOnlyImport bytes file.document (bytes_of_each file.buffers.items)
+
+-- the error of the layer at fault, which is told; the bytes are not accepted, but where memory was
+-- wanting
+pub record Refuses (bytes : List ℕ) (e : Error) : Type 0 where
+  pub fault : OutOfMemoryOr (RefusesImport bytes) e
+  pub exact : e ≢ Memory → IsNotAccepted bytes
+
+pub record IsRefused (bytes : List ℕ) (status : ℕ) (old new : List ℕ) : Type 0 where
+  pub error : Error
+  pub refused : Refuses bytes error
+  pub names : status ≡ code (status_of error)
+  pub told : Tells error old new
+
+-- opened, with an empty message; or closed, with the message of an error
+abbrev pub IsOpened : List ℕ → ℕ → Option File → List ℕ → List ℕ → Type 0
+IsOpened bytes status None old new = IsRefused bytes status old new
+IsOpened bytes status (Some file) old new =
+    (status ≡ code Success) × Holds bytes file × (new ≡ terminated [] old)
+
+-- the number of records of a kind; of a closed file it is 0
+abbrev pub HasCount : Option File → ℕ → ℕ → Type 0
+HasCount None kind n = n ≡ 0
+HasCount (Some file) kind n = n ≡ count_of kind file.document
+
+-- a closed file says so, and nothing is written
+abbrev pub IsClosed : {X : Type 0} → ℕ → X → X → Type 0
+IsClosed status old new = (status ≡ code Closed) × (new ≡ old)
+
+-- of an open one the status is the number of one by which P holds
+pub record Answers (P : Status → Type 0) (number : ℕ) : Type 0 where
+  pub status : Status
+  pub names : number ≡ code status
+  pub holds : P status
+
+abbrev pub Describes : Option File → ℕ → ℕ → GltfAccessor → GltfAccessor → Type 0
+Describes None index n old new = IsClosed n old new
+Describes (Some file) index n old new =
+    Answers (λ status. IsDescribed (accessor_at file.document index) status old new) n
+
+abbrev pub ReadsItems : Option File → ℕ → ℕ → List ℕ → List ℕ → Type 0
+ReadsItems None index n old new = IsClosed n old new
+ReadsItems (Some file) index n old new =
+    Answers (λ status. IsRead file index (accessor_at file.document index) status old new) n
+
+abbrev pub SizesBuffer : Option File → ℕ → ℕ → ℕ → ℕ → Type 0
+SizesBuffer None index n old new = IsClosed n old new
+SizesBuffer (Some file) index n old new =
+    Answers (λ status. IsSized (slice_get (bytes_of_each file.buffers.items) index) status old new) n
+
+abbrev pub CopiesBuffer : Option File → ℕ → ℕ → ℕ → List ℕ → List ℕ → Type 0
+CopiesBuffer None index offset n old new = IsClosed n old new
+CopiesBuffer (Some file) index offset n old new =
+    Answers (λ status. IsCopied offset (slice_get (bytes_of_each file.buffers.items) index) status
+    old new) n

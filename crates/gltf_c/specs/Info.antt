@@ -1,0 +1,73 @@
+-- What a file has, as C sees it.
+use Rattle.std.specs.Prelude.{◌≡◌, ℕ, Bool, true, false, List, [], ◌∷◌, length, slice_get, Option}
+use Rattle.std.specs.Prelude.{Some, None, is_some, unwrap_or, option_map}
+use Rattle.gltf_json.specs.declared.root.Root.{Root}
+use Rattle.gltf_json_geometry.specs.declared.accessor.Accessor.{Accessor}
+use Rattle.gltf_handles.specs.Sizes.{code_of, data_type, dimensions, multiplicity, item_size}
+use Rattle.gltf_handles.specs.declared.accessor.DataType.{DataType}
+use Rattle.gltf_handles.specs.declared.accessor.DataType.TheVariants.{I8, U8, I16, U16, U32, F32}
+use Rattle.gltf_c.specs.declared.info.Kind.{Kind}
+use Rattle.gltf_c.specs.declared.info.Kind.TheVariants.{Buffers, BufferViews, Accessors, Meshes}
+use Rattle.gltf_c.specs.declared.info.Kind.TheVariants.{Nodes, Materials, Scenes, Skins}
+use Rattle.gltf_c.specs.declared.info.Kind.TheVariants.{Animations, Images, Textures, Samplers}
+use Rattle.gltf_c.specs.declared.info.Kind.TheVariants.{Cameras}
+use Rattle.gltf_c.specs.declared.info.GltfAccessor.{GltfAccessor}
+use Rattle.gltf_c.specs.declared.status.Status.{Status}
+use Rattle.gltf_c.specs.declared.status.Status.TheVariants.{Success, NoSuchIndex}
+
+-- the kind of each number from 0 on
+abbrev pub kinds : List Kind
+kinds = Buffers ∷ BufferViews ∷ Accessors ∷ Meshes ∷ Nodes ∷ Materials ∷ Scenes ∷ Skins
+    ∷ Animations ∷ Images ∷ Textures ∷ Samplers ∷ Cameras ∷ []
+
+abbrev pub kind_of : ℕ → Option Kind
+kind_of number = slice_get kinds number
+
+-- how many records of a kind a document has
+abbrev pub counted : Kind → Root → ℕ
+counted Buffers r = length r.buffers.items
+counted BufferViews r = length r.buffer_views.items
+counted Accessors r = length r.accessors.items
+counted Meshes r = length r.meshes.items
+counted Nodes r = length r.nodes.items
+counted Materials r = length r.materials.items
+counted Scenes r = length r.scenes.items
+counted Skins r = length r.skins.items
+counted Animations r = length r.animations.items
+counted Images r = length r.images.items
+counted Textures r = length r.textures.items
+counted Samplers r = length r.samplers.items
+counted Cameras r = length r.cameras.items
+
+-- the number of a component type (glTF 2.0, section 3.6.2.2)
+abbrev pub component_number : DataType → ℕ
+component_number I8 = 5120
+component_number U8 = 5121
+component_number I16 = 5122
+component_number U16 = 5123
+component_number U32 = 5125
+component_number F32 = 5126
+
+abbrev pub one_or_zero : Bool → ℕ
+one_or_zero true = 1
+one_or_zero false = 0
+
+-- what C sees of an accessor
+abbrev pub description : Accessor → GltfAccessor
+description a = record {
+  count = a.count;
+  item_size = item_size a;
+  component_type = code_of (λ c. component_number (data_type c)) a.component_type;
+  components = code_of (λ c. multiplicity (dimensions c)) a.type_;
+  normalized = one_or_zero a.normalized;
+  sparse = one_or_zero (is_some a.sparse);
+}
+
+-- the accessor is described where it is there, else nothing is written
+abbrev pub IsDescribed : Option Accessor → Status → GltfAccessor → GltfAccessor → Type 0
+IsDescribed None status old new = (status ≡ NoSuchIndex) × (new ≡ old)
+IsDescribed (Some a) status old new = (status ≡ Success) × (new ≡ description a)
+
+-- how many records there are of the kind of a number; none where the number has no kind
+abbrev pub count_of : ℕ → Root → ℕ
+count_of number r = unwrap_or (option_map (λ kind. counted kind r) (kind_of number)) 0

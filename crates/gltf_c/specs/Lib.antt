@@ -1,0 +1,7 @@
+pub mod Calls
+pub mod Front
+pub mod Info
+pub mod Message
+pub mod Owned
+pub mod Read
+pub mod Status

@@ -1,0 +1,11 @@
+//! What an open handle holds.
+
+use gltf::Document;
+use gltf::buffer::Data;
+
+/// A document that breaks no rule, and the bytes of its buffers, by index.
+#[derive(Drop)]
+pub struct File {
+    pub document: Document,
+    pub buffers: Vec<Data>,
+}

@@ -1,0 +1,131 @@
+//! What a file has.
+
+ghost use Rattle.std.specs.Prelude.{◌≡◌, Some};
+ghost use Rattle.gltf_data.specs.Documents.{accessor_at};
+ghost use Rattle.gltf_handles.specs.Accessors.{accessor_handle};
+ghost use Rattle.gltf_c.specs.Info.{kind_of, counted, description, IsDescribed, component_number};
+
+use crate::file::File;
+use crate::status::Status;
+use gltf::accessor::{Accessor, DataType};
+
+/// A kind of records.
+#[derive(Clone, Copy, Debug, PartialEq, Eq)]
+pub enum Kind {
+    Buffers,
+    BufferViews,
+    Accessors,
+    Meshes,
+    Nodes,
+    Materials,
+    Scenes,
+    Skins,
+    Animations,
+    Images,
+    Textures,
+    Samplers,
+    Cameras,
+}
+
+impl Kind {
+    /// The kind of a number, where there is one.
+    pub fn of(number: u32) -> Option<Kind>
+        ensures { result ≡ kind_of number }
+    {
+        match number {
+            0 => Some(Kind::Buffers),
+            1 => Some(Kind::BufferViews),
+            2 => Some(Kind::Accessors),
+            3 => Some(Kind::Meshes),
+            4 => Some(Kind::Nodes),
+            5 => Some(Kind::Materials),
+            6 => Some(Kind::Scenes),
+            7 => Some(Kind::Skins),
+            8 => Some(Kind::Animations),
+            9 => Some(Kind::Images),
+            10 => Some(Kind::Textures),
+            11 => Some(Kind::Samplers),
+            12 => Some(Kind::Cameras),
+            _ => None,
+        }
+    }
+}
+
+/// What an accessor is. C declares the same struct.
+#[repr(C)]
+#[derive(Clone, Copy, Drop)]
+pub struct GltfAccessor {
+    /// How many items there are.
+    pub count: usize,
+    /// The bytes of an item.
+    pub item_size: usize,
+    /// The type of a component, by its number in glTF 2.0.
+    pub component_type: u32,
+    /// How many components an item has.
+    pub components: u32,
+    /// 1 where whole numbers stand for fractions, else 0.
+    pub normalized: u32,
+    /// 1 where items of a view are overridden, else 0.
+    pub sparse: u32,
+}
+
+/// How many records of a kind there are.
+pub(crate) fn count(file: &File, kind: Kind) -> usize
+    ensures { result ≡ counted kind file.now.document }
+{
+    let root = file.document.as_json();
+    match kind {
+        Kind::Buffers => root.buffers.len(),
+        Kind::BufferViews => root.buffer_views.len(),
+        Kind::Accessors => root.accessors.len(),
+        Kind::Meshes => root.meshes.len(),
+        Kind::Nodes => root.nodes.len(),
+        Kind::Materials => root.materials.len(),
+        Kind::Scenes => root.scenes.len(),
+        Kind::Skins => root.skins.len(),
+        Kind::Animations => root.animations.len(),
+        Kind::Images => root.images.len(),
+        Kind::Textures => root.textures.len(),
+        Kind::Samplers => root.samplers.len(),
+        Kind::Cameras => root.cameras.len(),
+    }
+}
+
+/// What the accessor at an index is.
+pub(crate) fn describe(file: &File, index: usize, out: &mut GltfAccessor) -> Status
+    ensures { IsDescribed (accessor_at file.now.document index) result out.old out.new }
+{
+    if index < file.document.as_json().accessors.len() {
+        *out = description(Accessor::new(file.document.as_valid(), index));
+        Status::Success
+    } else {
+        Status::NoSuchIndex
+    }
+}
+
+fn description(accessor: Accessor<'_>) -> GltfAccessor
+    ensures { result ≡ description (accessor_handle accessor.entry).json }
+{
+    GltfAccessor {
+        count: accessor.count(),
+        item_size: accessor.size(),
+        component_type: number_of(accessor.data_type()),
+        components: accessor.dimensions().multiplicity() as u32,
+        normalized: if accessor.normalized() { 1 } else { 0 },
+        sparse: if accessor.sparse().is_some() { 1 } else { 0 },
+    }
+}
+
+/// The number of a component type (glTF 2.0, section 3.6.2.2).
+fn number_of(kind: DataType) -> u32
+    ensures { result ≡ component_number kind }
+{
+    match kind {
+        DataType::I8 => 5120,
+        DataType::U8 => 5121,
+        DataType::I16 => 5122,
+        DataType::U16 => 5123,
+        DataType::U32 => 5125,
+        DataType::F32 => 5126,
+    }
+}

@@ -1,0 +1,263 @@
+#!/usr/bin/env python3
+"""Builds the static library for C and tries it: `make c`, and, behind `rt ci`, `make test`.
+
+The prover proves `crates/gltf_c` before a byte of it is built. `out/c/libgltf.a` is that library
+and the few lines of the toolchain over malloc, joined, and shows the exports alone. With the word
+`behind-ci` it stands on the libraries as `rt ci` left them, and proves none of them again. The
+last line is `N passed, M failed`."""
+import os
+import pathlib
+import re
+import shutil
+import subprocess
+import sys
+import tempfile
+
+sys.dont_write_bytecode = True
+
+import crates
+
+CRATE = crates.TOP / "crates" / "gltf_c"
+C = crates.TOP / "c"
+OUT = crates.TOP / "out" / "c"
+LIBRARY = OUT / "libgltf.a"
+FILES = [os.fspath(crates.TOP / "examples" / name) for name in
+         ("box.glb", "triangle.gltf", "dangling.gltf")]
+FINE = FILES[:2]
+# How many mutated copies of each file are tried, by the sanitizers and by valgrind.
+TIMES, TIMES_BY_VALGRIND = 33_334, 334
+STRICT = ["-Wall", "-Wextra", "-Werror", "-pedantic", "-O2"]
+# What the types of exports are in C. A slice is a pointer and a count.
+TYPES = {
+    "usize": ["size_t"],
+    "u32": ["unsigned int"],
+    "&[u8]": ["const void *", "size_t"],
+    "&mut [u8]": ["void *", "size_t"],
+    "&mut usize": ["size_t *"],
+    "&mut u32": ["unsigned int *"],
+}
+
+
+def ran(*words, **how):
+    """What a command writes; it has to end with 0."""
+    how = {"check": True, "text": True, "stdout": subprocess.PIPE, **how}
+    return subprocess.run([os.fspath(word) for word in words], **how).stdout
+
+
+def kit():
+    return pathlib.Path(ran("rt", "doc").strip()).parent
+
+
+def source():
+    return "".join(file.read_text() for file in sorted((CRATE / "src").rglob("*.rt")))
+
+
+def exports():
+    """The exported functions: of each its name, its parameters and its result."""
+    form = r'pub extern "C" fn (\w+)\(([^)]*)\)(?: -> (\w+))?'
+    found = []
+    for name, inner, result in re.findall(form, source()):
+        pairs = [pair.split(": ", 1) for pair in re.split(r",\s*", inner.strip(" ,\n")) if pair]
+        found.append((name, [pair for pair in pairs if pair[1] != "Global"], result or "void"))
+    return found
+
+
+def build(behind_ci):
+    """The archive of the crate."""
+    archive = CRATE / "out" / "libgltf_c.a"
+    if not behind_ci:
+        subprocess.run(["rt", "lib"], cwd=CRATE, check=True)
+        return archive
+    listed, top = crates.listed(), crates.TOP / "crates"
+    of_kit = ["std", *(name for name in listed["gltf_c"] if name not in listed)]
+    words = ["--crate-name", "gltf_c", "src/lib.rt", "-L", f"dependency={kit()}/rlibs"]
+    for name in dict.fromkeys(of_kit):
+        words += ["--extern", f"{name}={kit()}/rlibs/{name}.rlib"]
+    for name in listed["gltf_c"]:
+        if name in listed:
+            words += ["--extern", f"{name}={top}/{name}/out/rlib/{name}.rlib"]
+    for name in crates.below("gltf_c")[:-1]:
+        words += ["-L", f"dependency={top}/{name}/out/rlib"]
+    words += ["--antt-project", f"{kit()}/rattle/logic/antt-project.json"]
+    words += ["--logic-built", f"{kit()}/logic_built", "--jobs", "2", "--links", "gltf_c="]
+    words += ["--crate-type", "staticlib", "--toolchain", f"{kit()}/toolchain"]
+    (CRATE / "out").mkdir(exist_ok=True)
+    words += ["--backend", "llvm", "-o", archive]
+    said = ran(f"{kit()}/bin/rattle", "build", *words, cwd=CRATE)
+    print(said.splitlines()[-1])
+    return archive
+
+
+def join(archive):
+    """One archive that shows the exports alone."""
+    OUT.mkdir(parents=True, exist_ok=True)
+    joined = OUT / "gltf.o"
+    ran("ld", "-r", "-o", joined, "--whole-archive", archive, f"{kit()}/c/liblibc_c.a")
+    ran("objcopy", *(f"--keep-global-symbol={name}" for name, _, _ in exports()), joined)
+    LIBRARY.unlink(missing_ok=True)
+    ran("ar", "rcs", LIBRARY, joined)
+
+
+def shows_exports_alone():
+    shown = {line.split()[-1] for line in ran("nm", "-g", "--defined-only", LIBRARY).splitlines()
+             if len(line.split()) == 3}
+    assert shown == {name for name, _, _ in exports()}, shown
+
+
+def c_types(name, kind):
+    if kind == "&mut [u8]" and name in ("message", "name"):
+        return ["char *", "size_t"]
+    if kind.startswith("&mut Gltf"):
+        return [re.sub(r"(?<!^)(?=[A-Z])", "_", kind[5:]).lower() + " *"]
+    return TYPES[kind]
+
+
+def header_has_the_signatures():
+    """A declaration made of each export has to be that of the header, and each struct has to lie
+    in memory as it does there."""
+    lines = ['#include "gltf.h"', "#include <stddef.h>"]
+    for name, parameters, result in exports():
+        types = [kind for pair in parameters for kind in c_types(*pair)]
+        result = result if result == "void" else TYPES[result][0]
+        lines.append(f"{result} {name}({', '.join(types) or 'void'});")
+    for name, fields in re.findall(r"#\[repr\(C\)\][^{]*pub struct (\w+) \{([^}]*)\}", source()):
+        struct, at = re.sub(r"(?<!^)(?=[A-Z])", "_", name).lower(), 0
+        for field, kind in re.findall(r"pub (\w+): (usize|u32)\b", fields):
+            size = 8 if kind == "usize" else 4
+            at = (at + size - 1) // size * size
+            lines.append(f"_Static_assert(offsetof({struct}, {field}) == {at}, \"{field}\");")
+            at += size
+    file = OUT / "signatures.c"
+    file.write_text("\n".join(lines) + "\n")
+    ran("cc", "-std=c11", "-Wall", "-Werror", f"-I{C}", "-fsyntax-only", file)
+
+
+def built(name, *more, by="cc", language=()):
+    program = OUT / f"{name}{'_' + by if by != 'cc' else ''}"
+    ran(by, *STRICT, *language, f"-I{C}", C / f"{name}.c", *more, "-x", "none", LIBRARY,
+        "-o", program)
+    return program
+
+
+def compilers():
+    """Each compiler that is there, with the language that it is tried in."""
+    ways = [("gcc", ["-std=c89"]), ("g++", ["-std=c++11", "-x", "c++"]),
+            ("clang", ["-std=c89"]), ("clang++", ["-std=c++11", "-x", "c++"])]
+    return [(by, words) for by, words in ways if shutil.which(by)]
+
+
+def shows_by_each_compiler():
+    for by, language in compilers():
+        told = ran(built("show", by=by, language=language), FILES[0])
+        assert told == "24 points, the first 0.5 -0.5 -0.5\n", (by, told)
+
+
+def lists_what_the_files_hold():
+    program = built("list", "-std=c89")
+    wanted = ran(sys.executable, C / "expected.py", *FINE)
+    assert ran(program, *FINE) == wanted
+
+
+def mutated_files_break_nothing():
+    program = built("mutate", "-g", "-fsanitize=address,undefined")
+    print(ran(program, str(TIMES), *FILES), end="")
+
+
+def valgrind_sees_no_error():
+    if not shutil.which("valgrind"):
+        return "there is no valgrind"
+    program = built("mutate", by="gcc")
+    ran("valgrind", "-q", "--leak-check=full", "--error-exitcode=9", program,
+        str(TIMES_BY_VALGRIND), *FILES)
+    return None
+
+
+def each_growth_is_refused_in_turn():
+    wraps = ",".join(f"--wrap={name}" for name in ("malloc", "realloc", "free"))
+    program = built("failing", f"-Wl,{wraps}")
+    for file in FILES:
+        print(ran(program, file), end="")
+
+
+def links_from_rust():
+    if not shutil.which("rustc"):
+        return "there is no rustc"
+    program = OUT / "main"
+    ran("rustc", "-O", C / "main.rs", "-o", program, f"-Clink-arg={LIBRARY}")
+    assert ran(program, FILES[0]) == "4 accessors\n"
+    return None
+
+
+def is_found_where_it_is_installed():
+    """A program is built against the installed files, by pkg-config and by CMake."""
+    with tempfile.TemporaryDirectory() as room:
+        install(pathlib.Path(room) / "usr")
+        for name in ("show.c", "contents.h"):
+            shutil.copy(C / name, room)
+        lacking = [by for by, way in (("pkg-config", by_pkg_config), ("cmake", by_cmake))
+                   if not way(pathlib.Path(room))]
+    return f"there is no {' and no '.join(lacking)}" if lacking else None
+
+
+def by_pkg_config(room):
+    if not shutil.which("pkg-config"):
+        return False
+    where = {**os.environ, "PKG_CONFIG_PATH": f"{room}/usr/lib/pkgconfig"}
+    flags = ran("pkg-config", "--cflags", "--libs", "gltf", env=where).split()
+    ran("cc", room / "show.c", *flags, "-o", room / "show")
+    return ran(room / "show", FILES[0]).startswith("24 points")
+
+
+def by_cmake(room):
+    if not shutil.which("cmake"):
+        return False
+    (room / "CMakeLists.txt").write_text(
+        "cmake_minimum_required(VERSION 3.10)\nproject(show C)\nfind_package(gltf REQUIRED)\n"
+        "add_executable(shown show.c)\ntarget_link_libraries(shown gltf::gltf)\n")
+    ran("cmake", f"-DCMAKE_PREFIX_PATH={room}/usr", "-S", room, "-B", room / "built")
+    ran("cmake", "--build", room / "built")
+    return ran(room / "built" / "shown", FILES[0]).startswith("24 points")
+
+
+def install(prefix):
+    """The header, the library, and what pkg-config and CMake look for."""
+    places = {
+        "include/gltf.h": (C / "gltf.h").read_bytes(),
+        "lib/libgltf.a": LIBRARY.read_bytes(),
+        "lib/pkgconfig/gltf.pc": (C / "gltf.pc").read_bytes(),
+        "lib/cmake/gltf/gltf-config.cmake": (C / "gltf-config.cmake").read_bytes(),
+    }
+    for place, contents in places.items():
+        file = prefix / place
+        file.parent.mkdir(parents=True, exist_ok=True)
+        file.write_bytes(contents)
+        print(file)
+
+
+TESTS = (
+    shows_exports_alone, header_has_the_signatures, shows_by_each_compiler,
+    lists_what_the_files_hold, mutated_files_break_nothing, valgrind_sees_no_error,
+    each_growth_is_refused_in_turn, links_from_rust, is_found_where_it_is_installed,
+)
+
+
+def holds(test):
+    name = test.__name__.replace("_", " ")
+    try:
+        skipped = test()
+    except (AssertionError, subprocess.CalledProcessError, KeyError) as why:
+        print(f"c: {name}: FAILED: {why}")
+        return False
+    print(f"c: {name}: {f'not tried, since {skipped}' if skipped else 'ok'}")
+    return True
+
+
+def main():
+    join(build("behind-ci" in sys.argv[1:]))
+    good = [holds(test) for test in TESTS]
+    print(f"{sum(good)} passed, {len(good) - sum(good)} failed")
+    return 0 if all(good) else 1
+
+
+if __name__ == "__main__":
+    sys.exit(main())
