@@ -1,67 +1,99 @@
-/* FILE..: refuses each allocation of opening, reading and closing a file in turn. Linked with
- * --wrap=malloc,--wrap=realloc,--wrap=free. What was made has to be freed each time. */
+/* Refuses each growth of memory in turn, from the opening of a file to its closing: `failing
+ * FILE`. Linked with --wrap=malloc,--wrap=realloc,--wrap=free. It ends with 0 where each answer is
+ * the file's own or says that there was not enough memory, and all memory was given back. */
 #include "gltf.h"
-#include "read_file.h"
 
-static long left = -1, made, freed;
+#include <stdio.h>
+#include <stdlib.h>
+#include <string.h>
 
-void *__real_malloc(size_t);
-void *__real_realloc(void *, size_t);
-void __real_free(void *);
+void *__real_malloc(size_t size);
+void *__real_realloc(void *block, size_t size);
+void __real_free(void *block);
+void *__wrap_malloc(size_t size);
+void *__wrap_realloc(void *block, size_t size);
+void __wrap_free(void *block);
 
-void *__wrap_malloc(size_t size) {
-    void *block;
-    if (left == 0) return NULL;
-    if (left > 0) left--;
-    block = __real_malloc(size);
-    if (block) made++;
+/* How many growths are granted before one is refused; below 0: all. */
+static long granted = -1;
+static int was_refused;
+static long blocks;
+
+static int is_refused(void)
+{
+    if (granted < 0)
+        return 0;
+    if (granted-- > 0)
+        return 0;
+    was_refused = 1;
+    return 1;
+}
+
+void *__wrap_malloc(size_t size)
+{
+    void *block = is_refused() ? NULL : __real_malloc(size);
+    blocks += block != NULL;
     return block;
 }
 
-void *__wrap_realloc(void *block, size_t size) {
-    if (left == 0) return NULL;
-    if (left > 0) left--;
-    return __real_realloc(block, size);
+void *__wrap_realloc(void *block, size_t size)
+{
+    void *moved;
+    if (is_refused())
+        return NULL;
+    moved = __real_realloc(block, size);
+    blocks += block == NULL && moved != NULL;
+    return moved;
 }
 
-void __wrap_free(void *block) {
-    if (block) freed++;
+void __wrap_free(void *block)
+{
+    blocks -= block != NULL;
     __real_free(block);
 }
 
-static unsigned char room[1 << 16];
+static unsigned char items[1 << 16];
 
-static gltf_status try_one(const unsigned char *bytes, size_t size, long allowed, int *refused) {
+/* Opens, reads all and closes, and answers the status of the opening. */
+static gltf_status whole(const unsigned char *bytes, size_t size, char *why, size_t why_size)
+{
     gltf_file file = GLTF_CLOSED_FILE;
-    char why[100];
-    gltf_status status;
+    gltf_status status = gltf_open(bytes, size, &file, why, why_size);
     size_t i;
-    made = freed = 0;
-    left = allowed;
-    status = gltf_open(bytes, size, &file, why, sizeof why);
-    for (i = 0; i < gltf_count(&file, GLTF_ACCESSORS); i++) gltf_accessor_read(&file, i, room, sizeof room);
-    *refused = left == 0;
+    for (i = 0; i < gltf_count(&file, GLTF_ACCESSORS); i++)
+        gltf_accessor_read(&file, i, items, sizeof items);
     gltf_close(&file);
-    left = -1;
-    if (made != freed) { printf("allocation %ld: made %ld, freed %ld\n", allowed, made, freed); exit(3); }
     return status;
 }
 
-int main(int argc, char **argv) {
-    int k;
-    for (k = 1; k < argc; k++) {
-        size_t size = 0;
-        long n = 0, no_memory = 0;
-        int refused;
+int main(int words, char **word)
+{
+    static unsigned char bytes[1 << 20];
+    char why[200];
+    long growths = 0, refused = 0;
+    size_t size;
+    gltf_status own;
+    FILE *file = words == 2 ? fopen(word[1], "rb") : NULL;
+    if (file == NULL)
+        return 2;
+    size = fread(bytes, 1, sizeof bytes, file);
+    fclose(file);
+    own = whole(bytes, size, why, sizeof why);
+    for (;;) {
         gltf_status status;
-        unsigned char *bytes = read_file(argv[k], &size);
-        if (!bytes) return 2;
-        do {
-            status = try_one(bytes, size, n++, &refused);
-            if (status == GLTF_NO_MEMORY) no_memory++;
-        } while (refused);
-        printf("%ld allocations, %ld answers of no memory, status %u in the end\n", n - 1, no_memory, status);
-        free(bytes);
+        blocks = 0;
+        was_refused = 0;
+        granted = growths;
+        status = whole(bytes, size, why, sizeof why);
+        granted = -1;
+        if (blocks != 0 || (status != own && status != GLTF_NO_MEMORY))
+            return 3;
+        if (!was_refused)
+            break;
+        refused += status == GLTF_NO_MEMORY;
+        growths++;
     }
+    printf("%ld growths, each refused once: %ld times no memory, then status %u\n", growths,
+           refused, own);
     return 0;
 }

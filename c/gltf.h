@@ -27,8 +27,8 @@
  *   5. malloc, realloc and free are of one allocator, and align to 16. No call comes from a signal
  *      handler, nor from the forked child of a process with threads.
  *   6. The stack has room. No proof bounds it: give a thread that calls this library 256 KiB.
- * A closed file is a good argument everywhere. Opening an open file lets go of what it held. Closing
- * twice does nothing.
+ * A closed file is a good argument everywhere. Opening an open file lets go of what it held.
+ * Closing twice does nothing.
  *
  * Sizes and offsets are in bytes. Indices begin at 0 and follow the order in the file.
  */
@@ -48,14 +48,14 @@ typedef struct gltf_file {
 
 #define GLTF_CLOSED_FILE { 0 }
 
-/* What a call answers. A call that does not answer GLTF_SUCCESS has written nothing, but gltf_open,
- * which closes the file and writes the message. */
+/* What a call answers. A call that does not answer GLTF_SUCCESS has written nothing, but for
+ * gltf_open, which closes the file and writes the message. */
 enum {
     GLTF_SUCCESS = 0,
     GLTF_NO_MEMORY = 1,
     GLTF_BAD_CONTAINER = 2,       /* the bytes begin with `glTF` and are no GLB container */
     GLTF_BAD_JSON = 3,            /* the text is no JSON, or its value is no glTF document */
-    GLTF_BROKEN_RULES = 4,        /* the document breaks rules: the message has all, each with its path */
+    GLTF_BROKEN_RULES = 4,        /* the document breaks rules: the message has all of them */
     GLTF_BAD_BASE64 = 5,          /* the payload of a data URI is no base64 */
     GLTF_SHORT_BUFFER = 6,        /* a buffer has fewer bytes than it declares */
     GLTF_MISSING_BLOB = 7,        /* a buffer has no URI, and there is no BIN chunk for it */
@@ -87,7 +87,7 @@ enum {
     GLTF_CAMERAS = 12
 };
 
-/* The types of components, by their numbers in glTF 2.0. A number stands with its lowest byte first. */
+/* The types of components, by their numbers in glTF 2.0. A number has its lowest byte first. */
 enum {
     GLTF_I8 = 5120,
     GLTF_U8 = 5121,
@@ -107,20 +107,21 @@ typedef struct gltf_accessor {
     unsigned int sparse;         /* 1 where items are overridden, else 0 */
 } gltf_accessor;
 
-/* Opens a file from its `size` bytes: a GLB container where they begin with `glTF`, else JSON text.
- * Buffers stand in the BIN chunk and in data URIs; no other file is read. What is needed is copied:
- * the bytes may go after the call. What `file` held before is let go.
+/* Opens a file from its `size` bytes: a GLB container where they begin with `glTF`, else JSON text
+ * (glTF 2.0, sections 2.8, 3.6.1 and 4.4). Buffers stand in the BIN chunk and in data URIs; no
+ * other file is read. What is needed is copied: the bytes may go after the call. What `file` held
+ * before is let go.
  *
- * GLTF_SUCCESS exactly where container, text, records, all rules of the format and the buffers hold,
- * and there was memory: then `file` holds that document and those buffers, and no others are in the
- * bytes. Else `file` is closed, and the status is that of the first of these layers that does not
- * hold; then the bytes are not accepted at any other time either. Or it is GLTF_NO_MEMORY, which says
- * nothing of the bytes.
+ * GLTF_SUCCESS exactly where container, text, records, all rules of the format and the buffers
+ * hold, and there was memory: then `file` holds that document and those buffers, and no others are
+ * in the bytes. Else `file` is closed, and the status is that of the first of these layers that
+ * does not hold; then the bytes are not accepted at any other time either. Or it is GLTF_NO_MEMORY,
+ * which says nothing of the bytes.
  *
- * `message` gets the text of the error, cut to `message_size` - 1 bytes, with a zero byte behind it,
- * or an empty text; with a size of 0 nothing is written. Where there was no memory for the text it
- * says just that, and the status is what it would have been. */
-gltf_status gltf_open(const unsigned char *bytes, size_t size, gltf_file *file, char *message,
+ * `message` gets the text of the error, cut to `message_size` - 1 bytes, with a zero byte behind
+ * it, or an empty text; with a size of 0 nothing is written. Where there was no memory for the text
+ * it says just that, and the status is what it would have been. */
+gltf_status gltf_open(const void *bytes, size_t size, gltf_file *file, char *message,
                       size_t message_size);
 
 /* Gives back all that a file took, and leaves it closed. */
@@ -132,21 +133,21 @@ size_t gltf_count(gltf_file *file, unsigned int kind);
 /* What accessor `index` is. GLTF_SUCCESS, GLTF_CLOSED or GLTF_NO_SUCH_INDEX. */
 gltf_status gltf_accessor_info(gltf_file *file, size_t index, gltf_accessor *out);
 
-/* Writes the items of accessor `index` to the front of `out`, one behind the other, count * item_size
- * bytes: those of its view, or zeros, with sparse values in place of some. What stands behind them in
- * `out` stays.
+/* Writes the items of accessor `index` to the front of `out`, one behind the other, count *
+ * item_size bytes: those of its view, or zeros, with sparse values in place of some (glTF 2.0,
+ * section 3.6.2). What stands behind them in `out` stays.
  *
- * GLTF_CLOSED where the file is closed, else GLTF_NO_SUCH_INDEX where there is no such accessor, else
- * GLTF_UNREADABLE where its views do not hold its items, else GLTF_NO_ROOM where these are more than
- * `out_size` bytes, else GLTF_SUCCESS; each exactly there. */
+ * GLTF_CLOSED where the file is closed, else GLTF_NO_SUCH_INDEX where there is no such accessor,
+ * else GLTF_UNREADABLE where its views do not hold its items, else GLTF_NO_ROOM where these are
+ * more than `out_size` bytes, else GLTF_SUCCESS; each exactly there. */
 gltf_status gltf_accessor_read(gltf_file *file, size_t index, void *out, size_t out_size);
 
-/* How many bytes buffer `index` has: a multiple of 4, at least as many as it declares, filled up with
- * zeros. GLTF_SUCCESS, GLTF_CLOSED or GLTF_NO_SUCH_INDEX. */
+/* How many bytes buffer `index` has: a multiple of 4, at least as many as it declares, filled up
+ * with zeros. GLTF_SUCCESS, GLTF_CLOSED or GLTF_NO_SUCH_INDEX. */
 gltf_status gltf_buffer_size(gltf_file *file, size_t index, size_t *out);
 
-/* Fills `out` with the `out_size` bytes of buffer `index` from `offset` on. GLTF_SUCCESS, GLTF_CLOSED,
- * GLTF_NO_SUCH_INDEX, or GLTF_OUT_OF_RANGE where the buffer has not so many. */
+/* Fills `out` with the `out_size` bytes of buffer `index` from `offset` on. GLTF_SUCCESS,
+ * GLTF_CLOSED, GLTF_NO_SUCH_INDEX, or GLTF_OUT_OF_RANGE where the buffer has not so many. */
 gltf_status gltf_buffer_read(gltf_file *file, size_t index, size_t offset, void *out,
                              size_t out_size);
 

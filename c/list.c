@@ -61,7 +61,7 @@ static int tell_accessor(gltf_file *file, size_t index)
     gltf_accessor about;
     unsigned char *items;
     gltf_status status;
-    if (gltf_accessor_info(file, index, &about) != GLTF_OK)
+    if (gltf_accessor_info(file, index, &about) != GLTF_SUCCESS)
         return 3;
     printf("accessor %lu: %lu of %lu bytes, %u of type %u%s%s:", (unsigned long)index,
            (unsigned long)about.count, (unsigned long)about.item_size, about.components,
@@ -71,7 +71,7 @@ static int tell_accessor(gltf_file *file, size_t index)
     if (items == NULL)
         return 4;
     status = gltf_accessor_read(file, index, items, about.count * about.item_size);
-    if (status == GLTF_OK)
+    if (status == GLTF_SUCCESS)
         tell_items(&about, items);
     else
         printf(" status %u", status);
@@ -87,7 +87,7 @@ static int tell_file(const unsigned char *bytes, size_t size)
     size_t i, count;
     unsigned kind;
     int status = 0;
-    if (gltf_open(bytes, size, &file, why, sizeof why) != GLTF_OK) {
+    if (gltf_open(bytes, size, &file, why, sizeof why) != GLTF_SUCCESS) {
         printf("%s\n", why);
         return 0;
     }

@@ -1,32 +1,39 @@
-//! A Rust program over the library: counts the accessors of a file.
-use std::ffi::c_void;
+//! The library from Rust: `main FILE` tells how many accessors a file has.
+use std::ffi::{c_char, c_void};
+use std::process::ExitCode;
 
+/// An open or a closed file, as `gltf.h` has it.
 #[repr(C)]
-pub struct GltfFile {
-    held: *mut c_void,
-}
+struct File(*mut c_void);
 
-extern "C" {
+const OK: u32 = 0;
+const ACCESSORS: u32 = 2;
+
+unsafe extern "C" {
     fn gltf_open(
         bytes: *const u8,
         size: usize,
-        file: *mut GltfFile,
-        message: *mut u8,
+        file: *mut File,
+        message: *mut c_char,
         message_size: usize,
     ) -> u32;
-    fn gltf_close(file: *mut GltfFile);
-    fn gltf_count(file: *mut GltfFile, kind: u32) -> usize;
+    fn gltf_close(file: *mut File);
+    fn gltf_count(file: *mut File, kind: u32) -> usize;
 }
 
-fn main() {
-    for path in std::env::args().skip(1) {
-        let bytes = std::fs::read(path).expect("a file");
-        let mut file = GltfFile { held: std::ptr::null_mut() };
-        let mut why = [0u8; 200];
-        let status = unsafe {
-            gltf_open(bytes.as_ptr(), bytes.len(), &mut file, why.as_mut_ptr(), why.len())
-        };
-        println!("status {status}, {} accessors", unsafe { gltf_count(&mut file, 2) });
-        unsafe { gltf_close(&mut file) }
+fn main() -> ExitCode {
+    let Some(bytes) = std::env::args_os().nth(1).and_then(|path| std::fs::read(path).ok()) else {
+        return ExitCode::from(2);
+    };
+    let mut file = File(std::ptr::null_mut());
+    let mut why = [0; 200];
+    // The bytes, the file and the message are each as long as they are said to be, and apart.
+    let status = unsafe {
+        gltf_open(bytes.as_ptr(), bytes.len(), &mut file, why.as_mut_ptr(), why.len())
+    };
+    if status == OK {
+        println!("{} accessors", unsafe { gltf_count(&mut file, ACCESSORS) });
     }
+    unsafe { gltf_close(&mut file) };
+    ExitCode::from(u8::from(status != OK))
 }

@@ -1,86 +1,130 @@
-/* TIMES FILE..: opens and reads that many mutated copies of each file, from a fixed seed. Built with
- * the address and undefined-behaviour sanitizers. Prints how often each status was answered. */
+/* Opens, reads and closes mutated copies of files: `mutate TIMES FILE..`. It ends with 0 where
+ * every answer is one that the header names; a sanitizer sees the rest. */
+#include "contents.h"
 #include "gltf.h"
-#include "read_file.h"
+
 #include <string.h>
 
-static unsigned long state = 2463534242ul;
+#define STATUSES 16
+#define MOST_ROOM ((size_t)1 << 24)
 
-static size_t below(size_t bound) {
-    state ^= (state << 13) & 0xfffffffful;
-    state ^= state >> 17;
-    state ^= (state << 5) & 0xfffffffful;
-    return (size_t)(state % bound);
+static unsigned long long seed = 88172645463325252ull;
+
+/* Numbers that differ from call to call, and are the same in each run (xorshift). */
+static size_t any(size_t below)
+{
+    seed ^= seed << 13;
+    seed ^= seed >> 7;
+    seed ^= seed << 17;
+    return (size_t)(seed % below);
 }
 
-static size_t mutate(unsigned char *bytes, size_t size) {
-    size_t changes = below(4), at;
+/* Changes the bytes at up to three places, most often in the beginning, where the text is, and
+ * answers how many of them are left. */
+static size_t mutated(unsigned char *bytes, size_t size)
+{
+    size_t left = size;
+    size_t changes = any(4);
     while (changes-- > 0) {
-        at = below(below(2) || size < 1200 ? size : 1200);
-        switch (below(4)) {
-        case 0: bytes[at] = (unsigned char)below(256); break;
-        case 1: bytes[at] ^= (unsigned char)(1u << below(8)); break;
-        case 2: if (bytes[at] >= '0' && bytes[at] <= '9') bytes[at] = (unsigned char)('0' + below(10)); break;
-        default: size = 1 + below(size);
+        size_t at = any(any(2) == 0 && left > 1200 ? 1200 : left);
+        switch (any(4)) {
+        case 0:
+            bytes[at] = (unsigned char)any(256);
+            break;
+        case 1:
+            bytes[at] = (unsigned char)(bytes[at] ^ (1u << any(8)));
+            break;
+        case 2:
+            if (bytes[at] >= '0' && bytes[at] <= '9')
+                bytes[at] = (unsigned char)('0' + any(10));
+            break;
+        default:
+            left = 1 + any(left);
         }
     }
-    return size;
+    return left;
 }
 
-/* What stands behind the items has to stay, and all of the room where the call failed. */
-static gltf_status read_accessor(gltf_file *file, size_t index, const gltf_accessor *what) {
-    size_t room = what->item_size && what->count < (1u << 20) / what->item_size ? what->count * what->item_size : 64;
-    size_t given = below(4) ? room : below(room + 1), i, from;
-    unsigned char *out = (unsigned char *)malloc(room + 16);
-    gltf_status status;
-    memset(out, 0xa5, room + 16);
-    status = gltf_accessor_read(file, index, out, given);
-    from = status == GLTF_SUCCESS ? what->count * what->item_size : 0;
-    for (i = from; i < room + 16; i++) if (out[i] != 0xa5) exit(5);
-    free(out);
-    return status;
+/* Reads each accessor, and one behind the last. */
+static int read_all(gltf_file *file, long *read)
+{
+    size_t count = gltf_count(file, GLTF_ACCESSORS);
+    size_t i;
+    for (i = 0; i <= count; i++) {
+        gltf_accessor about;
+        gltf_status status;
+        unsigned char *items;
+        size_t room;
+        memset(&about, 0, sizeof about);
+        status = gltf_accessor_info(file, i, &about);
+        if ((i < count) != (status == GLTF_SUCCESS))
+            return 4;
+        room = about.count > MOST_ROOM / 64 ? MOST_ROOM : about.count * about.item_size;
+        items = (unsigned char *)malloc(room == 0 ? 1 : room);
+        if (items == NULL)
+            return 5;
+        status = gltf_accessor_read(file, i, items, room);
+        free(items);
+        if (status >= STATUSES)
+            return 6;
+        read[status]++;
+    }
+    return 0;
 }
 
-int main(int argc, char **argv) {
-    long times = argc > 1 ? atol(argv[1]) : 0, t;
-    unsigned long opened[16] = {0}, read[16] = {0};
-    int k;
-    for (k = 2; k < argc; k++) {
-        size_t size = 0, n, i, count;
-        unsigned char *good = read_file(argv[k], &size);
-        if (!good) return 2;
-        for (t = 0; t < times; t++) {
-            gltf_file file = GLTF_CLOSED_FILE;
-            char why[64];
-            gltf_status status;
-            unsigned char *bytes = (unsigned char *)malloc(size), *exact;
+/* A file's bytes stand in a block of their own size, so that each read past them is seen. */
+static int try_one(const unsigned char *bytes, size_t size, long *opened, long *read)
+{
+    gltf_file file = GLTF_CLOSED_FILE;
+    char why[64];
+    int wrong;
+    gltf_status status = gltf_open(bytes, size, &file, why, 1 + any(sizeof why));
+    if (status >= STATUSES || memchr(why, 0, sizeof why) == NULL)
+        return 7;
+    opened[status]++;
+    wrong = read_all(&file, read);
+    gltf_close(&file);
+    return gltf_count(&file, GLTF_ACCESSORS) == 0 ? wrong : 8;
+}
+
+static void tell(const char *what, const long *times)
+{
+    int i;
+    printf("%s:", what);
+    for (i = 0; i < STATUSES; i++)
+        if (times[i] != 0)
+            printf(" %d:%ld", i, times[i]);
+    printf("\n");
+}
+
+int main(int words, char **word)
+{
+    long opened[STATUSES] = { 0 }, read[STATUSES] = { 0 };
+    long times = words > 2 ? atol(word[1]) : 0;
+    int i, wrong = 0;
+    for (i = 2; i < words && wrong == 0; i++) {
+        size_t size;
+        long t;
+        unsigned char *good = contents_of(word[i], &size);
+        unsigned char *bytes = (unsigned char *)malloc(size);
+        if (good == NULL || bytes == NULL)
+            return 2;
+        for (t = 0; t < times && wrong == 0; t++) {
+            unsigned char *exact;
+            size_t left;
             memcpy(bytes, good, size);
-            n = mutate(bytes, size);
-            exact = (unsigned char *)malloc(n); /* of their own size: a read past them shows */
-            memcpy(exact, bytes, n);
-            free(bytes);
-            status = gltf_open(exact, n, &file, why, 1 + below(sizeof why));
+            left = mutated(bytes, size);
+            exact = (unsigned char *)malloc(left);
+            if (exact == NULL)
+                return 2;
+            memcpy(exact, bytes, left);
+            wrong = try_one(exact, left, opened, read);
             free(exact);
-            if (status >= 16) return 3;
-            opened[status]++;
-            count = gltf_count(&file, GLTF_ACCESSORS);
-            for (i = 0; i <= count; i++) {
-                gltf_accessor what = {0, 0, 0, 0, 0, 0};
-                status = gltf_accessor_info(&file, i, &what);
-                if ((i < count) != (status == GLTF_SUCCESS)) return 4;
-                status = read_accessor(&file, i, &what);
-                if (status >= 16) return 3;
-                read[status]++;
-            }
-            gltf_close(&file);
-            if (gltf_count(&file, GLTF_ACCESSORS) != 0) return 6;
         }
         free(good);
+        free(bytes);
     }
-    printf("open:");
-    for (k = 0; k < 16; k++) if (opened[k]) printf(" %d:%lu", k, opened[k]);
-    printf("\nread:");
-    for (k = 0; k < 16; k++) if (read[k]) printf(" %d:%lu", k, read[k]);
-    printf("\n");
-    return 0;
+    tell("opened", opened);
+    tell("read", read);
+    return wrong;
 }

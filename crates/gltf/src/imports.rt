@@ -11,13 +11,12 @@ ghost use Rattle.gltf.specs.Shown.{bytes_of_each};
 
 mod buffers;
 
-pub use buffers::{import_buffers, import_buffers_from};
-
 use crate::buffer::Data;
 use crate::document::Document;
 use crate::reading::document_in;
 use crate::slice::document_of;
 use buffers::with_buffers;
+pub use buffers::{import_buffers, import_buffers_from};
 use gltf_buffers::{Ask, NoNames};
 use gltf_glb::Result;
 use gltf_json::laws::what_shows_the_same_is_alike_in_each_member;

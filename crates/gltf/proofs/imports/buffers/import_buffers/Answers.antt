@@ -22,4 +22,4 @@ returns-in-Some-clause-err c =
     (failed_at (HasBufferFault Anywhere sources blob) (IsAskedFor Anywhere sources blob)
     c.read_buffers.new.names.log.failures.names c.read_buffers.result
     (rw (c.deref.ensures.value, c.as_json.ensures, c.new-folder.ensures.failures)
-        at c.read_buffers.ensures.err))
+    at c.read_buffers.ensures.err))
