@@ -1,6 +1,7 @@
 //! Copies and ownership, records changed in code, names, and each generic at a type of its own.
 
 mod bounds;
+mod buffers;
 mod callers;
 mod casts;
 mod copies;
