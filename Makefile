@@ -15,7 +15,8 @@ export GLTF_FROM := $(value PWD)
 help:
 	@echo 'make show [CALL=chunks|check] [FILE=PATH]  chunks of a GLB file, or validates a file'
 	@echo 'make prove                                 proves and builds the programs'
-	@echo 'make install [PREFIX=FOLDER]               installs the proved programs'
+	@echo 'make c                                     proves, builds and tries the library for C'
+	@echo 'make install [PREFIX=FOLDER]               installs the proved programs and that library'
 	@echo 'make test                                  the gate: all proofs, and all tests'
 	@echo 'make wrong [NAME=CRATE]                    tries the wrong bodies beside the gate'
 
@@ -24,6 +25,9 @@ show:
 
 prove:
 	@python3 tools/prove.py
+
+c:
+	@python3 tools/c.py
 
 install:
 	@python3 tools/install.py
@@ -40,4 +44,4 @@ test:
 wrong:
 	@tools/wrong.sh $(NAME)
 
-.PHONY: help show prove install test wrong
+.PHONY: help show prove c install test wrong

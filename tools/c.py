@@ -8,6 +8,7 @@ last line is `N passed, M failed`."""
 import os
 import pathlib
 import re
+import resource
 import shutil
 import subprocess
 import sys
@@ -158,6 +159,18 @@ def lists_what_the_files_hold():
     assert ran(program, *FINE) == wanted
 
 
+def a_stack_of_256_kib_is_enough():
+    levels, rules = "[" * 125 + "]" * 125, ",".join(['{"mesh":3}'] * 200_000)
+    texts = {"deep": f'"extras":{levels}', "broken": f'"nodes":[{rules}]'}
+    for name, member in texts.items():
+        (OUT / f"{name}.gltf").write_text(f'{{"asset":{{"version":"2.0"}},{member}}}')
+    files = [*FILES, *(OUT / f"{name}.gltf" for name in texts)]
+    size = 256 * 1024
+    for file in files:
+        ran(built("list", "-std=c89"), file,
+            preexec_fn=lambda: resource.setrlimit(resource.RLIMIT_STACK, (size, size)))
+
+
 def mutated_files_break_nothing():
     program = built("mutate", "-g", "-fsanitize=address,undefined")
     print(ran(program, str(TIMES), *FILES), end="")
@@ -236,8 +249,9 @@ def install(prefix):
 
 TESTS = (
     shows_exports_alone, header_has_the_signatures, shows_by_each_compiler,
-    lists_what_the_files_hold, mutated_files_break_nothing, valgrind_sees_no_error,
-    each_growth_is_refused_in_turn, links_from_rust, is_found_where_it_is_installed,
+    lists_what_the_files_hold, a_stack_of_256_kib_is_enough, mutated_files_break_nothing,
+    valgrind_sees_no_error, each_growth_is_refused_in_turn, links_from_rust,
+    is_found_where_it_is_installed,
 )
 
 

@@ -10,11 +10,13 @@ for file in examples/*; do
         fi
     done
 done
-python3 - crates/gltf_tests/src/tests/first_steps.rt <<'END' || status=1
+python3 - crates/gltf_tests/src/tests/first_steps.rt c/show.c <<'END' || status=1
 import pathlib, re, sys
 
-readme, test = (pathlib.Path(it).read_text("utf-8") for it in ("README.md", sys.argv[1]))
-if re.search("```rust\n(.*?)```", readme, re.DOTALL)[1] not in test:
-    sys.exit(f"the code of README.md does not stand in {sys.argv[1]}")
+readme = pathlib.Path("README.md").read_text("utf-8")
+for language, place in zip(("rust", "c"), sys.argv[1:]):
+    code = re.search(f"```{language}\n(.*?)```", readme, re.DOTALL)[1]
+    if code not in pathlib.Path(place).read_text("utf-8"):
+        sys.exit(f"the code of README.md does not stand in {place}")
 END
 exit "$status"

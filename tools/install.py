@@ -1,5 +1,6 @@
 #!/usr/bin/env python3
-"""Installs the proved programs: `make install PREFIX=..`, behind `make prove`.
+"""Installs the proved programs, and the library for C where it is built: `make install PREFIX=..`,
+behind `make prove` and `make c`.
 
 GLTF_PREFIX has the folder, named from the one that make was called in, GLTF_FROM. DESTDIR stands
 before it."""
@@ -10,6 +11,7 @@ import sys
 
 sys.dont_write_bytecode = True
 
+import c
 import crates
 
 
@@ -21,7 +23,8 @@ def main():
                 "make prove proves and builds it"
             )
     prefix = os.path.join(os.environ.get("GLTF_FROM", ""), os.environ["GLTF_PREFIX"])
-    folder = pathlib.Path(os.environ.get("DESTDIR", "") + os.path.abspath(prefix)) / "bin"
+    place = pathlib.Path(os.environ.get("DESTDIR", "") + os.path.abspath(prefix))
+    folder = place / "bin"
     folder.mkdir(parents=True, exist_ok=True)
     for program in crates.PROGRAMS:
         # A program that runs is replaced, and not written over.
@@ -30,6 +33,10 @@ def main():
         part.chmod(0o755)
         part.replace(folder / program)
         print(folder / program)
+    if c.LIBRARY.exists():
+        c.install(place)
+    else:
+        print("the library for C is not built: make c proves and builds it")
 
 
 try:

@@ -16,7 +16,8 @@ use denote.RawPtr.{Ptr, block_ptr, null_ptr, ptr_val, count_of, in_a_block, lies
 use denote.Steps.{nothing}
 use denote.Struct.Struct.{within}
 use denote.Struct.Owning.{shape}
-use Rattle.libc.specs.Heap.{chunk, chunk_start}
+use Rattle.std_heap.proofs.GlobalToken.{dealloc_token_start}
+use Rattle.gltf_c.specs.Heap.{heap, right_to_free}
 use Rattle.std.specs.declared.option.Option.{Option}
 use Rattle.std.specs.declared.option.Option.TheVariants.{None, Some}
 use Rattle.gltf_c.proofs.Pointed.{pointer, owned_at}
@@ -31,9 +32,9 @@ pub testable : {M : Type 1} {𝓤 : Ura M} (𝓛 : Logic 𝓤) (p : Ptr) (x : Fi
     → ent 𝓤 (sem 𝓛 (owned_at held p x)) (guard 𝓤 (Testable p) (sem 𝓛 (owned_at held p x)))
 testable {𝓤 = 𝓤} 𝓛 p x =
     let owned = sem 𝓛 (owned_at held p x) in
-    let right = sem 𝓛 (chunk (bits (lone held.mir)) p) in
+    let right = sem 𝓛 (right_to_free (bits (lone held.mir)) p) in
     let start : ent 𝓤 right (fact 𝓤 (Testable p)) =
-    via 𝓤 (fact 𝓤 (count_of p ≡ 0)) (chunk_start 𝓛 (bits (lone held.mir)) p)
+    via 𝓤 (fact 𝓤 (count_of p ≡ 0)) (dealloc_token_start 𝓛 heap (bits (lone held.mir)) p)
     (fact_mono 𝓤 (count_of p ≡ 0) (Testable p) (λ e. subst (λ (k : ℕ). k < 2 ^ 63) (sym e) (lit< tt))) in
     fact_use 𝓤 (Testable p) (via 𝓤 right (snd∗ 𝓤 (sem 𝓛 (lies_at held full_share p x)) right) start)
     (guard_i 𝓤 (Testable p) owned)
@@ -65,6 +66,6 @@ module _ {M : Type 1} {𝓤 : Ura M} {𝓛 : Logic 𝓤} {K : Type 0} {Γ : List
   by_value t p None none some = feq_l t (λ e. none refl e)
   by_value t p (Some x) none some =
       in_a_block t p (λ q. owned_at held q x)
-      (fst∗ 𝓤 (never 𝓤) (sem 𝓛 (chunk (bits (lone held.mir)) null_ptr))) (λ b o e.
+      (fst∗ 𝓤 (never 𝓤) (sem 𝓛 (right_to_free (bits (lone held.mir)) null_ptr))) (λ b o e.
       use1 𝓛 (given (Testable (block_ptr b o)) (‵ (owned_at held (block_ptr b o) x)))
       (testable 𝓛 (block_ptr b o) x) $ learn t (λ may. some b o x refl e may))

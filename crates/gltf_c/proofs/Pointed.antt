@@ -18,7 +18,7 @@ use denote.Param.{layout, arg}
 use denote.Param.Laws.{Laws, arg_laws}
 use denote.Struct.Struct.{within}
 use denote.Struct.Owning.{shape}
-use Rattle.libc.specs.Heap.{chunk}
+use Rattle.gltf_c.specs.Heap.{right_to_free}
 use Rattle.std.specs.contracts.alloc.Global as heap
 use Rattle.std.proofs.alloc.Global.TheLaws as of_heap
 use Rattle.std_heap.specs.contracts.GlobalAllocator.TheImpl as allocator
@@ -57,7 +57,7 @@ boxed T L = record {
 
 -- the value at a pointer, and the right to free it
 abbrev pub owned_at : (R : RattleType) → Ptr → R.Denot → Fml
-owned_at = box_owns chunk
+owned_at = box_owns right_to_free
 
 module _ (R : RattleType) {M : Type 1} {𝓤 : Ura M} {𝓛 : Logic 𝓤} {K : Type 0} {Γ : List (Item 𝓤)}
     {G : Goal 𝓤 𝓛.H} where
@@ -79,7 +79,7 @@ module _ (R : RattleType) {M : Type 1} {𝓤 : Ura M} {𝓛 : Logic 𝓤} {K : T
   bare_out t d vs next =
       fsplit t $ fpick t (λ vss. fsplit t $ feq_l t (λ whole. fsplit t $ feq_l t (λ field. drop t $
       in_a_block t d.at (λ p. owned_at R p d.value)
-      (fst∗ 𝓤 (never 𝓤) (sem 𝓛 (chunk (bits (lone R.mir)) null_ptr))) (λ b o at.
+      (fst∗ 𝓤 (never 𝓤) (sem 𝓛 (right_to_free (bits (lone R.mir)) null_ptr))) (λ b o at.
       next b o at
       (subst (λ (p : Ptr). vs ≡ pointer p ∷ []) at
       (subst (λ (ps : List Val). vs ≡ vstruct (of_list (ps ++ [])) ∷ []) field whole))))))

@@ -67,7 +67,8 @@ ReadsItems (Some file) index n old new =
 abbrev pub SizesBuffer : Option File → ℕ → ℕ → ℕ → ℕ → Type 0
 SizesBuffer None index n old new = IsClosed n old new
 SizesBuffer (Some file) index n old new =
-    Answers (λ status. IsSized (slice_get (bytes_of_each file.buffers.items) index) status old new) n
+    Answers
+    (λ status. IsSized (slice_get (bytes_of_each file.buffers.items) index) status old new) n
 
 abbrev pub CopiesBuffer : Option File → ℕ → ℕ → ℕ → List ℕ → List ℕ → Type 0
 CopiesBuffer None index offset n old new = IsClosed n old new

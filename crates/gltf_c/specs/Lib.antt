@@ -1,5 +1,6 @@
 pub mod Calls
 pub mod Front
+pub mod Heap
 pub mod Info
 pub mod Message
 pub mod Owned

@@ -17,8 +17,8 @@ use Rattle.gltf_c.specs.declared.status.Status.TheVariants.{NoRoom, OutOfRange}
 abbrev pub as_bytes : (n : ℕ) → Ghosts (List ℕ)
 as_bytes n = record { size = front n; value = take n; zero_item = replicate n 0 }
 
--- of items of n bytes: where there are items and they fit the room, they stand at its front and what
--- is behind them stays; else the room is as it was, and the status says what failed
+-- of items of n bytes: where there are items and they fit the room, they stand at its front and
+-- what is behind them stays; else the room is as it was, and the status says what failed
 abbrev pub IsWritten : ℕ → Option (List (List ℕ)) → Status → List ℕ → List ℕ → Type 0
 IsWritten n None status old new = (status ≡ Unreadable) × (new ≡ old)
 IsWritten n (Some items) status old new =
@@ -29,8 +29,8 @@ IsWritten n (Some items) status old new =
 -- the items of an accessor that is there, as items of n bytes
 pub record IsReadAs (file : File) (index n : ℕ) (status : Status) (old new : List ℕ) : Type 0 where
   pub items : Option (List (List ℕ))
-  pub reads : ReadsAt (as_bytes n) file.document (slice_get (bytes_of_each file.buffers.items)) index
-      items
+  pub reads :
+      ReadsAt (as_bytes n) file.document (slice_get (bytes_of_each file.buffers.items)) index items
   pub written : IsWritten n items status old new
 
 -- the items of the accessor at an index, where it is there

@@ -24,8 +24,8 @@ use crate::open::open;
 use crate::status::Status;
 use std::alloc::Global;
 
-/// Opens a file from its bytes: a GLB container where they begin with `glTF`, else JSON text. A copy
-/// is made of what is needed. What `file` held is let go.
+/// Opens a file from its bytes: a GLB container where they begin with `glTF`, else JSON text (glTF
+/// 2.0, sections 2.8, 3.6.1 and 4.4). A copy is made of what is needed. What `file` held is let go.
 ///
 /// Answers 0 where the bytes are accepted, and then `file` holds their document and buffers; else
 /// `file` is closed, and the number is that of the layer at fault. `message` is given the error's

@@ -30,7 +30,7 @@ use denote.Triple.Call.{calls_at}
 use denote.Triple.Walked.{Stays, stay_dropped, walk_of}
 use Rattle.core.proofs.alloc.Calls.{Goes-blank}
 use Rattle.core.proofs.atomic.Steps.{fm}
-use Rattle.libc.specs.Heap.{chunk}
+use Rattle.gltf_c.specs.Heap.{right_to_free}
 use Rattle.std.proofs.raw_atomic.Walks.{proved_at, leaves}
 use Rattle.std.specs.contracts.alloc.Global as heap
 use Rattle.std_heap.specs.contracts.GlobalAllocator.TheImpl as allocator
@@ -88,9 +88,9 @@ into_bare_spec {M} 𝓤 𝓛 𝓜 𝓡 wired T L drops dropped =
     dropped)
     y (and_then ! (get ! refl) (no_more !)) (λ u.
     use1 𝓛 (later (some (λ (r : Ptr). (both ⊛ ‵ (RawPtr.own_val r (u ∷ []))) ⊛
-    some (λ (ls : Lasts (callee.ended T Z allocator.ghosts allocator.dict no_drop drops) y.0.0 y.0.3). ‵ (lasts (callee.ended T Z allocator.ghosts allocator.dict no_drop drops) y.0.0 y.0.3 ls) ⊛ ‵ (box_owns chunk R r held.value))))) (id⊢ 𝓤 _) $
+    some (λ (ls : Lasts (callee.ended T Z allocator.ghosts allocator.dict no_drop drops) y.0.0 y.0.3). ‵ (lasts (callee.ended T Z allocator.ghosts allocator.dict no_drop drops) y.0.0 y.0.3 ls) ⊛ ‵ (box_owns right_to_free R r held.value))))) (id⊢ 𝓤 _) $
     await ! tt $ pick ! (λ r. split ! $ move ! (1 ∷ []) $ pick ! (λ _. split ! $ drop ! $
-    in_a_block ! r (λ p. box_owns chunk R p held.value) (fst∗ 𝓤 (never 𝓤) (sem 𝓛 (chunk (bits (layout T)) null_ptr))) (λ b' o' at.
+    in_a_block ! r (λ p. box_owns right_to_free R p held.value) (fst∗ 𝓤 (never 𝓤) (sem 𝓛 (right_to_free (bits (layout T)) null_ptr))) (λ b' o' at.
     move ! (1 ∷ []) $ split ! $ move ! (1 ∷ []) $ feq_l ! (λ is.
     -- [the tokens; what the pointer owns]
     lands_as ! (ap only (is ∙ ap (λ (p : Ptr). ptr_val p ∷ []) at)) refl (tt, tt) $

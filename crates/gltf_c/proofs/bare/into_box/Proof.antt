@@ -32,7 +32,7 @@ use Rattle.core.proofs.alloc.Calls.{Goes-blank, handle_tells}
 use Rattle.core.proofs.alloc.Shapes.{after}
 use Rattle.core.proofs.cell.Inside.{Good}
 use Rattle.core.proofs.atomic.Steps.{fm}
-use Rattle.libc.specs.Heap.{chunk}
+use Rattle.gltf_c.specs.Heap.{right_to_free}
 use Rattle.std.proofs.raw_atomic.Walks.{proved_at, leaves}
 use Rattle.std.specs.contracts.alloc.Global as heap
 use Rattle.std_heap.specs.contracts.GlobalAllocator.TheImpl as allocator
