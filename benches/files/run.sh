@@ -9,7 +9,7 @@ here=$(cd "$(dirname "$0")" && pwd)
 work=$(mktemp -d)
 trap 'rm -rf "$work"' EXIT
 mkdir -p "$work/crates/files_bench/src" "$work/.git"
-grep '^gltf' "$here/../../crates.txt" | grep -v -E '^gltf_(tests|cases|show|refusals):' \
+grep '^gltf' "$here/../../crates.txt" | grep -v -E '^gltf_(tests|cases|show|repack|refusals|c)[: ]' \
     > "$work/crates.txt"
 for crate in $(cut -d: -f1 "$work/crates.txt"); do
     cp -r "$here/../../crates/$crate" "$work/crates"
