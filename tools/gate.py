@@ -14,6 +14,7 @@ TOP = pathlib.Path(__file__).resolve().parent.parent
 PARTS = (
     ["rt", "ci"],
     ["python3", "tools/refusals.py"],
+    ["python3", "tools/failing_files.py"],
     ["python3", "tools/c.py", "behind-ci"],
 )
 RESULT = re.compile(r"(\d+) passed, (\d+) failed")
