@@ -100,7 +100,7 @@ enum {
 
 /* What an accessor is. A matrix is a column behind the other. */
 typedef struct gltf_accessor {
-    size_t count;                /* items; of a sparse accessor without a view any number may stand */
+    size_t count;                /* items; of a sparse one without a view any number may stand */
     size_t item_size;            /* bytes of an item, 1 to 64: its components, with no padding */
     unsigned int component_type; /* GLTF_I8 .. GLTF_F32 */
     unsigned int components;     /* of an item: 1, 2, 3, 4, 9 or 16 */

@@ -1,6 +1,7 @@
 #!/usr/bin/env python3
-"""Writes `two files/square.gltf` and `two files/square data.bin` beside this file: a square whose bytes stand in a file
-that the document names by a relative reference, percent-encoded (glTF 2.0, section 2.8)."""
+"""Writes `two files/square.gltf` and `two files/square data.bin` beside this file: a square whose
+bytes stand in a file that the document names by a relative reference, percent-encoded (glTF 2.0,
+section 2.8)."""
 import json
 import pathlib
 import struct
@@ -17,7 +18,9 @@ def main():
         "scene": 0,
         "scenes": [{"nodes": [0]}],
         "nodes": [{"mesh": 0}],
-        "meshes": [{"name": "Square", "primitives": [{"attributes": {"POSITION": 0}, "indices": 1}]}],
+        "meshes": [
+            {"name": "Square", "primitives": [{"attributes": {"POSITION": 0}, "indices": 1}]}
+        ],
         "accessors": [
             {
                 "bufferView": 0,

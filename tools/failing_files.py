@@ -1,7 +1,7 @@
 #!/usr/bin/env python3
 """Runs the proved program `gltf_show` on files that cannot be read, and on documents that name such
-files: each time it has to say on standard error which name failed, and end with 1. `make test` calls
-it behind `rt ci`. The last line is `N passed, M failed`."""
+files: each time it has to say on standard error which name failed, and end with 1. `make test`
+calls it behind `rt ci`. The last line is `N passed, M failed`."""
 import os
 import pathlib
 import subprocess

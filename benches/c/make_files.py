@@ -67,7 +67,8 @@ def sparse():
     views = [(0, len(base)), (len(base), len(indices)), (len(base) + len(indices), len(values))]
     places = {"bufferView": 1, "componentType": 5125}
     part = {"count": replaced, "indices": places, "values": {"bufferView": 2}}
-    return container(document({"byteLength": len(blob)}, views, [vectors(count, sparse=part)]), blob)
+    whole = document({"byteLength": len(blob)}, views, [vectors(count, sparse=part)])
+    return container(whole, blob)
 
 
 FILES = {

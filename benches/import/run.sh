@@ -8,8 +8,8 @@ here=$(cd "$(dirname "$0")" && pwd)
 work=$(mktemp -d)
 trap 'rm -rf "$work"' EXIT
 mkdir -p "$work/crates/import_bench/src" "$work/.git"
-grep '^gltf' "$here/../../crates.txt" | grep -v -E '^gltf_(tests|cases|show|repack|refusals|c)[: ]' \
-    > "$work/crates.txt"
+beside='^gltf_(tests|cases|show|repack|refusals|c)[: ]'
+grep '^gltf' "$here/../../crates.txt" | grep -v -E "$beside" > "$work/crates.txt"
 for crate in $(cut -d: -f1 "$work/crates.txt"); do
     cp -r "$here/../../crates/$crate" "$work/crates"
 done
