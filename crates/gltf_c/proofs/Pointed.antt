@@ -63,7 +63,8 @@ module _ (R : RattleType) {M : Type 1} {𝓤 : Ura M} {𝓛 : Logic 𝓤} {K : T
     {G : Goal 𝓤 𝓛.H} where
   -- what stood in a box at p makes a bare one
   pub bare_in : K → (p : Ptr) (x : R.Denot)
-      → Step K 𝓛 (‵ ((bare.the_row R).own_val (record { at = p; value = x }) (pointer p ∷ [])) ∷ Γ) G
+      → Step K 𝓛 (‵ ((bare.the_row R).own_val (record { at = p; value = x }) (pointer p ∷ [])) ∷ Γ)
+      G
       (‵ (owned_at R p x) ∷ Γ) G
   bare_in t p x = step (λ rest.
       nothing t $ feq_i t (List Val) (ptr_val p ∷ []) (ptr_val p ∷ []) refl $ fjoin t $

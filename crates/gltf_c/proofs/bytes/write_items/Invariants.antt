@@ -4,7 +4,8 @@ use Rattle.gltf_c.proofs.Written.{Written}
 use Rattle.gltf_c.proofs.bytes.write_items.Given as goal
 
 abbrev pub invariant-items : goal.invariant-items
-invariant-items g l = Written g.row.N (counted_items l.initial.item-iterator).items l.initial.out (counted_items l.item-iterator).items l.at l.out
+invariant-items g l = Written g.row.N (counted_items l.initial.item-iterator).items l.initial.out
+    (counted_items l.item-iterator).items l.at l.out
 
 abbrev pub decreases-items : goal.decreases-items
 decreases-items g l = length (counted_items l.item-iterator).items

@@ -24,9 +24,11 @@ closed_spec 𝓤 𝓛 𝓜 𝓡 wired =
     (λ κs. tt) (λ κs. tt) (λ κs qs bounds a n are.
     let z : W.Ghost = ((κs, qs, bounds, a, tt), n) in
     let made : GltfFile = record { at = null_ptr; value = None } in
-    qed 𝓛 (raw (on_entry 𝓛 f.signature κs qs a tt) ∷ raw ((c κs a).requires n) ∷ []) ∵ drop ! $ drop ! $
+    qed 𝓛 (raw (on_entry 𝓛 f.signature κs qs a tt) ∷ raw ((c κs a).requires n) ∷ []) ∵ drop ! $
+    drop ! $
     enter ! _ _ _ _ _ $ alloc_all ! (λ l. pass_all ! refl tt $
     sets ! (agg ! (and_then ! (lit ! tt) (no_more !))) refl (tt, (record { fits = lit< tt }, tt)) $
     returns ! (look_at ! 0 refl) $ free_all ! refl $
     suffices ! _ (ends_at 𝓛 f.ended tt c z (pointer null_ptr) made tt tt) $ says ! refl $
-    feq_i ! Ptr null_ptr null_ptr refl $ handle_in ! null_ptr None $ nothing ! $ nothing ! $ done !))
+    feq_i ! Ptr null_ptr null_ptr refl $ handle_in ! null_ptr None $ nothing ! $ nothing ! $ done
+    !))

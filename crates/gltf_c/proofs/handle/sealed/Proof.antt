@@ -39,15 +39,31 @@ sealed_spec 𝓤 𝓛 𝓜 𝓡 wired =
     let κs = z.0.0 in let part = z.0.3.0 in
     let Post : Val → SProp 𝓤 = (walk_of 𝓛 f.ended stayed c).post z in
     let Run : List Val → SProp 𝓤 = λ ws. WpFn 𝓤 𝓛.H 𝓣.C 𝓣.Λ code.function ws Post in
-    qed 𝓛 ((‵ ftrue ⊛ ‵ (owns (types_at f.ended.signature.params κs) z.0.3 z.0.4)) ∷ raw ((c κs z.0.3).requires z.1) ∷ []) ∵
+    qed 𝓛 ((‵ ftrue ⊛ ‵ (owns (types_at f.ended.signature.params κs) z.0.3 z.0.4)) ∷ raw ((c κs
+    z.0.3).requires z.1) ∷ []) ∵
     split ! $ drop ! $ fsplit ! $
     bare_out held ! part z.0.4.0 (λ b o at is.
     let word : Val = pointer (block_ptr b o) in
-    suffices ! (Run (word ∷ [])) (subst (λ (us : List Val). ent 𝓤 (Run (word ∷ [])) (Run us)) (sym (λ i. is i ++ [])) (id⊢ 𝓤 (Run (word ∷ [])))) $
-    enter ! 𝓣.C 𝓣.Λ code.function (word ∷ []) Post $ alloc_all ! (λ l. pass_all ! refl ((tt, (tt, tt)), tt) $
+    suffices ! (Run (word ∷ [])) (subst (λ (us : List Val). ent 𝓤 (Run (word ∷ [])) (Run us)) (sym
+    (λ i. is i ++ [])) (id⊢ 𝓤 (Run (word ∷ [])))) $
+    enter ! 𝓣.C 𝓣.Λ code.function (word ∷ []) Post $ alloc_all ! (λ l. pass_all ! refl (
+      (
+        tt,
+        (
+          tt,
+          tt,
+        ),
+      ),
+      tt,
+    ) $
     sets ! (of_opd ! (get_in ! (fld ! refl (stop !)) (sub ! 0 refl (whole !)))) refl (tt, tt) $
     sets ! (of_opd ! (get ! refl)) refl (tt, tt) $
     sets ! (agg ! (and_then ! (get ! refl) (no_more !))) refl (tt, (tt, tt)) $
     returns ! (look_at ! 0 refl) $ free_all ! refl $ keep ! (0 ∷ []) $
-    suffices ! _ (ends_at 𝓛 f.ended stayed c z word (record { at = block_ptr b o; value = Some part.value }) (tt, tt) (tt, tt)) $ says ! refl $
-    handle_in ! (block_ptr b o) (Some part.value) $ nothing ! $ nothing ! $ join ! $ nothing ! $ done !)))
+    suffices ! _ (ends_at 𝓛 f.ended stayed c z word (record {
+      at = block_ptr b o;
+      value = Some
+          part.value;
+    }) (tt, tt) (tt, tt)) $ says ! refl $
+    handle_in ! (block_ptr b o) (Some part.value) $ nothing ! $ nothing ! $ join ! $ nothing ! $
+    done !)))

@@ -13,7 +13,8 @@ imported_items-requires-room-T-Item g c κs = item_fits g.row.N c.requires.small
 
 pub returns-else-fits : goal.returns-else-fits
 returns-else-fits g c =
-    let more : nat_le (length (counted_items c.in-Some.items).items * g.row.N) (length c.args.out.now)
+    let more : nat_le (length (counted_items c.in-Some.items).items * g.row.N) (length
+    c.args.out.now)
     ≡ false =
     subst (λ (n : ℕ). nat_le (n * g.row.N) (length c.args.out.now) ≡ false) c.len.ensures
     (sym c.fits.ensures ∙ c.if-fits.false) in
@@ -22,6 +23,7 @@ returns-else-fits g c =
       reads =
           subst (λ (all : List Data). ReadsAt (as_bytes g.row.N) c.args.file.now.document
           (slice_get (bytes_of_each all)) c.args.index
-          (Some (counted_items c.in-Some.items).items)) c.deref.ensures.value c.in-Some.ensures.items;
+          (Some (counted_items c.in-Some.items).items)) c.deref.ensures.value
+          c.in-Some.ensures.items;
       written = rw more (refl, refl);
     }
