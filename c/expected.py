@@ -8,6 +8,7 @@ import sys
 KINDS = ("buffers", "bufferViews", "accessors", "meshes", "nodes", "materials", "scenes")
 COMPONENTS = {"SCALAR": 1, "VEC2": 2, "VEC3": 3, "VEC4": 4, "MAT2": 4, "MAT3": 9, "MAT4": 16}
 LETTERS = {5120: "b", 5121: "B", 5122: "h", 5123: "H", 5125: "I", 5126: "f"}
+ATTRIBUTES = ("POSITION", "NORMAL", "TEXCOORD_0")
 
 
 def parts(data):
@@ -71,6 +72,14 @@ def tell(path):
             f"accessor {index}: {accessor['count']} of {size} bytes, {each} of type "
             f"{accessor['componentType']}{normalized}{sparse}:{told}"
         )
+    for index, mesh in enumerate(document.get("meshes", [])):
+        for number, primitive in enumerate(mesh["primitives"]):
+            named = [(name, primitive[name]) for name in ("indices", "material")
+                     if name in primitive]
+            named += [(name, primitive["attributes"][name]) for name in ATTRIBUTES
+                      if name in primitive["attributes"]]
+            told = "".join(f", {name} {where}" for name, where in named)
+            print(f"primitive {number} of mesh {index}: mode {primitive.get('mode', 4)}{told}")
 
 
 for name in sys.argv[1:]:

@@ -108,6 +108,38 @@ typedef struct gltf_accessor {
     unsigned int sparse;         /* 1 where items are overridden, else 0 */
 } gltf_accessor;
 
+/* How the vertices of a primitive are joined, by the numbers of glTF 2.0, section 5.24.4. */
+enum {
+    GLTF_POINTS = 0,
+    GLTF_LINES = 1,
+    GLTF_LINE_LOOP = 2,
+    GLTF_LINE_STRIP = 3,
+    GLTF_TRIANGLES = 4,
+    GLTF_TRIANGLE_STRIP = 5,
+    GLTF_TRIANGLE_FAN = 6
+};
+
+/* What a primitive of a mesh is (glTF 2.0, section 5.24). */
+typedef struct gltf_primitive {
+    unsigned int has_indices;  /* 1 where an accessor has the indices of the vertices, else 0 */
+    unsigned int has_material; /* 1 where a material is named, else 0 */
+    unsigned int mode;         /* GLTF_POINTS .. GLTF_TRIANGLE_FAN */
+    size_t indices;            /* that accessor, or 0 */
+    size_t material;           /* that material, or 0 */
+} gltf_primitive;
+
+/* What the attributes of a primitive mean (glTF 2.0, section 3.7.2.1). The last four have a set:
+ * the n of TEXCOORD_n. */
+enum {
+    GLTF_POSITION = 0,
+    GLTF_NORMAL = 1,
+    GLTF_TANGENT = 2,
+    GLTF_COLOR = 3,
+    GLTF_TEXCOORD = 4,
+    GLTF_JOINTS = 5,
+    GLTF_WEIGHTS = 6
+};
+
 /* Opens a file from its `size` bytes: a GLB container where they begin with `glTF`, else JSON text
  * (glTF 2.0, sections 2.8, 3.6.1 and 4.4). Buffers stand in the BIN chunk and in data URIs; no
  * other file is read. What is needed is copied: the bytes may go after the call. What `file` held
@@ -151,6 +183,21 @@ gltf_status gltf_buffer_size(gltf_file *file, size_t index, size_t *out);
  * GLTF_CLOSED, GLTF_NO_SUCH_INDEX, or GLTF_OUT_OF_RANGE where the buffer has not so many. */
 gltf_status gltf_buffer_read(gltf_file *file, size_t index, size_t offset, void *out,
                              size_t out_size);
+
+/* How many primitives mesh `mesh` has. GLTF_SUCCESS, GLTF_CLOSED or GLTF_NO_SUCH_INDEX. */
+gltf_status gltf_primitive_count(gltf_file *file, size_t mesh, size_t *out);
+
+/* What primitive `primitive` of mesh `mesh` is. GLTF_SUCCESS, GLTF_CLOSED, or GLTF_NO_SUCH_INDEX
+ * where there is no such mesh, or no such primitive in it. */
+gltf_status gltf_primitive_info(gltf_file *file, size_t mesh, size_t primitive,
+                                gltf_primitive *out);
+
+/* The index of the accessor of an attribute of a primitive, by its meaning (GLTF_POSITION ..) and
+ * the number of its set, which is looked at from GLTF_COLOR on (glTF 2.0, section 3.7.2.1).
+ * GLTF_SUCCESS, GLTF_CLOSED, or GLTF_NO_SUCH_INDEX where there is no such mesh, primitive or
+ * meaning, or the primitive has no such attribute. */
+gltf_status gltf_attribute(gltf_file *file, size_t mesh, size_t primitive, unsigned int meaning,
+                           unsigned int set, size_t *out);
 
 #ifdef __cplusplus
 }

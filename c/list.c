@@ -1,4 +1,5 @@
-/* Tells how many records the files have, and all numbers of their accessors: `list FILE..`. */
+/* Tells how many records the files have, all numbers of their accessors, and what the primitives
+ * of their meshes name: `list FILE..`. */
 #include "contents.h"
 #include "gltf.h"
 
@@ -80,6 +81,45 @@ static int tell_accessor(gltf_file *file, size_t index)
     return 0;
 }
 
+static void tell_attribute(gltf_file *file, size_t mesh, size_t primitive, unsigned meaning,
+                           const char *name)
+{
+    size_t accessor;
+    if (gltf_attribute(file, mesh, primitive, meaning, 0, &accessor) == GLTF_SUCCESS)
+        printf(", %s %lu", name, (unsigned long)accessor);
+}
+
+static int tell_primitive(gltf_file *file, size_t mesh, size_t primitive)
+{
+    gltf_primitive about;
+    if (gltf_primitive_info(file, mesh, primitive, &about) != GLTF_SUCCESS)
+        return 5;
+    printf("primitive %lu of mesh %lu: mode %u", (unsigned long)primitive, (unsigned long)mesh,
+           about.mode);
+    if (about.has_indices)
+        printf(", indices %lu", (unsigned long)about.indices);
+    if (about.has_material)
+        printf(", material %lu", (unsigned long)about.material);
+    tell_attribute(file, mesh, primitive, GLTF_POSITION, "POSITION");
+    tell_attribute(file, mesh, primitive, GLTF_NORMAL, "NORMAL");
+    tell_attribute(file, mesh, primitive, GLTF_TEXCOORD, "TEXCOORD_0");
+    printf("\n");
+    return 0;
+}
+
+static int tell_mesh(gltf_file *file, size_t mesh)
+{
+    size_t i, count, none;
+    int status = 0;
+    if (gltf_primitive_count(file, mesh, &count) != GLTF_SUCCESS)
+        return 6;
+    for (i = 0; i < count && status == 0; i++)
+        status = tell_primitive(file, mesh, i);
+    if (gltf_attribute(file, mesh, count, GLTF_POSITION, 0, &none) != GLTF_NO_SUCH_INDEX)
+        return 7;
+    return status;
+}
+
 static int tell_file(const unsigned char *bytes, size_t size)
 {
     gltf_file file = GLTF_CLOSED_FILE;
@@ -98,6 +138,9 @@ static int tell_file(const unsigned char *bytes, size_t size)
     count = gltf_count(&file, GLTF_ACCESSORS);
     for (i = 0; i < count && status == 0; i++)
         status = tell_accessor(&file, i);
+    count = gltf_count(&file, GLTF_MESHES);
+    for (i = 0; i < count && status == 0; i++)
+        status = tell_mesh(&file, i);
     gltf_close(&file);
     return status;
 }

@@ -9,10 +9,13 @@ use Rattle.gltf.specs.Import.{Accepts, RefusesImport, IsOnlyImport, IsNotAccepte
 use Rattle.gltf.specs.Shown.{bytes_of_each}
 use Rattle.gltf_c.specs.Info.{count_of, IsDescribed}
 use Rattle.gltf_c.specs.Message.{terminated, Tells}
+use Rattle.gltf_c.specs.Primitives.{IsGiven, primitive_count, primitive_at, primitive_shown}
+use Rattle.gltf_c.specs.Primitives.{attribute_at}
 use Rattle.gltf_c.specs.Read.{IsRead, IsSized, IsCopied}
 use Rattle.gltf_c.specs.Status.{code, status_of}
 use Rattle.gltf_c.specs.declared.file.File.{File}
 use Rattle.gltf_c.specs.declared.info.GltfAccessor.{GltfAccessor}
+use Rattle.gltf_c.specs.declared.primitives.GltfPrimitive.{GltfPrimitive}
 use Rattle.gltf_c.specs.declared.status.Status.{Status}
 use Rattle.gltf_c.specs.declared.status.Status.TheVariants.{Success, Closed}
 
@@ -75,3 +78,21 @@ CopiesBuffer None index offset n old new = IsClosed n old new
 CopiesBuffer (Some file) index offset n old new =
     Answers (λ status. IsCopied offset (slice_get (bytes_of_each file.buffers.items) index) status
     old new) n
+
+abbrev pub CountsPrimitives : Option File → ℕ → ℕ → ℕ → ℕ → Type 0
+CountsPrimitives None mesh n old new = IsClosed n old new
+CountsPrimitives (Some file) mesh n old new =
+    Answers (λ status. IsGiven (primitive_count file.document mesh) status old new) n
+
+abbrev pub DescribesPrimitive : Option File → ℕ → ℕ → ℕ → GltfPrimitive → GltfPrimitive → Type 0
+DescribesPrimitive None mesh index n old new = IsClosed n old new
+DescribesPrimitive (Some file) mesh index n old new =
+    Answers
+    (λ status. IsGiven (option_map primitive_shown (primitive_at file.document mesh index)) status
+    old new) n
+
+abbrev pub FindsAttribute : Option File → ℕ → ℕ → ℕ → ℕ → ℕ → ℕ → ℕ → Type 0
+FindsAttribute None mesh index meaning set n old new = IsClosed n old new
+FindsAttribute (Some file) mesh index meaning set n old new =
+    Answers
+    (λ status. IsGiven (attribute_at file.document mesh index meaning set) status old new) n

@@ -4,5 +4,6 @@ pub mod Heap
 pub mod Info
 pub mod Message
 pub mod Owned
+pub mod Primitives
 pub mod Read
 pub mod Status

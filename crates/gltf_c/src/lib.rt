@@ -6,7 +6,8 @@
 
 ghost use Rattle.std.specs.Prelude.{◌≡◌, None};
 ghost use Rattle.gltf_c.specs.Calls.{IsOpened, HasCount, Describes, ReadsItems, SizesBuffer};
-ghost use Rattle.gltf_c.specs.Calls.{CopiesBuffer};
+ghost use Rattle.gltf_c.specs.Calls.{CopiesBuffer, CountsPrimitives, DescribesPrimitive};
+ghost use Rattle.gltf_c.specs.Calls.{FindsAttribute};
 
 mod bare;
 mod bytes;
@@ -15,12 +16,14 @@ pub mod handle;
 pub mod info;
 mod message;
 mod open;
+pub mod primitives;
 mod read;
 pub mod status;
 
 use crate::handle::GltfFile;
 use crate::info::{GltfAccessor, Kind};
 use crate::open::open;
+use crate::primitives::GltfPrimitive;
 use crate::status::Status;
 use std::alloc::Global;
 
@@ -151,6 +154,68 @@ pub extern "C" fn gltf_buffer_read(
         return Status::Closed.code();
     };
     let status = read::copy(&held, index, offset, out);
+    handle::put(alloc, file, held);
+    status.code()
+}
+
+/// How many primitives the mesh at an index has.
+#[unsafe(no_mangle)]
+pub extern "C" fn gltf_primitive_count(
+    alloc: Global,
+    file: &mut GltfFile,
+    mesh: usize,
+    out: &mut usize,
+) -> u32
+    ensures same { file.new.value ≡ file.old.value }
+    ensures count { CountsPrimitives file.old.value mesh result out.old out.new }
+{
+    let Some(held) = handle::take(alloc, file) else {
+        return Status::Closed.code();
+    };
+    let status = primitives::count(&held, mesh, out);
+    handle::put(alloc, file, held);
+    status.code()
+}
+
+/// What a primitive of a mesh is (glTF 2.0, section 5.24).
+#[unsafe(no_mangle)]
+pub extern "C" fn gltf_primitive_info(
+    alloc: Global,
+    file: &mut GltfFile,
+    mesh: usize,
+    primitive: usize,
+    out: &mut GltfPrimitive,
+) -> u32
+    ensures same { file.new.value ≡ file.old.value }
+    ensures described { DescribesPrimitive file.old.value mesh primitive result out.old out.new }
+{
+    let Some(held) = handle::take(alloc, file) else {
+        return Status::Closed.code();
+    };
+    let status = primitives::describe(&held, mesh, primitive, out);
+    handle::put(alloc, file, held);
+    status.code()
+}
+
+/// The accessor of an attribute of a primitive (glTF 2.0, section 3.7.2.1).
+#[unsafe(no_mangle)]
+pub extern "C" fn gltf_attribute(
+    alloc: Global,
+    file: &mut GltfFile,
+    mesh: usize,
+    primitive: usize,
+    meaning: u32,
+    set: u32,
+    out: &mut usize,
+) -> u32
+    ensures same { file.new.value ≡ file.old.value }
+    ensures found { FindsAttribute file.old.value mesh primitive meaning set result
+        out.old out.new }
+{
+    let Some(held) = handle::take(alloc, file) else {
+        return Status::Closed.code();
+    };
+    let status = primitives::attribute(&held, mesh, primitive, meaning, set, out);
     handle::put(alloc, file, held);
     status.code()
 }

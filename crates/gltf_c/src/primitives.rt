@@ -1,0 +1,155 @@
+//! The primitives of meshes (glTF 2.0, section 3.7.2).
+
+ghost use Rattle.std.specs.Prelude.{◌≡◌, option_map};
+ghost use Rattle.std.specs.Option.{option_copied};
+ghost use Rattle.gltf_handles.specs.Sizes.{code_of};
+ghost use Rattle.gltf_c.specs.Primitives.{primitive_at, primitive_count, primitive_shown};
+ghost use Rattle.gltf_c.specs.Primitives.{mode_number, semantic_of, attribute_of, attribute_at};
+ghost use Rattle.gltf_c.specs.Primitives.{IsGiven};
+
+use crate::file::File;
+use crate::status::Status;
+use gltf_json::mesh::{Mode, Primitive, Semantic};
+use gltf_json_geometry::laws::order_is_the_stated_one;
+use gltf_json_record::validation::Checked;
+
+/// What a primitive is. C declares the same struct.
+#[repr(C)]
+#[derive(Clone, Copy, Drop)]
+pub struct GltfPrimitive {
+    /// 1 where an accessor has the indices of the vertices, else 0.
+    pub has_indices: u32,
+    /// 1 where a material is named, else 0.
+    pub has_material: u32,
+    /// How vertices are joined, by its number in glTF 2.0.
+    pub mode: u32,
+    /// The accessor of the indices, or 0.
+    pub indices: usize,
+    /// The material, or 0.
+    pub material: usize,
+}
+
+/// How many primitives a mesh has.
+pub(crate) fn count(file: &File, mesh: usize, out: &mut usize) -> Status
+    ensures { IsGiven (primitive_count file.now.document mesh) result out.old out.new }
+{
+    match file.document.as_json().meshes.get(mesh) {
+        Some(mesh) => {
+            *out = mesh.primitives.len();
+            Status::Success
+        }
+        None => Status::NoSuchIndex,
+    }
+}
+
+/// What a primitive of a mesh is.
+pub(crate) fn describe(file: &File, mesh: usize, index: usize, out: &mut GltfPrimitive) -> Status
+    ensures { IsGiven (option_map primitive_shown (primitive_at file.now.document mesh index))
+        result out.old out.new }
+{
+    match primitive(file, mesh, index) {
+        Some(primitive) => {
+            *out = shown(primitive);
+            Status::Success
+        }
+        None => Status::NoSuchIndex,
+    }
+}
+
+/// The accessor of an attribute of a primitive.
+pub(crate) fn attribute(
+    file: &File,
+    mesh: usize,
+    index: usize,
+    meaning: u32,
+    set: u32,
+    out: &mut usize,
+) -> Status
+    ensures { IsGiven (attribute_at file.now.document mesh index meaning set)
+        result out.old out.new }
+{
+    match found(file, mesh, index, meaning, set) {
+        Some(accessor) => {
+            *out = accessor;
+            Status::Success
+        }
+        None => Status::NoSuchIndex,
+    }
+}
+
+fn primitive(file: &File, mesh: usize, index: usize) -> Option<&Primitive>
+    ensures { option_copied result ≡ primitive_at file.now.document mesh index }
+{
+    file.document
+        .as_json()
+        .meshes
+        .get(mesh)?
+        .primitives
+        .get(index)
+}
+
+fn shown(primitive: &Primitive) -> GltfPrimitive
+    ensures { result ≡ primitive_shown primitive.now }
+{
+    GltfPrimitive {
+        has_indices: if primitive.indices.is_some() { 1 } else { 0 },
+        has_material: if primitive.material.is_some() { 1 } else { 0 },
+        mode: number_of(primitive.mode),
+        indices: match primitive.indices {
+            Some(index) => index.value(),
+            None => 0,
+        },
+        material: match primitive.material {
+            Some(index) => index.value(),
+            None => 0,
+        },
+    }
+}
+
+/// The number of a mode (glTF 2.0, section 5.24.4).
+fn number_of(mode: Checked<Mode>) -> u32
+    ensures { result ≡ code_of mode_number mode }
+{
+    match mode {
+        Checked::Valid(Mode::Points) | Checked::Invalid => 0,
+        Checked::Valid(Mode::Lines) => 1,
+        Checked::Valid(Mode::LineLoop) => 2,
+        Checked::Valid(Mode::LineStrip) => 3,
+        Checked::Valid(Mode::Triangles) => 4,
+        Checked::Valid(Mode::TriangleStrip) => 5,
+        Checked::Valid(Mode::TriangleFan) => 6,
+    }
+}
+
+fn found(file: &File, mesh: usize, index: usize, meaning: u32, set: u32) -> Option<usize>
+    ensures { result ≡ attribute_at file.now.document mesh index meaning set }
+{
+    let semantic = semantic(meaning, set)?;
+    accessor(primitive(file, mesh, index)?, &semantic)
+}
+
+/// The attribute of a number and of a set, where there is one.
+fn semantic(meaning: u32, set: u32) -> Option<Semantic>
+    ensures { result ≡ semantic_of meaning set }
+{
+    match meaning {
+        0 => Some(Semantic::Positions),
+        1 => Some(Semantic::Normals),
+        2 => Some(Semantic::Tangents),
+        3 => Some(Semantic::Colors(set)),
+        4 => Some(Semantic::TexCoords(set)),
+        5 => Some(Semantic::Joints(set)),
+        6 => Some(Semantic::Weights(set)),
+        _ => None,
+    }
+}
+
+fn accessor(primitive: &Primitive, semantic: &Semantic) -> Option<usize>
+    ensures { result ≡ attribute_of primitive.now semantic.now }
+{
+    order_is_the_stated_one();
+    match primitive.attributes.get(semantic) {
+        Some(index) => Some(index.value()),
+        None => None,
+    }
+}
