@@ -5,10 +5,14 @@ import json
 import struct
 import sys
 
-KINDS = ("buffers", "bufferViews", "accessors", "meshes", "nodes", "materials", "scenes")
+KINDS = (
+    "buffers", "bufferViews", "accessors", "meshes", "nodes", "materials", "scenes", "skins",
+    "animations", "images", "textures", "samplers", "cameras",
+)
 COMPONENTS = {"SCALAR": 1, "VEC2": 2, "VEC3": 3, "VEC4": 4, "MAT2": 4, "MAT3": 9, "MAT4": 16}
 LETTERS = {5120: "b", 5121: "B", 5122: "h", 5123: "H", 5125: "I", 5126: "f"}
 ATTRIBUTES = ("POSITION", "NORMAL", "TEXCOORD_0")
+MEMBERS = ("matrix", "translation", "rotation", "scale", "weights")
 
 
 def parts(data):
@@ -55,31 +59,68 @@ def numbers(document, buffers, accessor):
     return items
 
 
+def tell_accessor(document, buffers, index, accessor):
+    letter, each = LETTERS[accessor["componentType"]], COMPONENTS[accessor["type"]]
+    size = struct.calcsize("<" + letter * each)
+    normalized = ", normalized" if accessor.get("normalized") else ""
+    sparse = ", sparse" if "sparse" in accessor else ""
+    form = "%.9g" if letter == "f" else "%d"
+    items = numbers(document, buffers, accessor)
+    told = "".join(" " + form % number for item in items for number in item)
+    print(
+        f"accessor {index}: {accessor['count']} of {size} bytes, {each} of type "
+        f"{accessor['componentType']}{normalized}{sparse}:{told}"
+    )
+
+
+def tell_mesh(index, mesh):
+    for number, primitive in enumerate(mesh["primitives"]):
+        named = [(name, primitive[name]) for name in ("indices", "material") if name in primitive]
+        named += [(name, primitive["attributes"][name]) for name in ATTRIBUTES
+                  if name in primitive["attributes"]]
+        told = "".join(f", {name} {where}" for name, where in named)
+        print(f"primitive {number} of mesh {index}: mode {primitive.get('mode', 4)}{told}")
+
+
+def tell_node(index, node):
+    told = [f"{name} {node[name]}" for name in ("mesh", "skin", "camera") if name in node]
+    told += [f"child {child}" for child in node.get("children", [])]
+    for member in MEMBERS:
+        if member in node:
+            told.append(" ".join([member, *("%.17g" % number for number in node[member])]))
+    print(", ".join([f"node {index}", *told]))
+
+
+def tell_image(document, index, image):
+    told = [f"image {index}"]
+    if "bufferView" in image:
+        view = document["bufferViews"][image["bufferView"]]
+        told.append(f"{view['byteLength']} bytes at {view.get('byteOffset', 0)} "
+                    f"of buffer {view['buffer']}")
+    told += [f"{word} {image[name]}" for word, name in (("at", "uri"), ("of type", "mimeType"))
+             if name in image]
+    print(", ".join(told))
+
+
 def tell(path):
     with open(path, "rb") as file:
         document, blob = parts(file.read())
     buffers = [bytes_of(buffer, blob) for buffer in document.get("buffers", [])]
     print(", ".join(f"{len(document.get(kind, []))} {kind}" for kind in KINDS))
+    for kind in KINDS:
+        for index, record in enumerate(document.get(kind, [])):
+            if "name" in record:
+                print(f"{kind} {index} is {record['name']}")
     for index, accessor in enumerate(document.get("accessors", [])):
-        letter, each = LETTERS[accessor["componentType"]], COMPONENTS[accessor["type"]]
-        size = struct.calcsize("<" + letter * each)
-        normalized = ", normalized" if accessor.get("normalized") else ""
-        sparse = ", sparse" if "sparse" in accessor else ""
-        form = "%.9g" if letter == "f" else "%d"
-        items = numbers(document, buffers, accessor)
-        told = "".join(" " + form % number for item in items for number in item)
-        print(
-            f"accessor {index}: {accessor['count']} of {size} bytes, {each} of type "
-            f"{accessor['componentType']}{normalized}{sparse}:{told}"
-        )
+        tell_accessor(document, buffers, index, accessor)
     for index, mesh in enumerate(document.get("meshes", [])):
-        for number, primitive in enumerate(mesh["primitives"]):
-            named = [(name, primitive[name]) for name in ("indices", "material")
-                     if name in primitive]
-            named += [(name, primitive["attributes"][name]) for name in ATTRIBUTES
-                      if name in primitive["attributes"]]
-            told = "".join(f", {name} {where}" for name, where in named)
-            print(f"primitive {number} of mesh {index}: mode {primitive.get('mode', 4)}{told}")
+        tell_mesh(index, mesh)
+    for index, node in enumerate(document.get("nodes", [])):
+        tell_node(index, node)
+    for index, scene in enumerate(document.get("scenes", [])):
+        print(", ".join([f"scene {index}", *(f"node {node}" for node in scene.get("nodes", []))]))
+    for index, image in enumerate(document.get("images", [])):
+        tell_image(document, index, image)
 
 
 for name in sys.argv[1:]:

@@ -59,9 +59,12 @@ static gltf_status whole(const unsigned char *bytes, size_t size, char *why, siz
 {
     gltf_file file = GLTF_CLOSED_FILE;
     gltf_status status = gltf_open(bytes, size, &file, why, why_size);
-    size_t i;
+    char name[20];
+    size_t i, length;
     for (i = 0; i < gltf_count(&file, GLTF_ACCESSORS); i++)
         gltf_accessor_read(&file, i, items, sizeof items);
+    for (i = 0; i < gltf_count(&file, GLTF_NODES); i++)
+        gltf_name(&file, GLTF_NODES, i, name, sizeof name, &length);
     gltf_close(&file);
     return status;
 }

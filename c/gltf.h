@@ -18,8 +18,8 @@
  * WHAT A CALLER HAS TO KEEP. None of it can be tested by the library.
  *   1. No pointer is NULL, also where the size beside it is 0. A pointer to bytes points to as many
  *      as the size says, at most PTRDIFF_MAX. Nothing else writes them during the call.
- *   2. What a call writes to (`file`, `message`, `out`) overlaps nothing else that it is given, and
- *      is aligned as its type.
+ *   2. What a call writes to (`file`, `message`, `text`, `length`, `out`) overlaps nothing else
+ *      that it is given, and is aligned as its type.
  *   3. A gltf_file begins as GLTF_CLOSED_FILE, that is as zeros. Nothing but these functions writes
  *      to it. It may be moved by copying its bytes; then only one of the copies is used.
  *   4. All calls on a file come from the thread that opened it. Different files may be used at once
@@ -64,7 +64,7 @@ enum {
     GLTF_UNSUPPORTED_SCHEME = 9,  /* a URI has another scheme than `data`, or is no text */
     GLTF_INPUT_OUTPUT = 10,       /* answered by no call */
     GLTF_CLOSED = 11,             /* the file is closed */
-    GLTF_NO_SUCH_INDEX = 12,      /* nothing has that index */
+    GLTF_NO_SUCH_INDEX = 12,      /* nothing has that index, or it has not what was asked for */
     GLTF_UNREADABLE = 13,         /* the accessor does not fit its views, or they their buffers */
     GLTF_NO_ROOM = 14,            /* the items are more bytes than there is room for */
     GLTF_OUT_OF_RANGE = 15        /* the buffer ends before the bytes that were asked for */
@@ -140,6 +140,34 @@ enum {
     GLTF_WEIGHTS = 6
 };
 
+/* What a node is (glTF 2.0, section 5.25). */
+typedef struct gltf_node {
+    unsigned int has_mesh;   /* 1 where a mesh is named, else 0 */
+    unsigned int has_skin;   /* 1 where a skin is named, else 0 */
+    unsigned int has_camera; /* 1 where a camera is named, else 0 */
+    size_t mesh;             /* that mesh, or 0 */
+    size_t skin;             /* that skin, or 0 */
+    size_t camera;           /* that camera, or 0 */
+    size_t children;         /* how many children it has: gltf_node_child gives them */
+} gltf_node;
+
+/* The members of a node that are lists of numbers. */
+enum {
+    GLTF_MATRIX = 0,      /* its place: 16 numbers, column by column; where it is absent, these: */
+    GLTF_TRANSLATION = 1, /* x, y, z in metres; 0, 0, 0 where absent */
+    GLTF_ROTATION = 2,    /* a unit quaternion x, y, z, w; 0, 0, 0, 1 where absent */
+    GLTF_SCALE = 3,       /* along x, y, z; 1, 1, 1 where absent */
+    GLTF_NODE_WEIGHTS = 4 /* of the morph targets of its mesh */
+};
+
+/* Where the bytes of an image are (glTF 2.0, section 3.8.3). */
+typedef struct gltf_image {
+    unsigned int has_view; /* 1 where they are in a buffer, else 0: then gltf_image_uri says it */
+    size_t buffer;         /* that buffer, or 0 */
+    size_t offset;         /* the place of the first byte in it, or 0 */
+    size_t size;           /* how many bytes they are, or 0 */
+} gltf_image;
+
 /* Opens a file from its `size` bytes: a GLB container where they begin with `glTF`, else JSON text
  * (glTF 2.0, sections 2.8, 3.6.1 and 4.4). Buffers stand in the BIN chunk and in data URIs; no
  * other file is read. What is needed is copied: the bytes may go after the call. What `file` held
@@ -198,6 +226,46 @@ gltf_status gltf_primitive_info(gltf_file *file, size_t mesh, size_t primitive,
  * meaning, or the primitive has no such attribute. */
 gltf_status gltf_attribute(gltf_file *file, size_t mesh, size_t primitive, unsigned int meaning,
                            unsigned int set, size_t *out);
+
+/* What node `index` is. GLTF_SUCCESS, GLTF_CLOSED or GLTF_NO_SUCH_INDEX. */
+gltf_status gltf_node_info(gltf_file *file, size_t index, gltf_node *out);
+
+/* The node that is child number `position` of node `node`. No rule says that nodes make up trees:
+ * a node may be below itself. GLTF_SUCCESS, GLTF_CLOSED, or GLTF_NO_SUCH_INDEX where there is no
+ * such node, or it has not so many children. */
+gltf_status gltf_node_child(gltf_file *file, size_t node, size_t position, size_t *out);
+
+/* Number `position` of a member (GLTF_MATRIX ..) of node `node`, as the nearest double (glTF 2.0,
+ * section 3.5.3). No rule says how many numbers a member has. GLTF_SUCCESS, GLTF_CLOSED, or
+ * GLTF_NO_SUCH_INDEX where there is no such node, the node has no such member, or there is no
+ * number at that position. */
+gltf_status gltf_node_number(gltf_file *file, size_t node, unsigned int member, size_t position,
+                             double *out);
+
+/* The node that is root number `position` of scene `scene` (glTF 2.0, section 5.27). GLTF_SUCCESS,
+ * GLTF_CLOSED, or GLTF_NO_SUCH_INDEX where there is no such scene, or it has not so many. */
+gltf_status gltf_scene_node(gltf_file *file, size_t scene, size_t position, size_t *out);
+
+/* Where the bytes of image `index` are. GLTF_SUCCESS, GLTF_CLOSED or GLTF_NO_SUCH_INDEX. */
+gltf_status gltf_image_info(gltf_file *file, size_t index, gltf_image *out);
+
+/* THE CALLS THAT GIVE A TEXT write it, in UTF-8, to the front of `text`, cut to `text_size` - 1
+ * bytes, with a zero byte behind it; with a size of 0 they write none of it. `*length` is given the
+ * bytes of the whole text, without that zero, so the text was cut where `*length` >= `text_size`. A
+ * cut may split a character, and a text may hold zero bytes. GLTF_SUCCESS, GLTF_CLOSED, or
+ * GLTF_NO_SUCH_INDEX where there is no such record, or it has no such text. */
+
+/* The URI of image `index` (glTF 2.0, section 5.18.1), as it stands in the document. */
+gltf_status gltf_image_uri(gltf_file *file, size_t index, char *text, size_t text_size,
+                           size_t *length);
+
+/* The media type of image `index` (glTF 2.0, section 5.18.2), as `image/png`. */
+gltf_status gltf_image_mime_type(gltf_file *file, size_t index, char *text, size_t text_size,
+                                 size_t *length);
+
+/* The name of record `index` of a kind (GLTF_BUFFERS ..). */
+gltf_status gltf_name(gltf_file *file, unsigned int kind, size_t index, char *text,
+                      size_t text_size, size_t *length);
 
 #ifdef __cplusplus
 }

@@ -1,16 +1,19 @@
-/* Tells how many records the files have, all numbers of their accessors, and what the primitives
- * of their meshes name: `list FILE..`. */
+/* Tells what the files hold: all names, all numbers of accessors, what the primitives of meshes
+ * name, the nodes and where they are, and where images are: `list FILE..`. */
 #include "contents.h"
 #include "gltf.h"
 
 #include <string.h>
 
 static const char *const KINDS[] = {
-    "buffers", "bufferViews", "accessors", "meshes", "nodes", "materials", "scenes"
+    "buffers", "bufferViews", "accessors", "meshes", "nodes", "materials", "scenes", "skins",
+    "animations", "images", "textures", "samplers", "cameras"
 };
 
+static const char *const MEMBERS[] = { "matrix", "translation", "rotation", "scale", "weights" };
+
 /* One number of an item, in the byte order of the processor, which is the file's. */
-static void tell_number(const unsigned char *at, unsigned type)
+static void tell_number(const unsigned char *at, size_t size, unsigned type)
 {
     union {
         signed char i8;
@@ -21,29 +24,24 @@ static void tell_number(const unsigned char *at, unsigned type)
         float f32;
     } number;
     memset(&number, 0, sizeof number);
+    memcpy(&number, at, size);
     switch (type) {
     case GLTF_I8:
-        memcpy(&number, at, 1);
         printf(" %d", number.i8);
         break;
     case GLTF_U8:
-        memcpy(&number, at, 1);
         printf(" %u", (unsigned)number.u8);
         break;
     case GLTF_I16:
-        memcpy(&number, at, 2);
         printf(" %d", number.i16);
         break;
     case GLTF_U16:
-        memcpy(&number, at, 2);
         printf(" %u", (unsigned)number.u16);
         break;
     case GLTF_U32:
-        memcpy(&number, at, 4);
         printf(" %u", number.u32);
         break;
     default:
-        memcpy(&number, at, 4);
         printf(" %.9g", number.f32);
     }
 }
@@ -54,7 +52,7 @@ static void tell_items(const gltf_accessor *about, const unsigned char *items)
     size_t count = about->count * about->components;
     size_t i;
     for (i = 0; i < count; i++)
-        tell_number(items + i * each, about->component_type);
+        tell_number(items + i * each, each, about->component_type);
 }
 
 static int tell_accessor(gltf_file *file, size_t index)
@@ -120,27 +118,129 @@ static int tell_mesh(gltf_file *file, size_t mesh)
     return status;
 }
 
+/* The names of a kind of records. The length of a name is asked for first. */
+static int tell_names(gltf_file *file, unsigned kind)
+{
+    size_t count = gltf_count(file, kind), i, length;
+    char none[1];
+    for (i = 0; i < count; i++) {
+        char *name;
+        if (gltf_name(file, kind, i, none, 0, &length) != GLTF_SUCCESS)
+            continue;
+        name = (char *)malloc(length + 1);
+        if (name == NULL)
+            return 8;
+        if (gltf_name(file, kind, i, name, length + 1, &length) != GLTF_SUCCESS)
+            return 9;
+        printf("%s %lu is %s\n", KINDS[kind], (unsigned long)i, name);
+        free(name);
+    }
+    return gltf_name(file, kind, count, none, 0, &length) == GLTF_NO_SUCH_INDEX ? 0 : 10;
+}
+
+static void tell_member(gltf_file *file, size_t node, unsigned member)
+{
+    double number;
+    size_t i;
+    for (i = 0; gltf_node_number(file, node, member, i, &number) == GLTF_SUCCESS; i++)
+        printf("%s%s %.17g", i == 0 ? ", " : "", i == 0 ? MEMBERS[member] : "", number);
+}
+
+static int tell_node(gltf_file *file, size_t index)
+{
+    gltf_node about;
+    size_t i, child;
+    unsigned member;
+    if (gltf_node_info(file, index, &about) != GLTF_SUCCESS)
+        return 11;
+    printf("node %lu", (unsigned long)index);
+    if (about.has_mesh)
+        printf(", mesh %lu", (unsigned long)about.mesh);
+    if (about.has_skin)
+        printf(", skin %lu", (unsigned long)about.skin);
+    if (about.has_camera)
+        printf(", camera %lu", (unsigned long)about.camera);
+    for (i = 0; i < about.children; i++) {
+        if (gltf_node_child(file, index, i, &child) != GLTF_SUCCESS)
+            return 12;
+        printf(", child %lu", (unsigned long)child);
+    }
+    for (member = GLTF_MATRIX; member <= GLTF_NODE_WEIGHTS; member++)
+        tell_member(file, index, member);
+    printf("\n");
+    return gltf_node_child(file, index, i, &child) == GLTF_NO_SUCH_INDEX ? 0 : 13;
+}
+
+static int tell_scene(gltf_file *file, size_t index)
+{
+    size_t i, node;
+    printf("scene %lu", (unsigned long)index);
+    for (i = 0; gltf_scene_node(file, index, i, &node) == GLTF_SUCCESS; i++)
+        printf(", node %lu", (unsigned long)node);
+    printf("\n");
+    return 0;
+}
+
+static int tell_image(gltf_file *file, size_t index)
+{
+    gltf_image about;
+    char text[100];
+    size_t length;
+    if (gltf_image_info(file, index, &about) != GLTF_SUCCESS)
+        return 14;
+    printf("image %lu", (unsigned long)index);
+    if (about.has_view)
+        printf(", %lu bytes at %lu of buffer %lu", (unsigned long)about.size,
+               (unsigned long)about.offset, (unsigned long)about.buffer);
+    if (gltf_image_uri(file, index, text, sizeof text, &length) == GLTF_SUCCESS)
+        printf(", at %s", text);
+    if (gltf_image_mime_type(file, index, text, sizeof text, &length) == GLTF_SUCCESS)
+        printf(", of type %s", text);
+    printf("\n");
+    return 0;
+}
+
+/* What `tell` says of each record of a kind, up to the first that fails. */
+static int tell_each(gltf_file *file, unsigned kind, int (*tell)(gltf_file *, size_t))
+{
+    size_t count = gltf_count(file, kind), i;
+    int status = 0;
+    for (i = 0; i < count && status == 0; i++)
+        status = tell(file, i);
+    return status;
+}
+
+static int tell_open(gltf_file *file)
+{
+    unsigned kind;
+    int status = 0;
+    for (kind = GLTF_BUFFERS; kind <= GLTF_CAMERAS; kind++)
+        printf("%s%lu %s", kind == GLTF_BUFFERS ? "" : ", ",
+               (unsigned long)gltf_count(file, kind), KINDS[kind]);
+    printf("\n");
+    for (kind = GLTF_BUFFERS; kind <= GLTF_CAMERAS && status == 0; kind++)
+        status = tell_names(file, kind);
+    if (status == 0)
+        status = tell_each(file, GLTF_ACCESSORS, tell_accessor);
+    if (status == 0)
+        status = tell_each(file, GLTF_MESHES, tell_mesh);
+    if (status == 0)
+        status = tell_each(file, GLTF_NODES, tell_node);
+    if (status == 0)
+        status = tell_each(file, GLTF_SCENES, tell_scene);
+    return status == 0 ? tell_each(file, GLTF_IMAGES, tell_image) : status;
+}
+
 static int tell_file(const unsigned char *bytes, size_t size)
 {
     gltf_file file = GLTF_CLOSED_FILE;
     char why[400];
-    size_t i, count;
-    unsigned kind;
-    int status = 0;
+    int status;
     if (gltf_open(bytes, size, &file, why, sizeof why) != GLTF_SUCCESS) {
         printf("%s\n", why);
         return 0;
     }
-    for (kind = GLTF_BUFFERS; kind <= GLTF_SCENES; kind++)
-        printf("%s%lu %s", kind == GLTF_BUFFERS ? "" : ", ",
-               (unsigned long)gltf_count(&file, kind), KINDS[kind]);
-    printf("\n");
-    count = gltf_count(&file, GLTF_ACCESSORS);
-    for (i = 0; i < count && status == 0; i++)
-        status = tell_accessor(&file, i);
-    count = gltf_count(&file, GLTF_MESHES);
-    for (i = 0; i < count && status == 0; i++)
-        status = tell_mesh(&file, i);
+    status = tell_open(&file);
     gltf_close(&file);
     return status;
 }

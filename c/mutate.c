@@ -72,6 +72,80 @@ static int read_all(gltf_file *file, long *read)
     return 0;
 }
 
+/* The names of a kind of records, each into a block of a size of its own, and the place of each
+ * cut is looked at. */
+static int read_names(gltf_file *file, unsigned kind)
+{
+    size_t count = gltf_count(file, kind), i;
+    for (i = 0; i <= count; i++) {
+        size_t room = any(40), length = 0;
+        char *text = (char *)malloc(room + (room == 0));
+        gltf_status status;
+        int wrong;
+        if (text == NULL)
+            return 9;
+        status = gltf_name(file, kind, i, text, room, &length);
+        wrong = status == GLTF_SUCCESS && room > 0
+            && text[length < room ? length : room - 1] != 0;
+        free(text);
+        if (wrong || (status != GLTF_SUCCESS && status != GLTF_NO_SUCH_INDEX)
+            || (i == count && status == GLTF_SUCCESS))
+            return 10;
+    }
+    return 0;
+}
+
+/* Each node with its children and the numbers of its members. */
+static int read_nodes(gltf_file *file)
+{
+    size_t count = gltf_count(file, GLTF_NODES), i, k, child;
+    double number;
+    unsigned member;
+    for (i = 0; i < count; i++) {
+        gltf_node about;
+        if (gltf_node_info(file, i, &about) != GLTF_SUCCESS)
+            return 11;
+        for (k = 0; k < about.children; k++)
+            if (gltf_node_child(file, i, k, &child) != GLTF_SUCCESS || child >= count)
+                return 12;
+        for (member = 0; member <= GLTF_NODE_WEIGHTS + 1; member++)
+            for (k = 0; gltf_node_number(file, i, member, k, &number) == GLTF_SUCCESS; k++)
+                if (number != number || member > GLTF_NODE_WEIGHTS)
+                    return 13;
+    }
+    return gltf_node_child(file, count, 0, &child) == GLTF_NO_SUCH_INDEX ? 0 : 14;
+}
+
+/* Each image: its bytes in a view are those of a buffer, or it has a URI. */
+static int read_images(gltf_file *file)
+{
+    size_t count = gltf_count(file, GLTF_IMAGES), i, length;
+    for (i = 0; i < count; i++) {
+        gltf_image about;
+        char text[8];
+        if (gltf_image_info(file, i, &about) != GLTF_SUCCESS)
+            return 15;
+        if (about.has_view ? about.buffer >= gltf_count(file, GLTF_BUFFERS)
+            : gltf_image_uri(file, i, text, sizeof text, &length) != GLTF_SUCCESS)
+            return 16;
+        if (gltf_image_mime_type(file, i, text, sizeof text, &length) != GLTF_SUCCESS
+            && about.has_view)
+            return 17;
+    }
+    return 0;
+}
+
+static int look_at_all(gltf_file *file, long *read)
+{
+    int wrong = read_all(file, read);
+    unsigned kind;
+    for (kind = GLTF_BUFFERS; kind <= GLTF_CAMERAS && wrong == 0; kind++)
+        wrong = read_names(file, kind);
+    if (wrong == 0)
+        wrong = read_nodes(file);
+    return wrong == 0 ? read_images(file) : wrong;
+}
+
 /* A file's bytes stand in a block of their own size, so that each read past them is seen. */
 static int try_one(const unsigned char *bytes, size_t size, long *opened, long *read)
 {
@@ -82,7 +156,7 @@ static int try_one(const unsigned char *bytes, size_t size, long *opened, long *
     if (status >= STATUSES || memchr(why, 0, sizeof why) == NULL)
         return 7;
     opened[status]++;
-    wrong = read_all(&file, read);
+    wrong = status == GLTF_SUCCESS ? look_at_all(&file, read) : read_all(&file, read);
     gltf_close(&file);
     return gltf_count(&file, GLTF_ACCESSORS) == 0 ? wrong : 8;
 }

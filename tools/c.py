@@ -24,9 +24,10 @@ OUT = crates.TOP / "out" / "c"
 LIBRARY = OUT / "libgltf.a"
 FILES = [os.fspath(crates.TOP / "examples" / name) for name in
          ("box.glb", "triangle.gltf", "dangling.gltf")]
-FINE = FILES[:2]
+RIG = os.fspath(C / "rig.gltf")
+FINE = [*FILES[:2], RIG]
 # How many mutated copies of each file are tried, by the sanitizers and by valgrind.
-TIMES, TIMES_BY_VALGRIND = 33_334, 334
+TIMES, TIMES_BY_VALGRIND = 25_001, 251
 STRICT = ["-Wall", "-Wextra", "-Werror", "-pedantic", "-O2"]
 # What the types of exports are in C. A slice is a pointer and a count.
 TYPES = {
@@ -35,7 +36,7 @@ TYPES = {
     "&[u8]": ["const void *", "size_t"],
     "&mut [u8]": ["void *", "size_t"],
     "&mut usize": ["size_t *"],
-    "&mut u32": ["unsigned int *"],
+    "&mut f64": ["double *"],
 }
 
 
@@ -105,7 +106,7 @@ def shows_exports_alone():
 
 
 def c_types(name, kind):
-    if kind == "&mut [u8]" and name in ("message", "name"):
+    if kind == "&mut [u8]" and name in ("message", "text"):
         return ["char *", "size_t"]
     if kind.startswith("&mut Gltf"):
         return [re.sub(r"(?<!^)(?=[A-Z])", "_", kind[5:]).lower() + " *"]
@@ -163,16 +164,16 @@ def a_stack_of_256_kib_is_enough():
     texts = {"deep": f'"extras":{levels}', "broken": f'"nodes":[{rules}]'}
     for name, member in texts.items():
         (OUT / f"{name}.gltf").write_text(f'{{"asset":{{"version":"2.0"}},{member}}}')
-    files = [*FILES, *(OUT / f"{name}.gltf" for name in texts)]
-    size = 256 * 1024
+    files = [*FILES, RIG, *(OUT / f"{name}.gltf" for name in texts)]
+    size, program = 256 * 1024, built("list", "-std=c89")
     for file in files:
-        ran(built("list", "-std=c89"), file,
+        ran(program, file,
             preexec_fn=lambda: resource.setrlimit(resource.RLIMIT_STACK, (size, size)))
 
 
 def mutated_files_break_nothing():
     program = built("mutate", "-g", "-fsanitize=address,undefined")
-    print(ran(program, str(TIMES), *FILES), end="")
+    print(ran(program, str(TIMES), *FILES, RIG), end="")
 
 
 def valgrind_sees_no_error():
@@ -180,7 +181,16 @@ def valgrind_sees_no_error():
         return "there is no valgrind"
     program = built("mutate", by="gcc")
     ran("valgrind", "-q", "--leak-check=full", "--error-exitcode=9", program,
-        str(TIMES_BY_VALGRIND), *FILES)
+        str(TIMES_BY_VALGRIND), *FILES, RIG)
+    return None
+
+
+def threads_have_files_of_their_own():
+    program = built("threads", "-pthread")
+    ran(program, "200", FILES[0])
+    if not shutil.which("valgrind"):
+        return "there is no valgrind"
+    ran("valgrind", "-q", "--tool=helgrind", "--error-exitcode=9", program, "2", FILES[0])
     return None
 
 
@@ -249,8 +259,8 @@ def install(prefix):
 TESTS = (
     shows_exports_alone, header_has_the_signatures, shows_by_each_compiler,
     lists_what_the_files_hold, a_stack_of_256_kib_is_enough, mutated_files_break_nothing,
-    valgrind_sees_no_error, each_growth_is_refused_in_turn, links_from_rust,
-    is_found_where_it_is_installed,
+    valgrind_sees_no_error, threads_have_files_of_their_own, each_growth_is_refused_in_turn,
+    links_from_rust, is_found_where_it_is_installed,
 )
 
 

@@ -1,21 +1,11 @@
 #!/usr/bin/env bash
-# Proves and builds the program beside this script in a folder of its own, and runs it on each of
-# its files: once for the times of all calls, and once for the most memory of each call. It needs
-# `rt` and `python3` on the path. The program stands in a text file, since `rt ci` wants every .rt
-# file in a crate of the repository.
+# Runs the program beside this script on each of its files: once for the times of all calls, and
+# once for the most memory of each call.
 set -euo pipefail
 here=$(cd "$(dirname "$0")" && pwd)
 work=$(mktemp -d)
 trap 'rm -rf "$work"' EXIT
-mkdir -p "$work/crates/import_bench/src" "$work/.git"
-beside='^gltf_(tests|cases|show|repack|refusals|c)[: ]'
-grep '^gltf' "$here/../../crates.txt" | grep -v -E "$beside" > "$work/crates.txt"
-for crate in $(cut -d: -f1 "$work/crates.txt"); do
-    cp -r "$here/../../crates/$crate" "$work/crates"
-done
-printf 'import_bench: gltf\n' >> "$work/crates.txt"
-cp "$here/import_bench.rt.txt" "$work/crates/import_bench/src/main.rt"
-(cd "$work/crates/import_bench" && rt run > "$work/log" 2>&1) || { cat "$work/log"; exit 1; }
+"$here/../program.sh" import_bench gltf "$here/import_bench.rt.txt" "$work" > /dev/null
 python3 - "$work/crates/import_bench/out/import_bench" <<'PYTHON'
 import os
 import subprocess

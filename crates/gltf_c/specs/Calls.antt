@@ -1,21 +1,18 @@
 -- What the calls from C do, by what the file holds: `None` is a closed one. A status is the number
 -- that C sees.
-use Rattle.std.specs.Prelude.{◌≡◌, ◌≢◌, ℕ, List, [], Option, Some, None, slice_get, option_map}
+use Rattle.std.specs.Prelude.{◌≡◌, ◌≢◌, ℕ, List, [], Option, Some, None}
 use Rattle.gltf_glb.specs.declared.error.Error.{Error}
 use Rattle.gltf_glb.specs.declared.error.Error.TheVariants.{Memory}
 use Rattle.gltf_data.specs.Documents.{accessor_at}
 use Rattle.gltf.specs.Errors.{OutOfMemoryOr}
 use Rattle.gltf.specs.Import.{Accepts, RefusesImport, IsOnlyImport, IsNotAccepted}
 use Rattle.gltf.specs.Shown.{bytes_of_each}
-use Rattle.gltf_c.specs.Info.{count_of, IsDescribed}
+use Rattle.gltf_c.specs.Given.{IsGiven, IsGivenText}
+use Rattle.gltf_c.specs.Info.{count_of}
 use Rattle.gltf_c.specs.Message.{terminated, Tells}
-use Rattle.gltf_c.specs.Primitives.{IsGiven, primitive_count, primitive_at, primitive_shown}
-use Rattle.gltf_c.specs.Primitives.{attribute_at}
-use Rattle.gltf_c.specs.Read.{IsRead, IsSized, IsCopied}
+use Rattle.gltf_c.specs.Read.{IsRead, IsCopied, buffer_of}
 use Rattle.gltf_c.specs.Status.{code, status_of}
 use Rattle.gltf_c.specs.declared.file.File.{File}
-use Rattle.gltf_c.specs.declared.info.GltfAccessor.{GltfAccessor}
-use Rattle.gltf_c.specs.declared.primitives.GltfPrimitive.{GltfPrimitive}
 use Rattle.gltf_c.specs.declared.status.Status.{Status}
 use Rattle.gltf_c.specs.declared.status.Status.TheVariants.{Success, Closed}
 
@@ -57,42 +54,25 @@ pub record Answers (P : Status → Type 0) (number : ℕ) : Type 0 where
   pub names : number ≡ code status
   pub holds : P status
 
-abbrev pub Describes : Option File → ℕ → ℕ → GltfAccessor → GltfAccessor → Type 0
-Describes None index n old new = IsClosed n old new
-Describes (Some file) index n old new =
-    Answers (λ status. IsDescribed (accessor_at file.document index) status old new) n
+-- what is asked for of the file is written, where it is there
+abbrev pub Gives : {X : Type 0} → (File → Option X) → Option File → ℕ → X → X → Type 0
+Gives asked None n old new = IsClosed n old new
+Gives asked (Some file) n old new = Answers (λ status. IsGiven (asked file) status old new) n
+
+-- the same of a text in a room, and of its length beside it
+abbrev pub GivesText : (File → Option (List ℕ)) → Option File → ℕ → List ℕ → List ℕ → ℕ → ℕ
+    → Type 0
+GivesText asked None n old new old_length new_length =
+    IsClosed n old new × (new_length ≡ old_length)
+GivesText asked (Some file) n old new old_length new_length =
+    Answers (λ status. IsGivenText (asked file) status old new old_length new_length) n
 
 abbrev pub ReadsItems : Option File → ℕ → ℕ → List ℕ → List ℕ → Type 0
 ReadsItems None index n old new = IsClosed n old new
 ReadsItems (Some file) index n old new =
     Answers (λ status. IsRead file index (accessor_at file.document index) status old new) n
 
-abbrev pub SizesBuffer : Option File → ℕ → ℕ → ℕ → ℕ → Type 0
-SizesBuffer None index n old new = IsClosed n old new
-SizesBuffer (Some file) index n old new =
-    Answers
-    (λ status. IsSized (slice_get (bytes_of_each file.buffers.items) index) status old new) n
-
 abbrev pub CopiesBuffer : Option File → ℕ → ℕ → ℕ → List ℕ → List ℕ → Type 0
 CopiesBuffer None index offset n old new = IsClosed n old new
 CopiesBuffer (Some file) index offset n old new =
-    Answers (λ status. IsCopied offset (slice_get (bytes_of_each file.buffers.items) index) status
-    old new) n
-
-abbrev pub CountsPrimitives : Option File → ℕ → ℕ → ℕ → ℕ → Type 0
-CountsPrimitives None mesh n old new = IsClosed n old new
-CountsPrimitives (Some file) mesh n old new =
-    Answers (λ status. IsGiven (primitive_count file.document mesh) status old new) n
-
-abbrev pub DescribesPrimitive : Option File → ℕ → ℕ → ℕ → GltfPrimitive → GltfPrimitive → Type 0
-DescribesPrimitive None mesh index n old new = IsClosed n old new
-DescribesPrimitive (Some file) mesh index n old new =
-    Answers
-    (λ status. IsGiven (option_map primitive_shown (primitive_at file.document mesh index)) status
-    old new) n
-
-abbrev pub FindsAttribute : Option File → ℕ → ℕ → ℕ → ℕ → ℕ → ℕ → ℕ → Type 0
-FindsAttribute None mesh index meaning set n old new = IsClosed n old new
-FindsAttribute (Some file) mesh index meaning set n old new =
-    Answers
-    (λ status. IsGiven (attribute_at file.document mesh index meaning set) status old new) n
+    Answers (λ status. IsCopied offset (buffer_of index file) status old new) n

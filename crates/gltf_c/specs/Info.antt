@@ -1,19 +1,19 @@
 -- What a file has, as C sees it.
-use Rattle.std.specs.Prelude.{◌≡◌, ℕ, Bool, true, false, List, [], ◌∷◌, length, slice_get, Option}
-use Rattle.std.specs.Prelude.{Some, None, is_some, unwrap_or, option_map}
+use Rattle.std.specs.Prelude.{ℕ, Bool, true, false, List, [], ◌∷◌, length, slice_get, Option}
+use Rattle.std.specs.Prelude.{is_some, unwrap_or, option_map}
 use Rattle.gltf_json.specs.declared.root.Root.{Root}
 use Rattle.gltf_json_geometry.specs.declared.accessor.Accessor.{Accessor}
 use Rattle.gltf_handles.specs.Sizes.{code_of, data_type, dimensions, multiplicity, item_size}
 use Rattle.gltf_handles.specs.declared.accessor.DataType.{DataType}
 use Rattle.gltf_handles.specs.declared.accessor.DataType.TheVariants.{I8, U8, I16, U16, U32, F32}
+use Rattle.gltf_data.specs.Documents.{accessor_at}
+use Rattle.gltf_c.specs.declared.file.File.{File}
 use Rattle.gltf_c.specs.declared.info.Kind.{Kind}
 use Rattle.gltf_c.specs.declared.info.Kind.TheVariants.{Buffers, BufferViews, Accessors, Meshes}
 use Rattle.gltf_c.specs.declared.info.Kind.TheVariants.{Nodes, Materials, Scenes, Skins}
 use Rattle.gltf_c.specs.declared.info.Kind.TheVariants.{Animations, Images, Textures, Samplers}
 use Rattle.gltf_c.specs.declared.info.Kind.TheVariants.{Cameras}
 use Rattle.gltf_c.specs.declared.info.GltfAccessor.{GltfAccessor}
-use Rattle.gltf_c.specs.declared.status.Status.{Status}
-use Rattle.gltf_c.specs.declared.status.Status.TheVariants.{Success, NoSuchIndex}
 
 -- the kind of each number from 0 on
 abbrev pub kinds : List Kind
@@ -63,10 +63,9 @@ description a = record {
   sparse = one_or_zero (is_some a.sparse);
 }
 
--- the accessor is described where it is there, else nothing is written
-abbrev pub IsDescribed : Option Accessor → Status → GltfAccessor → GltfAccessor → Type 0
-IsDescribed None status old new = (status ≡ NoSuchIndex) × (new ≡ old)
-IsDescribed (Some a) status old new = (status ≡ Success) × (new ≡ description a)
+-- the accessor at an index, as C sees it
+abbrev pub accessor_of : ℕ → File → Option GltfAccessor
+accessor_of index file = option_map description (accessor_at file.document index)
 
 -- how many records there are of the kind of a number; none where the number has no kind
 abbrev pub count_of : ℕ → Root → ℕ

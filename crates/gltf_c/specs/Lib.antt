@@ -1,8 +1,12 @@
 pub mod Calls
 pub mod Front
+pub mod Given
 pub mod Heap
+pub mod Images
 pub mod Info
 pub mod Message
+pub mod Names
+pub mod Nodes
 pub mod Owned
 pub mod Primitives
 pub mod Read

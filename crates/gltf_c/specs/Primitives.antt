@@ -1,9 +1,8 @@
 -- The primitives of meshes, as C sees them (glTF 2.0, section 3.7.2).
-use Rattle.std.specs.Prelude.{◌≡◌, ℕ, List, [], ◌∷◌, length, slice_get, Option, Some, None}
+use Rattle.std.specs.Prelude.{ℕ, List, [], ◌∷◌, length, slice_get, Option}
 use Rattle.std.specs.Prelude.{is_some, unwrap_or, option_map}
 use Rattle.std.specs.BTreeMap.{get_by}
 use Rattle.std.specs.Option.{option_and_then}
-use Rattle.gltf_json.specs.declared.root.Root.{Root}
 use Rattle.gltf_json_geometry.specs.declared.mesh.Mode.{Mode}
 use Rattle.gltf_json_geometry.specs.declared.mesh.Mode.TheVariants.{Points, Lines, LineLoop}
 use Rattle.gltf_json_geometry.specs.declared.mesh.Mode.TheVariants.{LineStrip, Triangles}
@@ -17,21 +16,20 @@ use Rattle.gltf_json_geometry.specs.declared.semantic.Semantic.TheVariants.{Weig
 use Rattle.gltf_json_geometry.specs.Semantics.{semantic_cmp}
 use Rattle.gltf_handles.specs.Sizes.{code_of}
 use Rattle.gltf_c.specs.Info.{one_or_zero}
+use Rattle.gltf_c.specs.declared.file.File.{File}
 use Rattle.gltf_c.specs.declared.primitives.GltfPrimitive.{GltfPrimitive}
-use Rattle.gltf_c.specs.declared.status.Status.{Status}
-use Rattle.gltf_c.specs.declared.status.Status.TheVariants.{Success, NoSuchIndex}
 
--- the primitives of a mesh, and one of them
-abbrev pub primitives_at : Root → ℕ → Option (List Primitive)
-primitives_at r mesh = option_map (λ m. m.primitives.items) (slice_get r.meshes.items mesh)
+-- the primitives of a mesh, how many there are, and one of them
+abbrev pub primitives_of : ℕ → File → Option (List Primitive)
+primitives_of mesh file =
+    option_map (λ m. m.primitives.items) (slice_get file.document.meshes.items mesh)
 
-abbrev pub primitive_at : Root → ℕ → ℕ → Option Primitive
-primitive_at r mesh index =
-    option_and_then (λ all. slice_get all index) (primitives_at r mesh)
+abbrev pub primitive_count_of : ℕ → File → Option ℕ
+primitive_count_of mesh file = option_map length (primitives_of mesh file)
 
--- how many primitives a mesh has
-abbrev pub primitive_count : Root → ℕ → Option ℕ
-primitive_count r mesh = option_map length (primitives_at r mesh)
+abbrev pub primitive_of : ℕ → ℕ → File → Option Primitive
+primitive_of mesh index file =
+    option_and_then (λ all. slice_get all index) (primitives_of mesh file)
 
 -- the number of a mode (glTF 2.0, section 5.24.4)
 abbrev pub mode_number : Mode → ℕ
@@ -53,6 +51,9 @@ primitive_shown p = record {
   material = unwrap_or p.material 0;
 }
 
+abbrev pub shown_primitive_of : ℕ → ℕ → File → Option GltfPrimitive
+shown_primitive_of mesh index file = option_map primitive_shown (primitive_of mesh index file)
+
 -- the attribute of each number from 0 on, with the number of its set
 abbrev pub semantics : ℕ → List Semantic
 semantics set = Positions ∷ Normals ∷ Tangents ∷ Colors set ∷ TexCoords set ∷ Joints set
@@ -65,13 +66,8 @@ semantic_of meaning set = slice_get (semantics set) meaning
 abbrev pub attribute_of : Primitive → Semantic → Option ℕ
 attribute_of p s = get_by (semantic_cmp s) p.attributes
 
-abbrev pub attribute_at : Root → ℕ → ℕ → ℕ → ℕ → Option ℕ
-attribute_at r mesh index meaning set =
+abbrev pub attribute_accessor_of : ℕ → ℕ → ℕ → ℕ → File → Option ℕ
+attribute_accessor_of mesh index meaning set file =
     option_and_then
-    (λ s. option_and_then (λ p. attribute_of p s) (primitive_at r mesh index))
+    (λ s. option_and_then (λ p. attribute_of p s) (primitive_of mesh index file))
     (semantic_of meaning set)
-
--- what is there is written, else nothing is
-abbrev pub IsGiven : {X : Type 0} → Option X → Status → X → X → Type 0
-IsGiven None status old new = (status ≡ NoSuchIndex) × (new ≡ old)
-IsGiven (Some x) status old new = (status ≡ Success) × (new ≡ x)

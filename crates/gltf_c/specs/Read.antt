@@ -1,6 +1,6 @@
 -- The bytes that C reads.
 use Rattle.std.specs.Prelude.{◌≡◌, ℕ, ◌+◌, ◌*◌, ◌++◌, List, Option, Some, None, length, take, drop}
-use Rattle.std.specs.Prelude.{replicate, slice_get, nat_le, MatchBool}
+use Rattle.std.specs.Prelude.{replicate, slice_get, nat_le, option_map, MatchBool}
 use Rattle.std.specs.List.{concat}
 use Rattle.gltf_json_geometry.specs.declared.accessor.Accessor.{Accessor}
 use Rattle.gltf_items.specs.declared.item.Item.{Ghosts}
@@ -38,10 +38,12 @@ abbrev pub IsRead : File → ℕ → Option Accessor → Status → List ℕ →
 IsRead file index None status old new = (status ≡ NoSuchIndex) × (new ≡ old)
 IsRead file index (Some a) status old new = IsReadAs file index (item_size a) status old new
 
--- the length of a buffer, where it is there
-abbrev pub IsSized : Option (List ℕ) → Status → ℕ → ℕ → Type 0
-IsSized None status old new = (status ≡ NoSuchIndex) × (new ≡ old)
-IsSized (Some bytes) status old new = (status ≡ Success) × (new ≡ length bytes)
+-- the bytes of a buffer, and how many there are
+abbrev pub buffer_of : ℕ → File → Option (List ℕ)
+buffer_of index file = slice_get (bytes_of_each file.buffers.items) index
+
+abbrev pub buffer_size_of : ℕ → File → Option ℕ
+buffer_size_of index file = option_map length (buffer_of index file)
 
 -- the room is filled with the bytes of a buffer from an offset on, where it has so many; else it is
 -- as it was

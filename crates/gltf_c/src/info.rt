@@ -1,12 +1,11 @@
 //! What a file has.
 
-ghost use Rattle.std.specs.Prelude.{◌≡◌, Some};
-ghost use Rattle.gltf_data.specs.Documents.{accessor_at};
+ghost use Rattle.std.specs.Prelude.{◌≡◌};
 ghost use Rattle.gltf_handles.specs.Accessors.{accessor_handle};
-ghost use Rattle.gltf_c.specs.Info.{kind_of, counted, description, IsDescribed, component_number};
+ghost use Rattle.gltf_c.specs.Info.{kind_of, counted, description, accessor_of};
+ghost use Rattle.gltf_c.specs.Info.{component_number};
 
 use crate::file::File;
-use crate::status::Status;
 use gltf::accessor::{Accessor, DataType};
 
 /// A kind of records.
@@ -92,14 +91,14 @@ pub(crate) fn count(file: &File, kind: Kind) -> usize
 }
 
 /// What the accessor at an index is.
-pub(crate) fn describe(file: &File, index: usize, out: &mut GltfAccessor) -> Status
-    ensures { IsDescribed (accessor_at file.now.document index) result out.old out.new }
+pub(crate) fn accessor(file: &File, index: usize) -> Option<GltfAccessor>
+    ensures { result ≡ accessor_of index file.now }
 {
     if index < file.document.as_json().accessors.len() {
-        *out = description(Accessor::new(file.document.as_valid(), index));
-        Status::Success
+        let accessor = Accessor::new(file.document.as_valid(), index);
+        Some(description(accessor))
     } else {
-        Status::NoSuchIndex
+        None
     }
 }
 

@@ -5,27 +5,53 @@
 #![tactic(auto)]
 
 ghost use Rattle.std.specs.Prelude.{◌≡◌, None};
-ghost use Rattle.gltf_c.specs.Calls.{IsOpened, HasCount, Describes, ReadsItems, SizesBuffer};
-ghost use Rattle.gltf_c.specs.Calls.{CopiesBuffer, CountsPrimitives, DescribesPrimitive};
-ghost use Rattle.gltf_c.specs.Calls.{FindsAttribute};
+ghost use Rattle.gltf_c.specs.Calls.{IsOpened, HasCount, Gives, GivesText, ReadsItems};
+ghost use Rattle.gltf_c.specs.Calls.{CopiesBuffer};
+ghost use Rattle.gltf_c.specs.Images.{shown_image_of, uri_of, mime_type_of};
+ghost use Rattle.gltf_c.specs.Info.{accessor_of};
+ghost use Rattle.gltf_c.specs.Names.{name_of};
+ghost use Rattle.gltf_c.specs.Nodes.{shown_node_of, child_of, scene_node_of, number_of};
+ghost use Rattle.gltf_c.specs.Primitives.{primitive_count_of, shown_primitive_of};
+ghost use Rattle.gltf_c.specs.Primitives.{attribute_accessor_of};
+ghost use Rattle.gltf_c.specs.Read.{buffer_size_of};
 
 mod bare;
 mod bytes;
 pub mod file;
+mod given;
 pub mod handle;
+pub mod images;
 pub mod info;
 mod message;
+mod names;
+pub mod nodes;
 mod open;
 pub mod primitives;
 mod read;
 pub mod status;
 
+use crate::given::{give, give_text};
 use crate::handle::GltfFile;
+use crate::images::GltfImage;
 use crate::info::{GltfAccessor, Kind};
+use crate::nodes::GltfNode;
 use crate::open::open;
 use crate::primitives::GltfPrimitive;
 use crate::status::Status;
 use std::alloc::Global;
+
+/// The number of what a call makes of an open file, which is open again behind it; of a closed one
+/// that it is closed.
+macro_rules! answer {
+    ($alloc:ident, $handle:ident, $file:ident => $status:expr) => {{
+        let Some($file) = handle::take($alloc, $handle) else {
+            return Status::Closed.code();
+        };
+        let status = $status;
+        handle::put($alloc, $handle, $file);
+        status.code()
+    }};
+}
 
 /// Opens a file from its bytes: a GLB container where they begin with `glTF`, else JSON text (glTF
 /// 2.0, sections 2.8, 3.6.1 and 4.4). A copy is made of what is needed. What `file` held is let go.
@@ -90,14 +116,9 @@ pub extern "C" fn gltf_accessor_info(
     out: &mut GltfAccessor,
 ) -> u32
     ensures same { file.new.value ≡ file.old.value }
-    ensures described { Describes file.old.value index result out.old out.new }
+    ensures described { Gives (accessor_of index) file.old.value result out.old out.new }
 {
-    let Some(held) = handle::take(alloc, file) else {
-        return Status::Closed.code();
-    };
-    let status = info::describe(&held, index, out);
-    handle::put(alloc, file, held);
-    status.code()
+    answer!(alloc, file, held => give(info::accessor(&held, index), out))
 }
 
 /// The items of the accessor at an index, one behind the other, with the sparse overrides.
@@ -111,12 +132,7 @@ pub extern "C" fn gltf_accessor_read(
     ensures same { file.new.value ≡ file.old.value }
     ensures read { ReadsItems file.old.value index result out.old out.new }
 {
-    let Some(held) = handle::take(alloc, file) else {
-        return Status::Closed.code();
-    };
-    let status = read::read(&held, index, out);
-    handle::put(alloc, file, held);
-    status.code()
+    answer!(alloc, file, held => read::read(&held, index, out))
 }
 
 /// How many bytes the buffer at an index has, with the zeros behind them.
@@ -128,14 +144,9 @@ pub extern "C" fn gltf_buffer_size(
     out: &mut usize,
 ) -> u32
     ensures same { file.new.value ≡ file.old.value }
-    ensures size { SizesBuffer file.old.value index result out.old out.new }
+    ensures size { Gives (buffer_size_of index) file.old.value result out.old out.new }
 {
-    let Some(held) = handle::take(alloc, file) else {
-        return Status::Closed.code();
-    };
-    let status = read::size(&held, index, out);
-    handle::put(alloc, file, held);
-    status.code()
+    answer!(alloc, file, held => give(read::size(&held, index), out))
 }
 
 /// As many bytes of the buffer at an index as there is room for, from an offset on.
@@ -150,12 +161,7 @@ pub extern "C" fn gltf_buffer_read(
     ensures same { file.new.value ≡ file.old.value }
     ensures copied { CopiesBuffer file.old.value index offset result out.old out.new }
 {
-    let Some(held) = handle::take(alloc, file) else {
-        return Status::Closed.code();
-    };
-    let status = read::copy(&held, index, offset, out);
-    handle::put(alloc, file, held);
-    status.code()
+    answer!(alloc, file, held => read::copy(&held, index, offset, out))
 }
 
 /// How many primitives the mesh at an index has.
@@ -167,14 +173,9 @@ pub extern "C" fn gltf_primitive_count(
     out: &mut usize,
 ) -> u32
     ensures same { file.new.value ≡ file.old.value }
-    ensures count { CountsPrimitives file.old.value mesh result out.old out.new }
+    ensures count { Gives (primitive_count_of mesh) file.old.value result out.old out.new }
 {
-    let Some(held) = handle::take(alloc, file) else {
-        return Status::Closed.code();
-    };
-    let status = primitives::count(&held, mesh, out);
-    handle::put(alloc, file, held);
-    status.code()
+    answer!(alloc, file, held => give(primitives::count(&held, mesh), out))
 }
 
 /// What a primitive of a mesh is (glTF 2.0, section 5.24).
@@ -187,14 +188,10 @@ pub extern "C" fn gltf_primitive_info(
     out: &mut GltfPrimitive,
 ) -> u32
     ensures same { file.new.value ≡ file.old.value }
-    ensures described { DescribesPrimitive file.old.value mesh primitive result out.old out.new }
+    ensures described { Gives (shown_primitive_of mesh primitive)
+        file.old.value result out.old out.new }
 {
-    let Some(held) = handle::take(alloc, file) else {
-        return Status::Closed.code();
-    };
-    let status = primitives::describe(&held, mesh, primitive, out);
-    handle::put(alloc, file, held);
-    status.code()
+    answer!(alloc, file, held => give(primitives::shown(&held, mesh, primitive), out))
 }
 
 /// The accessor of an attribute of a primitive (glTF 2.0, section 3.7.2.1).
@@ -209,13 +206,135 @@ pub extern "C" fn gltf_attribute(
     out: &mut usize,
 ) -> u32
     ensures same { file.new.value ≡ file.old.value }
-    ensures found { FindsAttribute file.old.value mesh primitive meaning set result
-        out.old out.new }
+    ensures found { Gives (attribute_accessor_of mesh primitive meaning set)
+        file.old.value result out.old out.new }
 {
-    let Some(held) = handle::take(alloc, file) else {
-        return Status::Closed.code();
-    };
-    let status = primitives::attribute(&held, mesh, primitive, meaning, set, out);
-    handle::put(alloc, file, held);
-    status.code()
+    answer!(alloc, file, held => {
+        give(primitives::attribute(&held, mesh, primitive, meaning, set), out)
+    })
+}
+
+/// What the node at an index is (glTF 2.0, section 5.25).
+#[unsafe(no_mangle)]
+pub extern "C" fn gltf_node_info(
+    alloc: Global,
+    file: &mut GltfFile,
+    index: usize,
+    out: &mut GltfNode,
+) -> u32
+    ensures same { file.new.value ≡ file.old.value }
+    ensures described { Gives (shown_node_of index) file.old.value result out.old out.new }
+{
+    answer!(alloc, file, held => give(nodes::shown(&held, index), out))
+}
+
+/// The child of a node at a position among its children.
+#[unsafe(no_mangle)]
+pub extern "C" fn gltf_node_child(
+    alloc: Global,
+    file: &mut GltfFile,
+    node: usize,
+    position: usize,
+    out: &mut usize,
+) -> u32
+    ensures same { file.new.value ≡ file.old.value }
+    ensures found { Gives (child_of node position) file.old.value result out.old out.new }
+{
+    answer!(alloc, file, held => give(nodes::child(&held, node, position), out))
+}
+
+/// The number at a position of a member of a node: its matrix, translation, rotation, scale or
+/// weights (glTF 2.0, section 3.5.3).
+#[unsafe(no_mangle)]
+pub extern "C" fn gltf_node_number(
+    alloc: Global,
+    file: &mut GltfFile,
+    node: usize,
+    member: u32,
+    position: usize,
+    out: &mut f64,
+) -> u32
+    ensures same { file.new.value ≡ file.old.value }
+    ensures found { Gives (number_of node member position)
+        file.old.value result out.old out.new }
+{
+    answer!(alloc, file, held => give(nodes::number(&held, node, member, position), out))
+}
+
+/// The node of a scene at a position among its root nodes (glTF 2.0, section 5.27).
+#[unsafe(no_mangle)]
+pub extern "C" fn gltf_scene_node(
+    alloc: Global,
+    file: &mut GltfFile,
+    scene: usize,
+    position: usize,
+    out: &mut usize,
+) -> u32
+    ensures same { file.new.value ≡ file.old.value }
+    ensures found { Gives (scene_node_of scene position) file.old.value result out.old out.new }
+{
+    answer!(alloc, file, held => give(nodes::scene_node(&held, scene, position), out))
+}
+
+/// Where the bytes of the image at an index are (glTF 2.0, section 3.8.3).
+#[unsafe(no_mangle)]
+pub extern "C" fn gltf_image_info(
+    alloc: Global,
+    file: &mut GltfFile,
+    index: usize,
+    out: &mut GltfImage,
+) -> u32
+    ensures same { file.new.value ≡ file.old.value }
+    ensures described { Gives (shown_image_of index) file.old.value result out.old out.new }
+{
+    answer!(alloc, file, held => give(images::shown(&held, index), out))
+}
+
+/// The URI of the image at an index, where it has one.
+#[unsafe(no_mangle)]
+pub extern "C" fn gltf_image_uri(
+    alloc: Global,
+    file: &mut GltfFile,
+    index: usize,
+    text: &mut [u8],
+    length: &mut usize,
+) -> u32
+    ensures same { file.new.value ≡ file.old.value }
+    ensures text { GivesText (uri_of index) file.old.value result text.old text.new
+        length.old length.new }
+{
+    answer!(alloc, file, held => give_text(images::uri(&held, index), text, length))
+}
+
+/// The media type of the image at an index, where it has one.
+#[unsafe(no_mangle)]
+pub extern "C" fn gltf_image_mime_type(
+    alloc: Global,
+    file: &mut GltfFile,
+    index: usize,
+    text: &mut [u8],
+    length: &mut usize,
+) -> u32
+    ensures same { file.new.value ≡ file.old.value }
+    ensures text { GivesText (mime_type_of index) file.old.value result text.old text.new
+        length.old length.new }
+{
+    answer!(alloc, file, held => give_text(images::mime_type(&held, index), text, length))
+}
+
+/// The name of the record of a kind at an index, where it has one.
+#[unsafe(no_mangle)]
+pub extern "C" fn gltf_name(
+    alloc: Global,
+    file: &mut GltfFile,
+    kind: u32,
+    index: usize,
+    text: &mut [u8],
+    length: &mut usize,
+) -> u32
+    ensures same { file.new.value ≡ file.old.value }
+    ensures text { GivesText (name_of kind index) file.old.value result text.old text.new
+        length.old length.new }
+{
+    answer!(alloc, file, held => give_text(names::name(&held, kind, index), text, length))
 }

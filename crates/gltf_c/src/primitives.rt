@@ -1,14 +1,13 @@
 //! The primitives of meshes (glTF 2.0, section 3.7.2).
 
-ghost use Rattle.std.specs.Prelude.{◌≡◌, option_map};
+ghost use Rattle.std.specs.Prelude.{◌≡◌};
 ghost use Rattle.std.specs.Option.{option_copied};
 ghost use Rattle.gltf_handles.specs.Sizes.{code_of};
-ghost use Rattle.gltf_c.specs.Primitives.{primitive_at, primitive_count, primitive_shown};
-ghost use Rattle.gltf_c.specs.Primitives.{mode_number, semantic_of, attribute_of, attribute_at};
-ghost use Rattle.gltf_c.specs.Primitives.{IsGiven};
+ghost use Rattle.gltf_c.specs.Primitives.{primitive_of, primitive_count_of, primitive_shown};
+ghost use Rattle.gltf_c.specs.Primitives.{shown_primitive_of, mode_number, semantic_of};
+ghost use Rattle.gltf_c.specs.Primitives.{attribute_of, attribute_accessor_of};
 
 use crate::file::File;
-use crate::status::Status;
 use gltf_json::mesh::{Mode, Primitive, Semantic};
 use gltf_json_geometry::laws::order_is_the_stated_one;
 use gltf_json_record::validation::Checked;
@@ -30,30 +29,17 @@ pub struct GltfPrimitive {
 }
 
 /// How many primitives a mesh has.
-pub(crate) fn count(file: &File, mesh: usize, out: &mut usize) -> Status
-    ensures { IsGiven (primitive_count file.now.document mesh) result out.old out.new }
+pub(crate) fn count(file: &File, mesh: usize) -> Option<usize>
+    ensures { result ≡ primitive_count_of mesh file.now }
 {
-    match file.document.as_json().meshes.get(mesh) {
-        Some(mesh) => {
-            *out = mesh.primitives.len();
-            Status::Success
-        }
-        None => Status::NoSuchIndex,
-    }
+    Some(file.document.as_json().meshes.get(mesh)?.primitives.len())
 }
 
 /// What a primitive of a mesh is.
-pub(crate) fn describe(file: &File, mesh: usize, index: usize, out: &mut GltfPrimitive) -> Status
-    ensures { IsGiven (option_map primitive_shown (primitive_at file.now.document mesh index))
-        result out.old out.new }
+pub(crate) fn shown(file: &File, mesh: usize, index: usize) -> Option<GltfPrimitive>
+    ensures { result ≡ shown_primitive_of mesh index file.now }
 {
-    match primitive(file, mesh, index) {
-        Some(primitive) => {
-            *out = shown(primitive);
-            Status::Success
-        }
-        None => Status::NoSuchIndex,
-    }
+    Some(shown_primitive(primitive(file, mesh, index)?))
 }
 
 /// The accessor of an attribute of a primitive.
@@ -63,22 +49,15 @@ pub(crate) fn attribute(
     index: usize,
     meaning: u32,
     set: u32,
-    out: &mut usize,
-) -> Status
-    ensures { IsGiven (attribute_at file.now.document mesh index meaning set)
-        result out.old out.new }
+) -> Option<usize>
+    ensures { result ≡ attribute_accessor_of mesh index meaning set file.now }
 {
-    match found(file, mesh, index, meaning, set) {
-        Some(accessor) => {
-            *out = accessor;
-            Status::Success
-        }
-        None => Status::NoSuchIndex,
-    }
+    let semantic = semantic(meaning, set)?;
+    accessor(primitive(file, mesh, index)?, &semantic)
 }
 
 fn primitive(file: &File, mesh: usize, index: usize) -> Option<&Primitive>
-    ensures { option_copied result ≡ primitive_at file.now.document mesh index }
+    ensures { option_copied result ≡ primitive_of mesh index file.now }
 {
     file.document
         .as_json()
@@ -88,7 +67,7 @@ fn primitive(file: &File, mesh: usize, index: usize) -> Option<&Primitive>
         .get(index)
 }
 
-fn shown(primitive: &Primitive) -> GltfPrimitive
+fn shown_primitive(primitive: &Primitive) -> GltfPrimitive
     ensures { result ≡ primitive_shown primitive.now }
 {
     GltfPrimitive {
@@ -119,13 +98,6 @@ fn number_of(mode: Checked<Mode>) -> u32
         Checked::Valid(Mode::TriangleStrip) => 5,
         Checked::Valid(Mode::TriangleFan) => 6,
     }
-}
-
-fn found(file: &File, mesh: usize, index: usize, meaning: u32, set: u32) -> Option<usize>
-    ensures { result ≡ attribute_at file.now.document mesh index meaning set }
-{
-    let semantic = semantic(meaning, set)?;
-    accessor(primitive(file, mesh, index)?, &semantic)
 }
 
 /// The attribute of a number and of a set, where there is one.

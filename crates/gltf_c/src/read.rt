@@ -1,11 +1,10 @@
 //! The bytes of accessors and of buffers, written for C.
 
-ghost use Rattle.std.specs.Prelude.{◌≡◌, ◌≤◌, ◌*◌, nat_le, slice_get};
+ghost use Rattle.std.specs.Prelude.{◌≡◌, ◌≤◌, ◌*◌, nat_le};
 ghost use Rattle.gltf_data.specs.Documents.{accessor_at, ReadsAt};
 ghost use Rattle.gltf_handles.specs.Accessors.{accessor_handle};
 ghost use Rattle.gltf_handles.specs.Sizes.{component_size, item_size, multiplicity};
-ghost use Rattle.gltf.specs.Shown.{bytes_of_each};
-ghost use Rattle.gltf_c.specs.Read.{IsRead, IsReadAs, IsSized, IsCopied};
+ghost use Rattle.gltf_c.specs.Read.{IsRead, IsReadAs, IsCopied, buffer_of, buffer_size_of};
 
 use crate::bytes::{Bytes, write_items};
 use crate::file::File;
@@ -130,23 +129,15 @@ fn fits(count: usize, size: usize, room: usize) -> bool
 }
 
 /// How many bytes the buffer at an index has.
-pub(crate) fn size(file: &File, index: usize, out: &mut usize) -> Status
-    ensures { IsSized (slice_get (bytes_of_each file.now.buffers.items) index)
-        result out.old out.new }
+pub(crate) fn size(file: &File, index: usize) -> Option<usize>
+    ensures { result ≡ buffer_size_of index file.now }
 {
-    match file.buffers.get(index) {
-        Some(bytes) => {
-            *out = bytes.len();
-            Status::Success
-        }
-        None => Status::NoSuchIndex,
-    }
+    Some(file.buffers.get(index)?.len())
 }
 
 /// As many bytes of a buffer as there is room for, from an offset on.
 pub(crate) fn copy(file: &File, index: usize, offset: usize, out: &mut [u8]) -> Status
-    ensures { IsCopied offset (slice_get (bytes_of_each file.now.buffers.items) index)
-        result out.old out.new }
+    ensures { IsCopied offset (buffer_of index file.now) result out.old out.new }
 {
     let Some(data) = file.buffers.get(index) else {
         return Status::NoSuchIndex;
