@@ -65,8 +65,11 @@ def tell_accessor(document, buffers, index, accessor):
     normalized = ", normalized" if accessor.get("normalized") else ""
     sparse = ", sparse" if "sparse" in accessor else ""
     form = "%.9g" if letter == "f" else "%d"
-    items = numbers(document, buffers, accessor)
-    told = "".join(" " + form % number for item in items for number in item)
+    if "bufferView" in accessor or "sparse" in accessor:
+        items = numbers(document, buffers, accessor)
+        told = "".join(" " + form % number for item in items for number in item)
+    else:
+        told = " status 13"
     print(
         f"accessor {index}: {accessor['count']} of {size} bytes, {each} of type "
         f"{accessor['componentType']}{normalized}{sparse}:{told}"

@@ -199,8 +199,9 @@ gltf_status gltf_accessor_info(gltf_file *file, size_t index, gltf_accessor *out
  * section 3.6.2). What stands behind them in `out` stays.
  *
  * GLTF_CLOSED where the file is closed, else GLTF_NO_SUCH_INDEX where there is no such accessor,
- * else GLTF_UNREADABLE where its views do not hold its items, else GLTF_NO_ROOM where these are
- * more than `out_size` bytes, else GLTF_SUCCESS; each exactly there. */
+ * else GLTF_UNREADABLE where its views do not hold its items, or it has neither a view nor sparse
+ * values, else GLTF_NO_ROOM where these are more than `out_size` bytes, else GLTF_SUCCESS; each
+ * exactly there. */
 gltf_status gltf_accessor_read(gltf_file *file, size_t index, void *out, size_t out_size);
 
 /* How many bytes buffer `index` has: a multiple of 4, at least as many as it declares, filled up
