@@ -1,5 +1,5 @@
 //! Buffers, views and accessors (glTF 2.0, section 3.6).
-use crate::shown::{Shown, Written, write_next, write_rest};
+use crate::shown::{Numbered, Shown, Written, write_next, write_rest};
 use gltf_handles::accessor::Accessor;
 use gltf_handles::accessor::sparse::Sparse;
 use gltf_handles::buffer::{Buffer, View};
@@ -94,4 +94,10 @@ fn write_sparse(sparse: Sparse<'_>, line: &mut String) -> Written {
     )?;
     write!(line, ", extras {:?}", indices.extras())?;
     write!(line, " {:?} {:?}", values.extras(), sparse.extras())
+}
+
+impl Numbered for Accessor<'_> {
+    fn number(&self) -> usize {
+        self.index()
+    }
 }

@@ -2,7 +2,7 @@
 ghost use Rattle.gltf_read.specs.Channels.{closure_of as asked_of_channel};
 ghost use Rattle.gltf_read.specs.Primitives.{closure_of as asked_of_primitive};
 
-use crate::reads::{write_item, write_named};
+use crate::reads::{write_items, write_named};
 use crate::shown::{Shown, Written};
 use gltf_casting::Casting;
 use gltf_casting::animation::util::{MorphTargetWeights, ReadOutputs, Rotations};
@@ -153,26 +153,14 @@ impl Casts for ReadOutputs<'_> {
 
 /// Writes what a call casts, or what it gives back.
 fn write_cast<E: Castable<A> + Shown, A>(
-    mut cast: Result<Casting<E, A>, E>,
+    cast: Result<Casting<E, A>, E>,
     line: &mut String,
 ) -> Written
 where
     E::Output: Debug + Drop,
 {
-    match &mut cast {
+    match cast {
         Ok(items) => write_items(items, line),
-        Err(read) => write_named("back", read, line),
+        Err(read) => write_named("back", &read, line),
     }
-}
-
-/// Writes the items that are left, each cast.
-fn write_items<E: Castable<A>, A>(items: &mut Casting<E, A>, line: &mut String) -> Written
-where
-    E::Output: Debug + Drop,
-{
-    line.push_str("[")?;
-    for place in 0..items.len() {
-        write_item(place, items.next(), line)?;
-    }
-    line.push_str("]")
 }

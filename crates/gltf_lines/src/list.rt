@@ -7,13 +7,7 @@ pub fn write_list<S: Indexed>(mut list: List<S>, words: &str, line: &mut String)
 where
     S::Item: Shown,
 {
-    for word in words.split_whitespace() {
-        if !line.is_empty() {
-            line.push_str("; ")?;
-        }
-        write_step(&mut list, word, line)?;
-    }
-    Ok(())
+    write_steps(&mut list, words, line)
 }
 
 /// The same of a list that may be absent.
@@ -31,21 +25,79 @@ where
     }
 }
 
-/// Writes what a step over a list gives.
-fn write_step<S: Indexed>(list: &mut List<S>, word: &str, line: &mut String) -> Written
+/// What is walked by steps, each of which writes what it gives.
+pub(crate) trait Walked {
+    /// The next item.
+    fn write_next(&mut self, line: &mut String) -> Written;
+
+    /// The item behind so many others.
+    fn write_nth(&mut self, places: usize, line: &mut String) -> Written;
+
+    /// The last item, of a copy.
+    fn write_last(&self, line: &mut String) -> Written;
+
+    /// How many items are left, by the length.
+    fn write_len(&self, line: &mut String) -> Written;
+
+    /// How many are left, by the size hint.
+    fn write_hint(&self, line: &mut String) -> Written;
+
+    /// How many are left, by a count of a copy.
+    fn write_count(&self, line: &mut String) -> Written;
+}
+
+/// Writes what the steps give that words name, as `write_list` says.
+pub(crate) fn write_steps<W: Walked>(walked: &mut W, words: &str, line: &mut String) -> Written {
+    for word in words.split_whitespace() {
+        if !line.is_empty() {
+            line.push_str("; ")?;
+        }
+        write_step(walked, word, line)?;
+    }
+    Ok(())
+}
+
+/// Writes what a step gives.
+fn write_step<W: Walked>(walked: &mut W, word: &str, line: &mut String) -> Written {
+    match word {
+        "next" => walked.write_next(line),
+        "len" => walked.write_len(line),
+        "hint" => walked.write_hint(line),
+        "last" => walked.write_last(line),
+        "count" => walked.write_count(line),
+        _ => {
+            let places = word.strip_prefix("nth:").unwrap_or("");
+            walked.write_nth(places.parse::<usize>().unwrap_or(0), line)
+        }
+    }
+}
+
+impl<S: Indexed> Walked for List<S>
 where
     S::Item: Shown,
 {
-    match word {
-        "next" => write_item(list.next(), line),
-        "len" => write!(line, "{}", list.len()),
-        "hint" => write!(line, "{:?}", list.size_hint()),
-        "last" => write_item(list.clone()?.last(), line),
-        "count" => write!(line, "{}", list.clone()?.count()),
-        _ => {
-            let places = word.strip_prefix("nth:").unwrap_or("");
-            write_item(list.nth(places.parse::<usize>().unwrap_or(0)), line)
-        }
+    fn write_next(&mut self, line: &mut String) -> Written {
+        write_item(self.next(), line)
+    }
+
+    fn write_nth(&mut self, places: usize, line: &mut String) -> Written {
+        write_item(self.nth(places), line)
+    }
+
+    fn write_last(&self, line: &mut String) -> Written {
+        write_item(self.clone()?.last(), line)
+    }
+
+    fn write_len(&self, line: &mut String) -> Written {
+        write!(line, "{}", self.len())
+    }
+
+    fn write_hint(&self, line: &mut String) -> Written {
+        write!(line, "{:?}", self.size_hint())
+    }
+
+    fn write_count(&self, line: &mut String) -> Written {
+        write!(line, "{}", self.clone()?.count())
     }
 }
 

@@ -1,6 +1,6 @@
 //! Images, textures, samplers, cameras, lights and variants (glTF 2.0, sections 3.8 and 3.10, and
 //! two extensions).
-use crate::shown::{Shown, Written, write_next, write_part, write_rest};
+use crate::shown::{Numbered, Shown, Written, write_next, write_part, write_rest};
 use gltf_look::camera::{Camera, Orthographic, Perspective, Projection};
 use gltf_look::image::{Image, Source};
 use gltf_look::khr_lights_punctual::Light;
@@ -95,5 +95,17 @@ impl Shown for Light<'_> {
 impl Shown for Variant<'_> {
     fn show(&self, line: &mut String) -> Written {
         write!(line, "name {:?}", self.name())
+    }
+}
+
+impl Numbered for Camera<'_> {
+    fn number(&self) -> usize {
+        self.index()
+    }
+}
+
+impl Numbered for Light<'_> {
+    fn number(&self) -> usize {
+        self.index()
     }
 }

@@ -1,7 +1,7 @@
 //! Meshes, their primitives, attributes, morph targets and mappings (glTF 2.0, section 3.7, and an
 //! extension).
-use crate::shown::{Shown, Written, write_next, write_parts, write_rest};
-use gltf_handles::accessor::Accessor;
+use crate::list::{Walked, write_steps};
+use crate::shown::{Numbered, Shown, Written, write_next, write_number, write_parts, write_rest};
 use gltf_material::khr_materials_variants::Mapping;
 use gltf_scene::mesh::iter::Attributes;
 use gltf_scene::mesh::{Attribute, BoundingBox, Mesh, MorphTarget, Primitive, Semantic};
@@ -21,8 +21,8 @@ impl Shown for Primitive<'_> {
     fn show(&self, line: &mut String) -> Written {
         write!(line, "index {}", self.index())?;
         write_attributes(self.attributes(), line)?;
-        write_accessor("positions", self.get(&Semantic::Positions), line)?;
-        write_accessor("indices", self.indices(), line)?;
+        write_number("positions", self.get(&Semantic::Positions), line)?;
+        write_number("indices", self.indices(), line)?;
         write_next("material", self.material().index(), line)?;
         write_next("mode", self.mode(), line)?;
         write_parts("morph_targets", self.morph_targets(), line)?;
@@ -35,9 +35,9 @@ impl Shown for Primitive<'_> {
 impl Shown for MorphTarget<'_> {
     fn show(&self, line: &mut String) -> Written {
         line.push_str("target")?;
-        write_accessor("positions", self.positions(), line)?;
-        write_accessor("normals", self.normals(), line)?;
-        write_accessor("tangents", self.tangents(), line)
+        write_number("positions", self.positions(), line)?;
+        write_number("normals", self.normals(), line)?;
+        write_number("tangents", self.tangents(), line)
     }
 }
 
@@ -48,13 +48,10 @@ impl Shown for Mapping<'_> {
     }
 }
 
-/// Writes the name of a getter that is not the first, and the index of the accessor that it gives.
-pub(crate) fn write_accessor(
-    name: &str,
-    accessor: Option<Accessor<'_>>,
-    line: &mut String,
-) -> Written {
-    write_next(name, accessor.map(|it| it.index()), line)
+impl Numbered for Mesh<'_> {
+    fn number(&self) -> usize {
+        self.index()
+    }
 }
 
 /// Writes all attributes.
@@ -91,27 +88,31 @@ pub fn write_attribute_steps(
     words: &str,
     line: &mut String,
 ) -> Written {
-    for word in words.split_whitespace() {
-        if !line.is_empty() {
-            line.push_str("; ")?;
-        }
-        write_step(&mut attributes, word, line)?;
-    }
-    Ok(())
+    write_steps(&mut attributes, words, line)
 }
 
-/// Writes what a step over attributes gives.
-fn write_step(attributes: &mut Attributes<'_>, word: &str, line: &mut String) -> Written {
-    match word {
-        "next" => write_attribute(attributes.next(), line),
-        "len" => write!(line, "{}", attributes.len()),
-        "hint" => write!(line, "{:?}", attributes.size_hint()),
-        "last" => write_attribute(attributes.clone()?.last(), line),
-        "count" => write!(line, "{}", attributes.clone()?.count()),
-        _ => {
-            let places = word.strip_prefix("nth:").unwrap_or("");
-            let given = attributes.nth(places.parse::<usize>().unwrap_or(0));
-            write_attribute(given, line)
-        }
+impl Walked for Attributes<'_> {
+    fn write_next(&mut self, line: &mut String) -> Written {
+        write_attribute(self.next(), line)
+    }
+
+    fn write_nth(&mut self, places: usize, line: &mut String) -> Written {
+        write_attribute(self.nth(places), line)
+    }
+
+    fn write_last(&self, line: &mut String) -> Written {
+        write_attribute(self.clone()?.last(), line)
+    }
+
+    fn write_len(&self, line: &mut String) -> Written {
+        write!(line, "{}", self.len())
+    }
+
+    fn write_hint(&self, line: &mut String) -> Written {
+        write!(line, "{:?}", self.size_hint())
+    }
+
+    fn write_count(&self, line: &mut String) -> Written {
+        write!(line, "{}", self.clone()?.count())
     }
 }

@@ -1,4 +1,5 @@
 //! What readers of primitives, skins and channels give (glTF 2.0, sections 3.7, 3.11).
+ghost use Rattle.std.specs.Iterator.{IsFinite};
 ghost use Rattle.gltf_read.specs.Channels.{closure_of as asked_of_channel};
 ghost use Rattle.gltf_read.specs.MorphTargets.{closure_of as asked_of_targets};
 ghost use Rattle.gltf_read.specs.Primitives.{closure_of as asked_of_primitive};
@@ -78,32 +79,32 @@ fn write_read<T: Shown + Drop>(name: &str, read: T, line: &mut String) -> Writte
 impl<T: Item + Debug> Shown for Iter<'_, T> {
     /// All items.
     fn show(&self, line: &mut String) -> Written {
-        write_items(&mut self.clone()?, line)
+        write_items(self.clone()?, line)
     }
 }
 
 /// Writes the items that are left.
-fn write_items<T: Item + Debug>(items: &mut Iter<'_, T>, line: &mut String) -> Written {
+pub(crate) fn write_items<I: Iterator + Drop>(items: I, line: &mut String) -> Written
+where
+    I::Item: Debug + Drop,
+    requires can { I.can_next items }
+    requires ends { IsFinite (I.remaining items) }
+{
     line.push_str("[")?;
-    for place in 0..items.len() {
-        write_item(place, items.next(), line)?;
+    let mut is_first = true;
+    for item in items {
+        write_item(is_first, item, line)?;
+        is_first = false;
     }
     line.push_str("]")
 }
 
-/// Writes an item at a place of a list.
-pub(crate) fn write_item<T: Debug + Drop>(
-    place: usize,
-    item: Option<T>,
-    line: &mut String,
-) -> Written {
-    if place > 0 {
+/// Writes an item of a list.
+fn write_item<T: Debug + Drop>(is_first: bool, item: T, line: &mut String) -> Written {
+    if !is_first {
         line.push_str(", ")?;
     }
-    match &item {
-        Some(item) => write!(line, "{item:?}"),
-        None => line.push_str("none"),
-    }
+    write!(line, "{item:?}")
 }
 
 /// Writes a name, and behind it what is read.

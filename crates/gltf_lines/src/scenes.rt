@@ -1,6 +1,5 @@
 //! Nodes, scenes and skins (glTF 2.0, sections 3.5 and 3.7.3).
-use crate::meshes::write_accessor;
-use crate::shown::{Numbered, Shown, Written, write_next, write_numbers, write_rest};
+use crate::shown::{Numbered, Shown, Written, write_next, write_number, write_numbers, write_rest};
 use gltf_scene::scene::{Node, Scene};
 use gltf_scene::skin::Skin;
 
@@ -9,10 +8,10 @@ impl Shown for Node<'_> {
     fn show(&self, line: &mut String) -> Written {
         write!(line, "index {}", self.index())?;
         write_next("name", self.name(), line)?;
-        write_next("camera", self.camera().map(|it| it.index()), line)?;
-        write_next("light", self.light().map(|it| it.index()), line)?;
-        write_next("mesh", self.mesh().map(|it| it.index()), line)?;
-        write_next("skin", self.skin().map(|it| it.index()), line)?;
+        write_number("camera", self.camera(), line)?;
+        write_number("light", self.light(), line)?;
+        write_number("mesh", self.mesh(), line)?;
+        write_number("skin", self.skin(), line)?;
         write_numbers("children", self.children(), line)?;
         write_next("transform", self.transform(), line)?;
         write_next("weights", self.weights(), line)?;
@@ -33,14 +32,20 @@ impl Shown for Skin<'_> {
     fn show(&self, line: &mut String) -> Written {
         write!(line, "index {}", self.index())?;
         write_next("name", self.name(), line)?;
-        write_accessor("inverse_bind_matrices", self.inverse_bind_matrices(), line)?;
-        write_next("skeleton", self.skeleton().map(|it| it.index()), line)?;
+        write_number("inverse_bind_matrices", self.inverse_bind_matrices(), line)?;
+        write_number("skeleton", self.skeleton(), line)?;
         write_numbers("joints", self.joints(), line)?;
         write_rest!(self, line)
     }
 }
 
 impl Numbered for Node<'_> {
+    fn number(&self) -> usize {
+        self.index()
+    }
+}
+
+impl Numbered for Skin<'_> {
     fn number(&self) -> usize {
         self.index()
     }

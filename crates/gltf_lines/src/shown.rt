@@ -73,6 +73,19 @@ pub(crate) trait Numbered {
     fn number(&self) -> usize;
 }
 
+/// Writes the name of a getter that is not the first, and the number of what it gives.
+pub(crate) fn write_number<T: Numbered + Drop>(
+    name: &str,
+    given: Option<T>,
+    line: &mut String,
+) -> Written {
+    let number = match &given {
+        Some(given) => Some(given.number()),
+        None => None,
+    };
+    write_next(name, number, line)
+}
+
 /// Writes the name of a getter that is not the first, and in brackets the number of each item of
 /// the list that it gives.
 pub(crate) fn write_numbers<S: Indexed>(name: &str, items: List<S>, line: &mut String) -> Written
