@@ -1,7 +1,7 @@
 -- Bytes that come from a reader have one reading.
-use Rattle.std.proofs.Common.{◌≡◌, ℕ, ◌+◌, ◌≤◌, ◌<◌, List, [], ◌++◌, length, take, drop, Bool}
+use Rattle.std.proofs.Common.{◌≡◌, ℕ, ◌+◌, ◌≤◌, ◌<◌, List, ◌++◌, length, take, drop, Bool}
 use Rattle.std.proofs.Common.{true, false, nat_lt, Option, Some, None, Ok, Err, refl, sym, ap}
-use Rattle.std.proofs.Common.{subst, inl, inr, ◌∙◌, arith, length-append, append_assoc, append-nil}
+use Rattle.std.proofs.Common.{subst, inl, inr, ◌∙◌, arith, length-append, append_assoc}
 use Rattle.std.proofs.Common.{if◌then◌else◌}
 use Rattle.std.proofs.lemmas.Bool.{le-ltb, lt-ltb}
 use Rattle.std.specs.Option.{option_or}
@@ -144,8 +144,3 @@ ends_behind came none few =
     let less : nat_lt (length came) (word_at 8 came) ≡ true =
     lt-ltb (length came) (word_at 8 came) few in
     the_reading came (Err Short) (inl (rw (none, less) refl))
-
-pub decided_here : (came : List ℕ) (reading : Reading) → Decides came reading
-    → IsReaderReadingOf came reading
-decided_here came reading decides =
-    subst (λ (t : List ℕ). IsReaderReadingOf t reading) (append-nil came) (decides [])

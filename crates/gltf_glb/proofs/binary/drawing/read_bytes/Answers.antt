@@ -1,13 +1,12 @@
 use Rattle.std.proofs.Common.{◌≡◌, ◌≤◌, ◌<◌, ◌++◌, ℕ, List, length, None, Result, Ok, Err, sym, ap}
 use Rattle.std.proofs.Common.{OnOk, OnErr, IfErr, inl, inr, ◌∙◌, arith}
+use Rattle.std.proofs.lemmas.Result.{err_from_is_err_and}
 use Rattle.gltf_glb.specs.Bytes.{word_at}
 use Rattle.gltf_glb.specs.Faults.{front_fault}
 use Rattle.gltf_glb.specs.Front.{IsStop, IsFront, IsWhole, IsFaultOnTheWay}
-use Rattle.gltf_glb.specs.Reader.{RefusesReader}
 use Rattle.gltf_glb.specs.declared.error.Error.{Error}
 use Rattle.gltf_glb.proofs.Came.{needed_all, refused_all}
 use Rattle.gltf_glb.proofs.Fronts.{front_kept, total_kept}
-use Rattle.gltf_glb.proofs.Stops.{err_if}
 use Rattle.gltf_glb.proofs.binary.drawing.read_bytes.Goals as goal
 
 -- the header stays as it was where more came behind it
@@ -41,9 +40,8 @@ returns-in_err-length-clause-within g c =
 
 pub returns-in_err-length-clause-refused : goal.returns-in_err-length-clause-refused
 returns-in_err-length-clause-refused g c =
-    err_if (RefusesReader c.front_of.new.bytes.items) c.from_residual.result
-    c.in_err-length.field-0.0 c.from_residual.ensures.1
-    (refused_all c.front_of.new.bytes.items (Err c.in_err-length.field-0.0)
+    let passed = err_from_is_err_and c.from_residual.result c.from_residual.ensures.1 in
+    rw (passed.1, passed.2) (refused_all c.front_of.new.bytes.items (Err c.in_err-length.field-0.0)
     (inl c.in_err-length.ensures.err))
 
 pub returns-clause-within : goal.returns-clause-within
