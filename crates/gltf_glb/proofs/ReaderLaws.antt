@@ -65,8 +65,7 @@ the_reading : (bytes : List ℕ) (reading : Reading) → HasReaderReading bytes 
     → IsReaderReadingOf bytes reading
 the_reading bytes reading has = record {
   has = has;
-  only =
-      λ other also. one_reader_reading bytes other reading also has;
+  only = λ other also. one_reader_reading bytes other reading also has;
 }
 
 -- ---- bytes that decide, whatever stands behind them
@@ -121,8 +120,7 @@ whole_fault came fault rest whole (inl some) = let none = whole_header came whol
 whole_fault came fault rest whole (inr body) =
     inr (
       whole_reader came rest whole,
-      subst (λ (b : List ℕ). HasBodyFault b fault)
-          (sym (body_kept came rest whole)) body.1,
+      subst (λ (b : List ℕ). HasBodyFault b fault) (sym (body_kept came rest whole)) body.1,
     )
 
 pub decided_whole : (came : List ℕ) (reading : Reading) → IsWhole came → IsReadingOf came reading
