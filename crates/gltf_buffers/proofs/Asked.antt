@@ -21,7 +21,7 @@ outside (uri.File text) name bytes leads = refl
 outside (uri.Relative text) name bytes leads = refl
 outside uri.Unsupported name bytes leads = cc
 
--- it is what a URI means that leads to the name
+-- what is given for a name is what a URI means that leads to it
 pub name_meant : (names : Names) (meaning : Meaning) (name : Named)
     (result : Result (Vec ℕ Global) Error) → name_of meaning ≡ Some name
     → IfOk result (λ bytes. Gives names name bytes.items)
