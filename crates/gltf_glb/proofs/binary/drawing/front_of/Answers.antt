@@ -18,9 +18,8 @@ returns-in_err-fill_up-2-clause-err g c =
     let came = c.fill_up-2.new.bytes.items in
     let head = c.fill_up.new.bytes.items in
     let begins : tag_at 0 c.fill_up.new.bytes.items ≡ magic = search rules in
-    let passed =
-    err_from_is_err_and c.from_residual-in_err-fill_up-2.result
-    c.from_residual-in_err-fill_up-2.ensures.1 in
+    let exit = c.from_residual-in_err-fill_up-2 in
+    let passed = err_from_is_err_and exit.result exit.ensures.1 in
     rw (passed.1, passed.2) (stopped_front came c.in_err-fill_up-2.field-0.0
     c.in_err-fill_up-2.ensures.stop c.in_err-fill_up-2.ensures.fewer
     (short_header came head c.fill_up-2.ensures.came.0 c.fill_up-2.ensures.came.2
