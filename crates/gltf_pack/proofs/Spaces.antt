@@ -202,7 +202,8 @@ name_space (n ∷ ns) (x ∷ xs) is =
     (all_behind (not (n == 32)) (list_all (λ y. not (y == 32)) ns) is))
 
 literal_space : (name : List ℕ) (meant : Token) (t : List ℕ)
-    → list_all (λ x. not (x == 32)) name ≡ true → literal name meant (t ++ one) ≡ literal name meant t
+    → list_all (λ x. not (x == 32)) name ≡ true
+    → literal name meant (t ++ one) ≡ literal name meant t
 literal_space name meant t is = ap (λ b. cond b meant bad) (name_space name t is)
 
 word_space : (t : List ℕ) → word (t ++ one) ≡ word t
