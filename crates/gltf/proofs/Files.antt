@@ -20,10 +20,13 @@ one_file Nowhere name a b known p q = absurd p
 one_file Anywhere name a b known p q = absurd known
 one_file (Held holds) name a b known p q = let e : Some a ≡ Some b = sym p ∙ q in cc
 
-accepts_same : (names : Names) (a b : List ℕ) (r : Root) (buffers : List (List ℕ)) → a ≡ b
-    → AcceptsWith names a r buffers → AcceptsWith names b r buffers
-accepts_same names a b r buffers e accepted =
-    subst (λ (t : List ℕ). AcceptsWith names t r buffers) e accepted
+-- the bytes that are given are those that a file at the path is accepted for
+accepts_given : (names : Names) (path bytes : List ℕ) (r : Root) (buffers : List (List ℕ))
+    → AreKnown names → Gives names (File path) bytes → AcceptsFile names path r buffers
+    → AcceptsWith names bytes r buffers
+accepts_given names path bytes r buffers known gives file =
+    subst (λ (t : List ℕ). AcceptsWith names t r buffers)
+    (one_file names (File path) file.bytes bytes known file.gives gives) file.accepted
 
 pub ok_file : (names : Names) (path bytes : List ℕ)
     (result : Result (Root × Vec Data Global) Error) → Gives names (File path) bytes
@@ -39,16 +42,14 @@ pub only_file : (names : Names) (path bytes : List ℕ)
     → IfOk result (λ read. IsOnlyImportWith names bytes read.0 (bytes_of_each read.1.items))
     → IfOk result (λ read. IsOnlyFile names path read.0 (bytes_of_each read.1.items))
 only_file names path bytes (Ok read) known gives only = λ s others file.
-    only s others (accepts_same names file.bytes bytes s others
-    (one_file names (File path) file.bytes bytes known file.gives gives) file.accepted)
+    only s others (accepts_given names path bytes s others known gives file)
 only_file names path bytes (Err e) known gives only = tt
 
 -- where the bytes are not accepted, neither is the file
 pub not_file : (names : Names) (path bytes : List ℕ) → AreKnown names
     → Gives names (File path) bytes → IsNotAcceptedWith names bytes → IsNotAcceptedFile names path
 not_file names path bytes known gives exact s buffers file =
-    exact s buffers (accepts_same names file.bytes bytes s buffers
-    (one_file names (File path) file.bytes bytes known file.gives gives) file.accepted)
+    exact s buffers (accepts_given names path bytes s buffers known gives file)
 
 pub err_not_file : {T : Type 0} (names : Names) (path bytes : List ℕ) (result : Result T Error)
     → AreKnown names → Gives names (File path) bytes

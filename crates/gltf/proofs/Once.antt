@@ -1,8 +1,8 @@
 -- That bytes are imported in one way, and not refused as well.
 use Rattle.std.proofs.Common.{ℕ, ◌≡◌, ◌≢◌, ◌<◌, List, [], ◌∷◌, length, map, get_or, refl, sym, ◌∙◌}
 use Rattle.std.proofs.Common.{ap, arith, inl, inr, Result, Ok, Err}
-use Rattle.std.specs.Prelude.{Option, Some, None, slice_get}
-use Rattle.std.proofs.lemmas.Option.{slice_get_cases}
+use Rattle.std.specs.Prelude.{Option, Some, None}
+use Rattle.std.proofs.lemmas.Option.{slice_get_cases, slice_get_within}
 use Rattle.std.proofs.lemmas.List.{ext_get_or}
 use Rattle.gltf_glb.specs.declared.error.Error.{Error}
 use Rattle.gltf_glb.specs.declared.error.Error.TheVariants as error
@@ -18,10 +18,11 @@ use Rattle.gltf_buffers.specs.Buffers.{Source, BufferFault, source_of, sources_o
 use Rattle.gltf_buffers.specs.Buffers.{meant_bytes, raw_bytes, filled_bytes, checked_bytes}
 use Rattle.gltf_buffers.specs.Buffers.{bytes_of, name_at, IsBytesOf, blob_for, AreBytes}
 use Rattle.gltf_buffers.specs.Buffers.{HasBufferFault, IsAskedFor}
-use Rattle.gltf_buffers.specs.Errors.{FailsOrNames, NamesFault}
+use Rattle.gltf_buffers.specs.Errors.{FailsOrNames}
+use Rattle.gltf_buffers.specs.ErrorLaws.{named_fault}
 use Rattle.gltf_buffers.specs.Names.{Names, Nowhere, Anywhere, Held, AreKnown, MayBeGiven, name_of}
 use Rattle.gltf.specs.Files.{IsNoFailure}
-use Rattle.gltf.specs.Import.{IsOnlyDocument, IsOnlyImportWith, IsNotAcceptedWith}
+use Rattle.gltf.specs.Import.{IsOnlyDocument, AcceptsWith, IsOnlyImportWith, IsNotAcceptedWith}
 
 -- ---- what documents that show the same say of their buffers
 
@@ -80,39 +81,25 @@ one_bytes names blob i source x y known p q =
     (raw_alike names blob source.uri p.given q.given known p.may q.may)
     ∙ q.is
 
-inside : {A : Type 0} (xs : List A) (i : ℕ) (x : A) → slice_get xs i ≡ Some x → i < length xs
-inside xs i x at = elim ((slice_get_cases xs i).1) [
-  | inl found ↦ found.1
-  | inr past ↦ cc (past.1, at)
-]
-
 no_fault : (names : Names) (sources : List Source) (blob : Option (List ℕ))
     (buffers : List (List ℕ)) (fault : BufferFault) → AreKnown names
     → AreBytes names sources blob (length sources) buffers
     → HasBufferFault names sources blob fault → ⊥
 no_fault names sources blob buffers fault known all wrong =
-    let there = inside sources wrong.index wrong.source wrong.there in
+    let there = slice_get_within sources wrong.index wrong.source wrong.there in
     let fine = all.each wrong.index wrong.source there wrong.there in
     let same : Ok (get_or buffers wrong.index []) ≡ Err fault =
     one_bytes names (blob_for sources blob wrong.index) wrong.index wrong.source
     (Ok (get_or buffers wrong.index [])) (Err fault) known fine wrong.wrong in
     cc
 
-none_named : (P : BufferFault → Type 0) (e : Error) → ((fault : BufferFault) → P fault → ⊥)
-    → NamesFault P e → ⊥
-none_named P (error.Base64 fault) none told = none _ told
-none_named P (error.BufferLength i x y) none told = none _ told
-none_named P error.MissingBlob none told = none _ told
-none_named P error.ExternalReferenceInSliceImport none told = none _ told
-none_named P error.UnsupportedScheme none told = none _ told
-none_named P _ none told = told
-
 none_fails : (P : BufferFault → Type 0) (Q : Named → Type 0) (old new : List Named) (e : Error)
     → ((fault : BufferFault) → P fault → ⊥) → e ≢ error.Memory → IsNoFailure e
     → FailsOrNames P Q old new e → ⊥
 none_fails P Q old new (error.Io cause) none other fine told = fine
 none_fails P Q old new error.Memory none other fine told = other refl
-none_fails P Q old new e none other fine told = none_named P e none told.1
+none_fails P Q old new e none other fine told =
+    let named = named_fault P e told.1 in none named.0 named.1
 
 ok_once : {A E : Type 0} (a b : A) → (let one : Result A E = Ok a in one ≡ Ok b) → a ≡ b
 ok_once a b e = cc
@@ -139,19 +126,26 @@ one_read names sources blob ds es known x y k l =
 abbrev pub Alike : Type 0
 Alike = (r s : Root) → root.content r ≡ root.content s → AreAlikeInEachMember r s
 
+-- whatever else is accepted shows what the one document shows, with bytes of its buffers
+also_read : (names : Names) (bytes : List ℕ) (r s : Root) (blob : Option (List ℕ))
+    (buffers : List (List ℕ)) → Alike → IsOnlyDocument bytes r blob
+    → AcceptsWith names bytes s buffers → (root.content s ≡ root.content r)
+    × AreBytes names (sources_of r) blob (length (sources_of r)) buffers
+also_read names bytes r s blob buffers alike only accepted =
+    let same = only s accepted.blob accepted.valid.document in
+    let sources = sources_alike s r (alike s r same.0) in
+    (same.0, rw (sources, same.1) at accepted.data_)
+
 -- the bytes determine the root, as far as it shows, and the bytes of its buffers
 pub one_import : (names : Names) (bytes : List ℕ) (r : Root) (blob : Option (List ℕ))
     (buffers : List (List ℕ)) → Alike → AreKnown names → IsOnlyDocument bytes r blob
     → AreBytes names (sources_of r) blob (length (sources_of r)) buffers
     → IsOnlyImportWith names bytes r buffers
 one_import names bytes r blob buffers alike known only all s others accepted =
-    let same = only s accepted.blob accepted.valid.document in
-    let sources = sources_alike s r (alike s r same.0) in
-    let again : AreBytes names (sources_of r) blob (length (sources_of r)) others =
-    rw (sources, same.1) at accepted.data_ in (
-      same.0,
-      ext_get_or [] others buffers (again.count ∙ sym all.count)
-          (one_read names (sources_of r) blob others buffers known again all),
+    let also = also_read names bytes r s blob others alike only accepted in (
+      also.0,
+      ext_get_or [] others buffers (also.1.count ∙ sym all.count)
+          (one_read names (sources_of r) blob others buffers known also.1 all),
     )
 
 -- where a buffer has a fault, the bytes are not accepted
@@ -161,10 +155,7 @@ pub not_accepted : (names : Names) (bytes : List ℕ) (r : Root) (blob : Option 
     (IsAskedFor names (sources_of r) blob) old new e
     → e ≢ error.Memory → IsNoFailure e → IsNotAcceptedWith names bytes
 not_accepted names bytes r blob old new e alike known only fails other fine s buffers accepted =
-    let same = only s accepted.blob accepted.valid.document in
-    let sources = sources_alike s r (alike s r same.0) in
-    let all : AreBytes names (sources_of r) blob (length (sources_of r)) buffers =
-    rw (sources, same.1) at accepted.data_ in
+    let also = also_read names bytes r s blob buffers alike only accepted in
     none_fails (HasBufferFault names (sources_of r) blob) (IsAskedFor names (sources_of r) blob)
-    old new e (λ fault wrong. no_fault names (sources_of r) blob buffers fault known all wrong)
+    old new e (λ fault wrong. no_fault names (sources_of r) blob buffers fault known also.1 wrong)
     other fine fails

@@ -1,17 +1,17 @@
 -- What the bytes that came out of a reader say of an answer.
-use Rattle.std.proofs.Common.{◌≡◌, ◌≢◌, ℕ, List, [], ◌++◌, Option, Result, Ok, Err, true, sym}
-use Rattle.std.proofs.Common.{ap, subst, inl, inr, ◌∙◌, ◌⊎◌, append-nil, Bool, false, None}
-use Rattle.std.specs.Io.KnownBytes.{Consumes, IsAtEnd}
-use Rattle.std.specs.Prelude.{MatchBool, MatchResult, IsErrAnd, nat_eq, ⊤}
+use Rattle.std.proofs.Common.{◌≡◌, ◌≢◌, ◌≤◌, ℕ, List, [], length, Option, Result, Ok, Err, true}
+use Rattle.std.proofs.Common.{subst, inl, inr, ◌⊎◌, Bool, false, None}
+use Rattle.std.specs.Io.KnownBytes.{IsAtEnd}
+use Rattle.std.specs.Prelude.{MatchBool, MatchResult, nat_eq, ⊤}
 use Rattle.std.specs.List.{starts_with}
 use Rattle.gltf_stream.specs.Streams.{ReadsBehind}
 use Rattle.gltf_glb.specs.Bytes.{magic}
 use Rattle.gltf_glb.specs.Container.{IsContainer}
-use Rattle.gltf_glb.specs.Faults.{Short}
 use Rattle.gltf_glb.specs.Front.{IsWhole}
 use Rattle.gltf_glb.specs.Laws.{WholeBytesDecide}
-use Rattle.gltf_glb.specs.Reader.{NamesReaderFault}
-use Rattle.gltf_glb.specs.Reading.{IsReadingOf, IsReaderReadingOf, Decides}
+use Rattle.gltf_glb.specs.Reader.{needed_length, NamesReaderFault}
+use Rattle.gltf_glb.specs.Reading.{IsReadingOf}
+use Rattle.gltf_glb.specs.ReadingLaws.{decided_here, names_whole}
 use Rattle.gltf_glb.specs.Steps.{fault_of}
 use Rattle.gltf_glb.specs.declared.binary.Error as container
 use Rattle.gltf_glb.specs.declared.binary.Error.TheVariants as binary
@@ -20,23 +20,19 @@ use Rattle.gltf_glb.specs.declared.error.Error.TheVariants as error
 use Rattle.gltf.specs.Errors.{OutOfMemoryOr}
 use Rattle.gltf.specs.Import.{RefusesContainer, RefusesText, RefusesDocument}
 use Rattle.gltf.specs.Import.{IsNoDocument}
-use Rattle.gltf.specs.Reader.{IsAllThatCounts, StopsReading, StopsReadingOr, UnlessFailure}
+use Rattle.gltf.specs.Reader.{Gives, IsAllThatCounts, StopsReading, StopsReadingOr, UnlessFailure}
 use Rattle.gltf.specs.Reader.{RefusesTextOrRules, IsValidFile, RefusesValidFile}
 use Rattle.gltf.specs.Shown.{blob_bytes}
 use Rattle.gltf.specs.declared.file.Gltf.{Gltf}
 use Rattle.gltf.proofs.Parts.{container_parts}
 
--- what stands behind nothing is what came
-pub first_reading : (before after : Option (List ℕ)) (old came : List ℕ) → old ≡ []
-    → ReadsBehind before after old came → Consumes before after came
-first_reading before after old came empty (read, lost, is) =
-    subst (λ (t : List ℕ). Consumes before after t)
-    (sym (is ∙ ap (λ (t : List ℕ). t ++ read) empty)) lost
-
-pub err_answer : {A : Type 0} (P : A → Type 0) (Q : Error → Type 0) (r : Result A Error)
-    (e : Error) → IsErrAnd r (λ y. y ≡ e) → Q e → MatchResult r P Q
-err_answer P Q (Ok x) e is told = absurd is
-err_answer P Q (Err y) e is told = subst Q (sym is) told
+-- what a reader gave behind no bytes is what came, and decides the answer
+pub given_behind_none : {before after : Option (List ℕ)} {old : List ℕ} {Answer : List ℕ → Type 0}
+    (came : List ℕ) → old ≡ [] → ReadsBehind before after old came
+    → (starts_with nat_eq came magic ≡ true → length came ≤ needed_length came) → Answer came
+    → Gives before after Answer
+given_behind_none came empty (read, lost, is) within answer =
+    record { came = came; reads = rw (is, empty) lost; within = within; answer = answer }
 
 -- ---- the fault of a container
 
@@ -46,9 +42,7 @@ no_container_named : (came : List ℕ) (cause : container.Error) (text : List �
 no_container_named came (binary.Io cause) text blob named container =
     let apart = named.only (Ok (text, blob)) container in cc
 no_container_named came cause text blob named container =
-    let here : IsReaderReadingOf came (Err (fault_of cause)) =
-    subst (λ (t : List ℕ). IsReaderReadingOf t (Err (fault_of cause))) (append-nil came)
-    (named []) in
+    let here = decided_here came (Err (fault_of cause)) named in
     let apart = here.only (Ok (text, blob)) container in cc
 
 no_document_named : (came : List ℕ) (cause : container.Error)
@@ -56,13 +50,6 @@ no_document_named : (came : List ℕ) (cause : container.Error)
 no_document_named came cause begins named s blob document =
     no_container_named came cause document.text blob named
     (container_parts came document.text blob begins document.parts)
-
--- the fault of all bytes that a header declares is told, whatever comes behind them
-names_whole : (came : List ℕ) (cause : container.Error) → Decides came (Err (fault_of cause))
-    → NamesReaderFault came cause
-names_whole came (binary.Io cause) decides =
-    subst (λ (t : List ℕ). IsReaderReadingOf t (Err Short)) (append-nil came) (decides [])
-names_whole came cause decides = decides
 
 whole_container : (left : Option (List ℕ)) (came : List ℕ) → starts_with nat_eq came magic ≡ true
     → IsAllThatCounts left came → IsWhole came
@@ -94,43 +81,43 @@ container_told left came cause decide all refused =
           (whole_container left came refused.begins all) reading),
     )
 
+-- the error is none of a reading: neither that the reader failed, nor the fault of a container
+abbrev pub IsOfLayers : Error → Type 0
+IsOfLayers (error.Io cause) = ⊥
+IsOfLayers (error.Binary cause) = ⊥
+IsOfLayers _ = ⊤
+
 -- a layer does not hold, and all bytes that count came
 pub refused_file : (P : List ℕ → Error → Type 0) (N : List ℕ → Type 0) (left : Option (List ℕ))
     (came : List ℕ) (e : Error) → WholeBytesDecide → IsAllThatCounts left came
-    → ((cause : _) → P came (error.Io cause) → ⊥)
-    → ((cause : container.Error) → P came (error.Binary cause) → ⊥)
+    → ((y : Error) → P came y → IsOfLayers y)
     → OutOfMemoryOr (λ y. RefusesContainer came y ⊎ P came y) e → (e ≢ error.Memory → N came)
     → StopsReadingOr P left came e × UnlessFailure N came e
-refused_file P N left came error.Memory decide all no_io no_binary told exact = (tt, tt)
-refused_file P N left came (error.Io cause) decide all no_io no_binary (inl c) exact =
+refused_file P N left came error.Memory decide all of_layers told exact = (tt, tt)
+refused_file P N left came (error.Io cause) decide all of_layers (inl c) exact =
     let is = c.names in cc
-refused_file P N left came (error.Io cause) decide all no_io no_binary (inr p) exact =
-    absurd (no_io cause p)
-refused_file P N left came (error.Binary cause) decide all no_io no_binary (inl c) exact =
+refused_file P N left came (error.Io cause) decide all of_layers (inr p) exact =
+    absurd (of_layers (error.Io cause) p)
+refused_file P N left came (error.Binary cause) decide all of_layers (inl c) exact =
     (container_told left came cause decide all c, exact (λ is. cc))
-refused_file P N left came (error.Binary cause) decide all no_io no_binary (inr p) exact =
-    absurd (no_binary cause p)
-refused_file P N left came _ decide all no_io no_binary (inl c) exact =
+refused_file P N left came (error.Binary cause) decide all of_layers (inr p) exact =
+    absurd (of_layers (error.Binary cause) p)
+refused_file P N left came _ decide all of_layers (inl c) exact =
     let is = c.names in cc
-refused_file P N left came _ decide all no_io no_binary (inr p) exact =
+refused_file P N left came _ decide all of_layers (inr p) exact =
     ((all, p), exact (λ is. cc))
 
 -- a text is refused by no other error than its own
-pub no_text_io : (came : List ℕ) (cause : _) → RefusesText came (error.Io cause) → ⊥
-no_text_io came cause refused = let is = refused.names in cc
+pub text_of_layers : (came : List ℕ) (e : Error) → RefusesText came e → IsOfLayers e
+text_of_layers came (error.Io cause) refused = let is = refused.names in cc
+text_of_layers came (error.Binary cause) refused = let is = refused.names in cc
+text_of_layers came e refused = tt
 
-pub no_text_binary : (came : List ℕ) (cause : container.Error)
-    → RefusesText came (error.Binary cause) → ⊥
-no_text_binary came cause refused = let is = refused.names in cc
-
-pub no_rules_io : (came : List ℕ) (cause : _) → RefusesTextOrRules came (error.Io cause) → ⊥
-no_rules_io came cause (inl text) = no_text_io came cause text
-no_rules_io came cause (inr rules) = absurd rules.fails
-
-pub no_rules_binary : (came : List ℕ) (cause : container.Error)
-    → RefusesTextOrRules came (error.Binary cause) → ⊥
-no_rules_binary came cause (inl text) = no_text_binary came cause text
-no_rules_binary came cause (inr rules) = absurd rules.fails
+pub rules_of_layers : (came : List ℕ) (e : Error) → RefusesTextOrRules came e → IsOfLayers e
+rules_of_layers came e (inl text) = text_of_layers came e text
+rules_of_layers came (error.Io cause) (inr rules) = rules.fails
+rules_of_layers came (error.Binary cause) (inr rules) = rules.fails
+rules_of_layers came e (inr rules) = tt
 
 apart : (came : List ℕ) (e : Error) → RefusesDocument came e
     → RefusesContainer came e ⊎ RefusesTextOrRules came e

@@ -107,13 +107,14 @@ nowhere_refused bytes old new (Err e) told = refused e told
     refused error.Memory told = tt
     refused e told = told.1
 
-pub nowhere_exact : {T : Type 0} (bytes : List ℕ) (old new : List Named)
-    (result : Result T Error) → IfErr result (FailsOrRefuses Nowhere bytes old new)
-    → IfErr result (λ e. e ≢ error.Memory → IsNoFailure e → IsNotAccepted bytes)
+pub nowhere_exact : {T : Type 0} (bytes : List ℕ) (r : Root) (blob : Option (List ℕ))
+    (old new : List Named) (result : Result T Error) → Alike → IsOnlyDocument bytes r blob
+    → IfErr result (FailsWith Nowhere r blob old new)
     → IfErr result (λ e. e ≢ error.Memory → IsNotAccepted bytes)
-nowhere_exact bytes old new (Ok x) told exact = tt
-nowhere_exact bytes old new (Err e) told exact = λ other. exact other (fine e told)
+nowhere_exact bytes r blob old new (Ok x) alike only told = tt
+nowhere_exact bytes r blob old new (Err e) alike only told = λ other.
+    not_accepted Nowhere bytes r blob old new e alike tt only told other (fine e told)
   where
-    fine : (e : Error) → FailsOrRefuses Nowhere bytes old new e → IsNoFailure e
-    fine (error.Io cause) told = absurd told.1.asked.leads.0
+    fine : (e : Error) → FailsWith Nowhere r blob old new e → IsNoFailure e
+    fine (error.Io cause) told = absurd told.1.leads.0
     fine e told = tt

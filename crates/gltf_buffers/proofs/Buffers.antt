@@ -7,12 +7,14 @@ use Rattle.std.specs.List.{list_all}
 use Rattle.std.proofs.lemmas.Bool.{cases_lt}
 use Rattle.std.proofs.lemmas.List.{length-append, get_or_append_left}
 use Rattle.std.proofs.lemmas.List.Folds.{list_all-append}
-use Rattle.std.proofs.lemmas.Option.{slice_get-map, slice_get_cases, slice_get_read}
+use Rattle.std.proofs.lemmas.Option.{slice_get-map, slice_get_read, slice_get_within}
+use Rattle.std.proofs.lemmas.Option.{get_or_from_slice_get}
 use Rattle.std.proofs.Math.Seq.{get_or-append_seam, take-suc}
 use Rattle.gltf_buffers.specs.Buffers.{Source, source_of, BufferFault, IsBytesOf, LeadsTo}
 use Rattle.gltf_buffers.specs.Buffers.{blob_for, AreBytes, HasBufferFault, IsAskedFor}
 use Rattle.gltf_json_geometry.specs.declared.buffer.Buffer.{Buffer}
-use Rattle.gltf_buffers.specs.Errors.{NamesFault, FailsOrNames}
+use Rattle.gltf_buffers.specs.Errors.{FailsOrNames}
+use Rattle.gltf_buffers.specs.ErrorLaws.{names_more}
 use Rattle.gltf_buffers.specs.Names.{Names}
 use Rattle.gltf_names.specs.Named.{Named}
 use Rattle.gltf_glb.specs.declared.error.Error.{Error}
@@ -64,18 +66,12 @@ one_more names sources blob i data_ s d so_far there read = record {
   each = each_more names sources blob i data_ s d so_far there read;
 }
 
-pub inside : {A : Type 0} (xs : List A) (i : ℕ) (x : A) → slice_get xs i ≡ Some x → (i < length xs)
-    × (get_or xs i x ≡ x)
-inside xs i x at = elim ((slice_get_cases xs i).1) [
-  | inl found ↦
-      let same : found.0 ≡ x = cc (found.2, at) in
-      (found.1, rw same at found.3)
-  | inr past ↦ cc (past.1, at)
-]
-
 take_more : {A : Type 0} (xs : List A) (i : ℕ) (x : A) → slice_get xs i ≡ Some x
     → take (i + 1) xs ≡ take i xs ++ x ∷ []
-take_more xs i x at = let l = inside xs i x at in rw (add-one, take-suc xs i x l.0, l.1) refl
+take_more xs i x at =
+    let inside = slice_get_within xs i x at in
+    let there = get_or_from_slice_get xs i x x at in
+    rw (add-one, take-suc xs i x inside, there) refl
 
 joined : (b c : Bool) (blob : Option (List ℕ))
     → cond c (cond b blob None) None ≡ cond (b && (c && true)) blob None
@@ -97,15 +93,6 @@ blob_next sources blob i s at =
     (joined (list_all (λ t. is_some t.uri) (take i sources)) (is_some s.uri) blob)
 
 -- ---- what an error says
-
-names_more : (P Q : BufferFault → Type 0) (e : Error) → ((f : BufferFault) → P f → Q f)
-    → NamesFault P e → NamesFault Q e
-names_more P Q (error.Base64 fault) more told = more _ told
-names_more P Q (error.BufferLength i x y) more told = more _ told
-names_more P Q error.MissingBlob more told = more _ told
-names_more P Q error.ExternalReferenceInSliceImport more told = more _ told
-names_more P Q error.UnsupportedScheme more told = more _ told
-names_more P Q _ more told = absurd told
 
 fails_more : (P P' : BufferFault → Type 0) (Q Q' : Named → Type 0) (old new : List Named)
     (e : Error) → ((f : BufferFault) → P f → P' f) → ((n : Named) → Q n → Q' n)

@@ -1,35 +1,27 @@
 -- What the bytes that came say of an answer.
 use Rattle.std.proofs.Common.{◌≡◌, ℕ, ◌≤◌, ◌<◌, List, [], ◌∷◌, length, not, ◌==◌, Bool, true, false}
 use Rattle.std.proofs.Common.{nat_lt, Option, Some, None, Result, Ok, Err, OnOk, refl, sym, subst}
-use Rattle.std.proofs.Common.{inl, inr, ap, ◌∙◌, ◌++◌, arith}
-use Rattle.std.specs.Prelude.{IfOk, IfErr, IsErrAnd, MatchResult, is_none}
+use Rattle.std.proofs.Common.{inl, inr, arith}
+use Rattle.std.specs.Prelude.{IfOk, IfErr, MatchResult, is_none}
 use Rattle.std.proofs.lemmas.Bool.{lt-ltb}
 use Rattle.std.specs.Str.{bytes_eq}
 use Rattle.std.specs.Cow.{cow_slice_items}
-use Rattle.std.specs.Io.KnownBytes.{Consumes}
 use Rattle.gltf_stream.specs.Streams.{ReadsBehind}
 use Rattle.gltf_glb.specs.Bytes.{word_at, tag_at, magic}
 use Rattle.gltf_glb.specs.Faults.{Fault, Short, NotMagic, WrongVersion, WrongLength, first_row}
 use Rattle.gltf_glb.specs.Faults.{front_fault}
 use Rattle.gltf_glb.specs.Front.{IsFaultOnTheWay, IsWhole}
 use Rattle.gltf_glb.specs.Glb.{RefusesOrRunsOut, IsTakenFrom, items_of}
-use Rattle.gltf_glb.specs.Reader.{needed_length, IsReadBy, NamesReaderFault, RefusesReader}
+use Rattle.gltf_glb.specs.Reader.{needed_length, IsReadBy, RefusesReader, ReadsContainer}
 use Rattle.gltf_glb.specs.Reading.{Decides}
+use Rattle.gltf_glb.specs.ReadingLaws.{names_whole}
 use Rattle.gltf_glb.specs.Steps.{fault_of}
-use Rattle.gltf_glb.specs.declared.binary.Error as container
 use Rattle.gltf_glb.specs.declared.binary.Error.TheVariants as binary
 use Rattle.gltf_glb.specs.declared.binary.glb.Glb.{Glb}
 use Rattle.gltf_glb.specs.declared.error.Error.{Error}
 use Rattle.gltf_glb.specs.declared.error.Error.TheVariants as refusal
 use Rattle.gltf_glb.proofs.ReaderLaws.{decided_front, decided_magic, decided_whole, ends_front}
-use Rattle.gltf_glb.proofs.ReaderLaws.{ends_behind, decided_here}
-
--- what stands behind nothing is what came
-pub first_reading : (before after : Option (List ℕ)) (old came : List ℕ) → old ≡ []
-    → ReadsBehind before after old came → Consumes before after came
-first_reading before after old came empty (read, lost, is) =
-    subst (λ (t : List ℕ). Consumes before after t)
-    (sym (is ∙ ap (λ (t : List ℕ). t ++ read) empty)) lost
+use Rattle.gltf_glb.proofs.ReaderLaws.{ends_behind}
 
 -- ---- how many bytes are needed
 
@@ -99,11 +91,6 @@ pub refused_all : (came : List ℕ) (result : Result Unit Error)
 refused_all came (Ok done) fault = tt
 refused_all came (Err e) fault = (stopped came e fault).1
 
-names_whole : (came : List ℕ) (cause : container.Error) → Decides came (Err (fault_of cause))
-    → NamesReaderFault came cause
-names_whole came (binary.Io cause) decides = decided_here came (Err Short) decides
-names_whole came _ decides = decides
-
 -- the fault of a whole container
 refused : (came : List ℕ) (e : Error) → IsWhole came → RefusesOrRunsOut came e
     → RefusesReader came e
@@ -123,7 +110,10 @@ taken came (Ok glb) whole is fault = record {
 }
 taken came (Err e) whole is fault = refused came e whole fault
 
-pub err_is : {A : Type 0} (P : A → Type 0) (Q : Error → Type 0) (r : Result A Error) (e : Error)
-    → IsErrAnd r (λ y. y ≡ e) → Q e → MatchResult r P Q
-err_is P Q (Ok x) e is told = absurd is
-err_is P Q (Err y) e is told = subst Q (sym is) told
+-- what a reader gave behind no bytes is what came, and decides the answer
+pub read_behind_none : {before after : Option (List ℕ)} {old : List ℕ} {result : Result Glb Error}
+    (came : List ℕ) → old ≡ [] → ReadsBehind before after old came
+    → length came ≤ needed_length came
+    → MatchResult result (IsReadBy came) (RefusesReader came) → ReadsContainer before after result
+read_behind_none came empty (read, lost, is) within answer =
+    record { came = came; reads = rw (is, empty) lost; within = within; answer = answer }

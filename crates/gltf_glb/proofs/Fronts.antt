@@ -15,12 +15,8 @@ record Kept (came rest : List ℕ) : Type 0 where
 
 kept : (came rest : List ℕ) → 12 ≤ length came → Kept came rest
 unfolding word_at
-kept (a ∷ b ∷ c ∷ d ∷ e ∷ f ∷ g ∷ h ∷ i ∷ j ∷ k ∷ l ∷ xs) rest long = record {
-  tag =
-      refl;
-  version = refl;
-  total = refl;
-}
+kept (a ∷ b ∷ c ∷ d ∷ e ∷ f ∷ g ∷ h ∷ i ∷ j ∷ k ∷ l ∷ xs) rest long =
+    record { tag = refl; version = refl; total = refl }
 kept _ rest long = absurd (omega arith)
 
 pub total_kept : (came rest : List ℕ) → 12 ≤ length came → word_at 8 (came ++ rest) ≡ word_at 8 came

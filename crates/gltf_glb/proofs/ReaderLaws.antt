@@ -1,7 +1,7 @@
 -- Bytes that come from a reader have one reading.
-use Rattle.std.proofs.Common.{◌≡◌, ℕ, ◌+◌, ◌≤◌, ◌<◌, List, [], ◌++◌, length, take, drop, Bool}
+use Rattle.std.proofs.Common.{◌≡◌, ℕ, ◌+◌, ◌≤◌, ◌<◌, List, ◌++◌, length, take, drop, Bool}
 use Rattle.std.proofs.Common.{true, false, nat_lt, Option, Some, None, Ok, Err, refl, sym, ap}
-use Rattle.std.proofs.Common.{subst, inl, inr, ◌∙◌, arith, length-append, append_assoc, append-nil}
+use Rattle.std.proofs.Common.{subst, inl, inr, ◌∙◌, arith, length-append, append_assoc}
 use Rattle.std.proofs.Common.{if◌then◌else◌}
 use Rattle.std.proofs.lemmas.Bool.{le-ltb, lt-ltb}
 use Rattle.std.specs.Option.{option_or}
@@ -65,8 +65,7 @@ the_reading : (bytes : List ℕ) (reading : Reading) → HasReaderReading bytes 
     → IsReaderReadingOf bytes reading
 the_reading bytes reading has = record {
   has = has;
-  only =
-      λ other also. one_reader_reading bytes other reading also has;
+  only = λ other also. one_reader_reading bytes other reading also has;
 }
 
 -- ---- bytes that decide, whatever stands behind them
@@ -121,8 +120,7 @@ whole_fault came fault rest whole (inl some) = let none = whole_header came whol
 whole_fault came fault rest whole (inr body) =
     inr (
       whole_reader came rest whole,
-      subst (λ (b : List ℕ). HasBodyFault b fault)
-          (sym (body_kept came rest whole)) body.1,
+      subst (λ (b : List ℕ). HasBodyFault b fault) (sym (body_kept came rest whole)) body.1,
     )
 
 pub decided_whole : (came : List ℕ) (reading : Reading) → IsWhole came → IsReadingOf came reading
@@ -144,8 +142,3 @@ ends_behind came none few =
     let less : nat_lt (length came) (word_at 8 came) ≡ true =
     lt-ltb (length came) (word_at 8 came) few in
     the_reading came (Err Short) (inl (rw (none, less) refl))
-
-pub decided_here : (came : List ℕ) (reading : Reading) → Decides came reading
-    → IsReaderReadingOf came reading
-decided_here came reading decides =
-    subst (λ (t : List ℕ). IsReaderReadingOf t reading) (append-nil came) (decides [])

@@ -1,6 +1,5 @@
 -- A reading that stopped within the header.
-use Rattle.std.proofs.Common.{◌≡◌, ℕ, ◌<◌, List, length, Some, Result, Ok, Err, sym, subst, arith}
-use Rattle.std.specs.Prelude.{IfErr, IsErrAnd}
+use Rattle.std.proofs.Common.{◌≡◌, ℕ, ◌<◌, List, length, Some, arith}
 use Rattle.gltf_glb.specs.Faults.{Short, front_fault}
 use Rattle.gltf_glb.specs.Front.{IsStop, IsFrontFault}
 use Rattle.gltf_glb.specs.declared.binary.Error.TheVariants as binary
@@ -12,11 +11,6 @@ pub stopped_front : (came : List ℕ) (e : Error) → IsStop e → length came <
 stopped_front came (refusal.Binary (binary.Io cause)) why few is = (few, is)
 stopped_front came refusal.Memory why few is = few
 stopped_front came _ why few is = absurd why
-
-pub err_if : {A : Type 0} (P : Error → Type 0) (r : Result A Error) (e : Error)
-    → IsErrAnd r (λ y. y ≡ e) → P e → IfErr r P
-err_if P (Ok x) e is told = absurd is
-err_if P (Err y) e is told = subst P (sym is) told
 
 pub few_of : (came : List ℕ) → length came < 4 → length came < 12
 few_of came few = omega arith

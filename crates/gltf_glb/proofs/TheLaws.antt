@@ -25,8 +25,7 @@ later_written (Some bin) h = record {
   ends = (
     omega (arith, length_chunk bin_tag (padded 0 bin) refl),
     [],
-    sym
-        (append-nil (chunk bin_tag (padded 0 bin))),
+    sym (append-nil (chunk bin_tag (padded 0 bin))),
   );
 }
 
@@ -41,14 +40,12 @@ reads_back json bin h =
       whole =
           ap (λ (t : List ℕ). magic ++ (word 2 ++ (word (total_of json bin) ++ t)))
           (sym (append-nil (chunk json_tag (padded 32 json) ++ bin_chunk bin)));
-      parts =
-          record {
-            left = bin_chunk bin;
-            fits = omega arith;
-            whole = refl;
-            later = later_written bin
-                (omega arith);
-          };
+      parts = record {
+        left = bin_chunk bin;
+        fits = omega arith;
+        whole = refl;
+        later = later_written bin (omega arith);
+      };
     }
 
 -- what a body that is parts is read as

@@ -3,10 +3,12 @@ pub mod Faults
 pub mod Container
 pub mod Reading
 pub mod Written
+pub mod FillingLaws
 pub mod Glb
 pub mod Steps
 pub mod Front
 pub mod Reader
+pub mod ReadingLaws
 pub mod Writer
 pub mod Laws
 pub mod Texts

@@ -1,28 +1,18 @@
 -- Two files whose texts are read alike, and whose blobs are the same but for zeros behind them.
-use Rattle.std.proofs.Common.{◌≡◌, ℕ, ◌+◌, ◌-◌, ◌%◌, List, ◌++◌, length, replicate}
-use Rattle.std.proofs.Common.{Option, Some, None, option_map, Bool, true, false}
-use Rattle.std.proofs.Common.{if◌then◌else◌, is_some, refl, sym, ap, ◌∙◌, arith}
-use Rattle.std.proofs.Common.{length-append, Result, Ok, Err, get_or, []}
-use Rattle.std.proofs.lemmas.List.{append-nil, length-replicate}
+use Rattle.std.proofs.Common.{◌≡◌, ℕ, List, Option, Some, None, option_map, Bool, true, false}
+use Rattle.std.proofs.Common.{if◌then◌else◌, is_some, refl, sym, ap, ◌∙◌, Result, Ok, Err}
+use Rattle.std.proofs.Common.{get_or, []}
 use Rattle.std.specs.List.{list_all}
 use Rattle.std.specs.Prelude.{take}
 use Rattle.serde_json.specs.Data.{Data}
 use Rattle.gltf_payload.specs.Padding as payload
 use Rattle.gltf_glb.specs.Bytes.{padded}
+use Rattle.gltf_glb.specs.FillingLaws.{padded_once}
 use Rattle.gltf_json.specs.Reading.{Reads}
 use Rattle.gltf_buffers.specs.Buffers.{Source, BufferFault, bytes_of, blob_for, raw_bytes}
 use Rattle.gltf_buffers.specs.Buffers.{filled_bytes, checked_bytes, long_enough, IsBytesOf}
 use Rattle.gltf_buffers.specs.Buffers.{AreBytes, HasBufferFault}
 use Rattle.gltf_buffers.specs.Names.{Nowhere}
-
--- what is filled up is filled up once
-once : (filler : ℕ) (xs : List ℕ) → padded filler (padded filler xs) ≡ padded filler xs
-once filler xs =
-    let long : length (padded filler xs) ≡ length xs + (4 - length xs % 4) % 4 =
-    length-append xs (replicate ((4 - length xs % 4) % 4) filler)
-    ∙ ap (λ (n : ℕ). length xs + n) (length-replicate ((4 - length xs % 4) % 4) filler) in
-    let none : (4 - length (padded filler xs) % 4) % 4 ≡ 0 = omega arith in
-    ap (λ (n : ℕ). padded filler xs ++ replicate n filler) none ∙ append-nil (padded filler xs)
 
 -- a buffer is filled up with zeros anyway
 same_bytes : (i : ℕ) (source : Source) (g blob : Option (List ℕ))
@@ -36,7 +26,7 @@ same_bytes i source g blob = same source.uri blob
         ≡ checked_bytes i source.declared (filled_bytes (raw_bytes g blob uri))
     same (Some text) blob = refl
     same None None = refl
-    same None (Some bytes) = ap (long_enough i source.declared) (once 0 bytes)
+    same None (Some bytes) = ap (long_enough i source.declared) (padded_once 0 bytes)
 
 handed_on : (b : Bool) (i : ℕ) (source : Source) (g blob : Option (List ℕ))
     → bytes_of g (if b then option_map (padded 0) blob else None) i source

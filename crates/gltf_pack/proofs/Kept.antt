@@ -4,12 +4,12 @@ use Rattle.std.proofs.Common.{◌-◌, ◌%◌, length}
 use Rattle.gltf_glb.specs.Bytes.{padded}
 use Rattle.gltf_glb.specs.Laws.{OneReading, ReadsBack}
 use Rattle.gltf_glb.specs.declared.error.Error.{Error}
-use Rattle.gltf_glb.specs.declared.error.Error.TheVariants as error
 use Rattle.gltf_json.specs.Reading.{Reads, Refuses}
 use Rattle.gltf_json.specs.declared.root.Root.{Root}
 use Rattle.gltf_json_record.specs.declared.error.Error as json
 use Rattle.gltf_json_record.specs.declared.error.Error.TheVariants.{Text, Record, Memory}
-use Rattle.gltf_buffers.specs.Buffers.{BufferFault, sources_of, AreBytes, HasBufferFault}
+use Rattle.gltf_buffers.specs.Buffers.{sources_of, AreBytes, HasBufferFault}
+use Rattle.gltf_buffers.specs.ErrorLaws.{names_more}
 use Rattle.gltf_buffers.specs.Errors.{NamesFault}
 use Rattle.gltf_buffers.specs.Names.{Nowhere}
 use Rattle.gltf.specs.Import.{AreParts, IsDocument, IsValidDocument, Accepts}
@@ -26,15 +26,6 @@ refused_text text other blob rest (Text refused) alike told =
 refused_text text other blob rest (Record path fault) alike told =
     (told.0, alike.read told.0 told.1, told.2)
 refused_text text other blob rest Memory alike told = tt
-
-names_more : (P Q : BufferFault → Type 0) → ((fault : BufferFault) → P fault → Q fault)
-    → (e : Error) → NamesFault P e → NamesFault Q e
-names_more P Q more (error.Base64 fault) names = more _ names
-names_more P Q more (error.BufferLength buffer expected actual) names = more _ names
-names_more P Q more error.MissingBlob names = more _ names
-names_more P Q more error.ExternalReferenceInSliceImport names = more _ names
-names_more P Q more error.UnsupportedScheme names = more _ names
-names_more P Q more _ names = absurd names
 
 -- one file with the parts of one, another with parts that are alike
 module _ (law : OneReading) (bytes answer text other : List ℕ) (blob rest : Option (List ℕ))
@@ -104,8 +95,8 @@ module _ (law : OneReading) (bytes answer text other : List ℕ) (blob rest : Op
         blob = rest;
         valid = valid_too refused.root refused.blob refused.valid;
         fails = names_more (HasBufferFault Nowhere (sources_of refused.root) blob)
-            (HasBufferFault Nowhere (sources_of refused.root) rest)
-            (same_fault text other blob rest alike (sources_of refused.root)) e fails;
+            (HasBufferFault Nowhere (sources_of refused.root) rest) e
+            (same_fault text other blob rest alike (sources_of refused.root)) fails;
       }
 
   rules_too : (e : Error) → RefusesRules bytes e → RefusesRules answer e

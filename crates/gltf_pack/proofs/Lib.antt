@@ -2,4 +2,3 @@ pub mod Spaces
 pub mod Parts
 pub mod Alike
 pub mod Kept
-pub mod Written

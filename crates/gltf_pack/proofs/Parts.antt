@@ -1,13 +1,13 @@
 -- The text and the blob of a file, and of what it is repacked to.
 use Rattle.std.proofs.Common.{◌≡◌, ◌≢◌, ◌<◌, ◌^◌, ℕ, List, Option, None, Ok, Bool}
-use Rattle.std.proofs.Common.{true, false, MatchBool, option_map, nat_eq, sym, ap, subst}
+use Rattle.std.proofs.Common.{true, false, MatchBool, option_map, nat_eq, sym, subst}
 use Rattle.std.proofs.Common.{◌∙◌, arith, inl, inr}
 use Rattle.std.specs.List.{starts_with}
 use Rattle.gltf_glb.specs.Bytes.{magic, padded}
 use Rattle.gltf_glb.specs.Container.{IsContainer}
 use Rattle.gltf_glb.specs.Glb.{RefusesToWrite}
 use Rattle.gltf_glb.specs.Laws.{OneReading, ReadsBack, FilledOnce}
-use Rattle.gltf_glb.specs.Reading.{Reading}
+use Rattle.gltf_glb.specs.ReadingLaws.{same_parts}
 use Rattle.gltf_glb.specs.Written.{container_bytes, total_of}
 use Rattle.gltf_glb.specs.declared.error.Error.{Error}
 use Rattle.gltf_glb.specs.declared.error.Error.TheVariants.{Memory}
@@ -15,20 +15,12 @@ use Rattle.gltf.specs.Import.{AreParts, RefusesContainer}
 use Rattle.gltf_pack.specs.Repacked.{IsRepacked, RefusesToRepack, HasNoAnswer}
 use Rattle.gltf_pack.specs.Laws.{RepackedAgain, OneAnswer}
 
-ok_pair : (a x : List ℕ) (b y : Option (List ℕ))
-    → (let one : Reading = Ok (a, b) in one ≡ Ok (x, y)) → (a ≡ x) × (b ≡ y)
-ok_pair a x b y e =
-    let inner : (let pair : List ℕ × Option (List ℕ) = (a, b) in pair ≡ (x, y)) = cc in (
-      ap (λ (p : List ℕ × Option (List ℕ)). p.0) inner,
-      ap (λ (p : List ℕ × Option (List ℕ)). p.1) inner,
-    )
-
 one_of : OneReading → (bytes text other : List ℕ) (blob rest : Option (List ℕ)) (begins : Bool)
     → MatchBool begins (IsContainer bytes text blob) ((text ≡ bytes) × (blob ≡ None))
     → MatchBool begins (IsContainer bytes other rest) ((other ≡ bytes) × (rest ≡ None))
     → (other ≡ text) × (rest ≡ blob)
 one_of law bytes text other blob rest true p q =
-    ok_pair other text rest blob (law bytes (Ok (other, rest)) (Ok (text, blob)) q p)
+    same_parts (law bytes (Ok (other, rest)) (Ok (text, blob)) q p)
 one_of law bytes text other blob rest false p q = (q.0 ∙ sym p.0, q.1 ∙ sym p.1)
 
 -- the bytes of a file have one text, and one blob at most
@@ -43,9 +35,7 @@ pub no_fault : (bytes text : List ℕ) (blob : Option (List ℕ)) (e : Error)
     → AreParts bytes text blob → RefusesContainer bytes e → ⊥
 unfolding AreParts
 no_fault bytes text blob e parts refused =
-    let container : IsContainer bytes text blob =
-    subst (λ t. MatchBool t (IsContainer bytes text blob) ((text ≡ bytes) × (blob ≡ None)))
-    refused.begins parts in
+    let container = rw refused.begins at parts in
     let apart = refused.fault.only (Ok (text, blob)) container in cc
 
 -- what is written has the parts, filled up

@@ -2,19 +2,19 @@
 use Rattle.std.proofs.Common.{◌≡◌, ℕ, zero, suc, ◌+◌, ◌-◌, List, [], ◌∷◌, ◌++◌, length, take}
 use Rattle.std.proofs.Common.{drop, replicate, Bool, true, false, cond, ◌&&◌, ◌||◌, ◌==◌, nat_lt}
 use Rattle.std.proofs.Common.{nat_eq, Option, Some, None, option_and_then, refl, sym, ap, subst}
-use Rattle.std.proofs.Common.{◌∙◌, arith, IsUtf8, append_assoc, length-append}
+use Rattle.std.proofs.Common.{◌∙◌, not, arith, IsUtf8, append_assoc, length-append}
 use Rattle.std.proofs.lemmas.List.{append-nil, take-append-le, drop-append-le}
 use Rattle.std.proofs.lemmas.List.Sums.{prefix_len-le-length}
 use Rattle.std.proofs.lemmas.Str.{IsUtf8-from_ascii, IsUtf8-append, IsUtf8-take}
 use Rattle.std.proofs.lemmas.Str.{IsCharBoundary-at_seam}
 use Rattle.std.proofs.Math.Seq.{take-append_seam}
 use Rattle.std.specs.Prelude.{slice_index, ◌↔◌, ◌<◌}
-use Rattle.std.specs.List.{prefix_len, starts_with}
+use Rattle.std.specs.List.{list_all, prefix_len, starts_with}
 use Rattle.std.specs.Char.{is_ascii_digit, encode_utf8}
 use Rattle.json.specs.Text.{code_unit, short_escape, is_high_surrogate, is_low_surrogate}
 use Rattle.json.specs.Text.{surrogate_pair, Within, plain, after_backslash, after_u, after_high}
 use Rattle.json.specs.Text.{prepend, content}
-use Rattle.json.specs.Token.{number, bad, boolean, null}
+use Rattle.json.specs.Token.{Token, number, bad, boolean, null}
 use Rattle.json.specs.Word.{head, ends_word, after_digits, after_minus, after_sign, after_whole}
 use Rattle.json.specs.Word.{after_fraction, after_exponent, after_number, number_before, literal}
 use Rattle.json.specs.Word.{word, is_operator, is_space}
@@ -175,44 +175,44 @@ number_space t (Some rest) =
 
 -- ---- words
 
-true_space : (t : List ℕ) → literal ascii.true_text (boolean true) (t ++ one)
-    ≡ literal ascii.true_text (boolean true) t
-true_space [] = refl
-true_space (a ∷ []) = refl
-true_space (a ∷ b ∷ []) = refl
-true_space (a ∷ b ∷ c ∷ []) = refl
-true_space (a ∷ b ∷ c ∷ d ∷ xs) =
-    ap (λ ends. cond (starts_with nat_eq (a ∷ b ∷ c ∷ d ∷ []) ascii.true_text && ends)
-    (boolean true) bad) (ends_space xs)
+no_front : (b p q r : Bool) → (not b && p) ≡ true → ((b && q) && r) ≡ false
+no_front true p q r is = cc
+no_front false p q r is = refl
 
-false_space : (t : List ℕ) → literal ascii.false_text (boolean false) (t ++ one)
-    ≡ literal ascii.false_text (boolean false) t
-false_space [] = refl
-false_space (a ∷ []) = refl
-false_space (a ∷ b ∷ []) = refl
-false_space (a ∷ b ∷ c ∷ []) = refl
-false_space (a ∷ b ∷ c ∷ d ∷ []) = refl
-false_space (a ∷ b ∷ c ∷ d ∷ e ∷ xs) =
-    ap (λ ends. cond (starts_with nat_eq (a ∷ b ∷ c ∷ d ∷ e ∷ []) ascii.false_text && ends)
-    (boolean false) bad) (ends_space xs)
+and_behind : (b p q r s : Bool) → (p && r) ≡ (q && s) → ((b && p) && r) ≡ ((b && q) && s)
+and_behind true p q r s same = same
+and_behind false p q r s same = refl
 
-null_space : (t : List ℕ) → literal ascii.null_text null (t ++ one)
-    ≡ literal ascii.null_text null t
-null_space [] = refl
-null_space (a ∷ []) = refl
-null_space (a ∷ b ∷ []) = refl
-null_space (a ∷ b ∷ c ∷ []) = refl
-null_space (a ∷ b ∷ c ∷ d ∷ xs) =
-    ap (λ ends. cond (starts_with nat_eq (a ∷ b ∷ c ∷ d ∷ []) ascii.null_text && ends) null bad)
-    (ends_space xs)
+all_behind : (b p : Bool) → (b && p) ≡ true → p ≡ true
+all_behind true p is = is
+all_behind false p is = cc
+
+-- a name in which no space stands
+name_space : (name t : List ℕ) → list_all (λ x. not (x == 32)) name ≡ true
+    → (starts_with nat_eq (t ++ one) name && ends_word (drop (length name) (t ++ one)))
+    ≡ (starts_with nat_eq t name && ends_word (drop (length name) t))
+name_space [] t is = ends_space t
+name_space (n ∷ ns) [] is =
+    no_front (n == 32) (list_all (λ x. not (x == 32)) ns) (starts_with nat_eq [] ns)
+    (ends_word (drop (length ns) [])) is
+name_space (n ∷ ns) (x ∷ xs) is =
+    and_behind (n == x) (starts_with nat_eq (xs ++ one) ns) (starts_with nat_eq xs ns)
+    (ends_word (drop (length ns) (xs ++ one))) (ends_word (drop (length ns) xs))
+    (name_space ns xs
+    (all_behind (not (n == 32)) (list_all (λ y. not (y == 32)) ns) is))
+
+literal_space : (name : List ℕ) (meant : Token) (t : List ℕ)
+    → list_all (λ x. not (x == 32)) name ≡ true
+    → literal name meant (t ++ one) ≡ literal name meant t
+literal_space name meant t is = ap (λ b. cond b meant bad) (name_space name t is)
 
 word_space : (t : List ℕ) → word (t ++ one) ≡ word t
 unfolding word
 word_space t =
     let h = head_space t in
-    let truth = true_space t in
-    let falsity = false_space t in
-    let nothing = null_space t in
+    let truth = literal_space ascii.true_text (boolean true) t refl in
+    let falsity = literal_space ascii.false_text (boolean false) t refl in
+    let nothing = literal_space ascii.null_text null t refl in
     let digits : number_before (t ++ one) (after_number (t ++ one))
     ≡ number_before t (after_number t) =
     ap (number_before (t ++ one)) (after_number_space t) ∙ number_space t (after_number t) in

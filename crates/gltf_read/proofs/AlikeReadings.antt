@@ -55,12 +55,16 @@ also_there (Some x) (Some y) same a is =
 
 -- ---- readings
 
--- items of the type of that variant are read alike
-abbrev pub RowAlike : {X E : Type 0} → {t : Ghosts X} → (Iter X t → E) → Type 0
-RowAlike {X} {E} {t} variant =
+-- items of that type are read alike
+abbrev pub ReadAlike : {X : Type 0} → Ghosts X → Type 0
+ReadAlike {X} t =
     (r s : Root) → AreAlikeInEachMember r s
     → (answer : ℕ → Option (List ℕ)) (index : ℕ) (result : Option (List X))
     → ReadsAt t r answer index result → ReadsAt t s answer index result
+
+-- the same of items of the type of that variant
+abbrev pub RowAlike : {X E : Type 0} → {t : Ghosts X} → (Iter X t → E) → Type 0
+RowAlike {X} {E} {t} variant = ReadAlike t
 
 row_turned : {X E : Type 0} {t : Ghosts X} (variant : Iter X t → E) → RowAlike variant
     → (r s : Root) → AreAlikeInEachMember r s → (answer : ℕ → Option (List ℕ)) (i : ℕ)
@@ -84,11 +88,7 @@ member_alike Are turned r s alike answer (Some i) result h =
 
 -- ---- tables
 
-pub items_alike : {X : Type 0} {t : Ghosts X}
-    → ((r s : Root) → AreAlikeInEachMember r s
-    → (answer : ℕ → Option (List ℕ)) (index : ℕ) (result : Option (List X))
-    → ReadsAt t r answer index result → ReadsAt t s answer index result)
-    → IsAlike (AreItems {X = X} {t = t})
+pub items_alike : {X : Type 0} {t : Ghosts X} → ReadAlike t → IsAlike (AreItems {X = X} {t = t})
 items_alike {X} {t} row =
     member_alike (AreItems {X = X} {t = t}) (λ r s alike answer i a b same result h.
     row r s alike answer i _ h)

@@ -237,6 +237,24 @@ by_sampler f same a b both c e ones =
     (mapped animations.sampler f same (slice_get a.samplers.items c.sampler)
     (slice_get b.samplers.items c.sampler) (samplers_within a b both c.sampler))
 
+-- what is the same of channels is the same of channel c of animation a
+by_channel : {X : Type 0} (f : AnimationRecord → ChannelRecord → Option X)
+    → ((v w : AnimationRecord) → AreOne animations.animation v w → (c e : ChannelRecord)
+    → AreOne animations.channel c e → f v c ≡ f w e)
+    → (d : Data) (r s : Root) → root.is d r → root.is d s → (a c : ℕ)
+    → option_and_then (λ z. option_and_then (f z) (slice_get z.channels.items c))
+    (slice_get r.animations.items a)
+    ≡ option_and_then (λ z. option_and_then (f z) (slice_get z.channels.items c))
+    (slice_get s.animations.items a)
+by_channel f same d r s x y a c =
+    found animations.animation
+    (λ z. option_and_then (f z) (slice_get z.channels.items c))
+    (λ z. option_and_then (f z) (slice_get z.channels.items c))
+    (λ v w both. found animations.channel (f v) (f w) (same v w both)
+    (slice_get v.channels.items c) (slice_get w.channels.items c) (channels_within v w both c))
+    (slice_get r.animations.items a) (slice_get s.animations.items a)
+    (animations_are_one d r s x y a)
+
 -- ---- the whole
 
 pub same_of_one_value : (d : Data) (r s : Root) → root.is d r → root.is d s → HaveSameIndices r s
@@ -260,30 +278,7 @@ same_of_one_value d r s x y =
       matrices = λ k. found skin (λ z. z.inverse_bind_matrices) (λ z. z.inverse_bind_matrices)
           same_matrices (slice_get r.skins.items k) (slice_get s.skins.items k)
           (skins_are_one d r s x y k);
-      inputs = λ a c. found animations.animation
-          (λ z. option_and_then (input_of z) (slice_get z.channels.items c))
-          (λ z. option_and_then (input_of z) (slice_get z.channels.items c))
-          (λ v w both. found animations.channel (input_of v) (input_of w)
-          (by_sampler (λ z. z.input) same_input v w both)
-          (slice_get v.channels.items c) (slice_get w.channels.items c)
-          (channels_within v w both c))
-          (slice_get r.animations.items a) (slice_get s.animations.items a)
-          (animations_are_one d r s x y a);
-      outputs = λ a c. found animations.animation
-          (λ z. option_and_then (output_of z) (slice_get z.channels.items c))
-          (λ z. option_and_then (output_of z) (slice_get z.channels.items c))
-          (λ v w both. found animations.channel (output_of v) (output_of w)
-          (by_sampler (λ z. z.output) same_output v w both)
-          (slice_get v.channels.items c) (slice_get w.channels.items c)
-          (channels_within v w both c))
-          (slice_get r.animations.items a) (slice_get s.animations.items a)
-          (animations_are_one d r s x y a);
-      properties = λ a c. found animations.animation
-          (λ z. option_and_then property_of (slice_get z.channels.items c))
-          (λ z. option_and_then property_of (slice_get z.channels.items c))
-          (λ v w both. found animations.channel property_of property_of same_property
-          (slice_get v.channels.items c) (slice_get w.channels.items c)
-          (channels_within v w both c))
-          (slice_get r.animations.items a) (slice_get s.animations.items a)
-          (animations_are_one d r s x y a);
+      inputs = by_channel input_of (by_sampler (λ z. z.input) same_input) d r s x y;
+      outputs = by_channel output_of (by_sampler (λ z. z.output) same_output) d r s x y;
+      properties = by_channel (λ z. property_of) (λ v w both. same_property) d r s x y;
     }

@@ -1,9 +1,10 @@
 -- From the accessors that a sampler gives to the indices that the channel's record leads to.
-use Rattle.std.proofs.Common.{◌≡◌, sym, ap, subst, ◌∙◌}
+use Rattle.std.proofs.Common.{◌≡◌, ℕ, sym, ap, subst, ◌∙◌}
 use Rattle.std.specs.Prelude.{Option, Some, option_map}
 use Rattle.gltf_json_animation.specs.declared.animation.Animation.{Animation as AnimationRecord}
 use Rattle.gltf_json_animation.specs.declared.animation.Channel.{Channel as ChannelRecord}
 use Rattle.gltf_json_animation.specs.declared.animation.Property.{Property}
+use Rattle.gltf_json_animation.specs.declared.animation.Sampler.{Sampler as SamplerRecord}
 use Rattle.gltf_handles.specs.Accessors.{IsAccessor, accessor_handle}
 use Rattle.gltf_handles.specs.Handle.{Handle}
 use Rattle.gltf_handles.specs.Members.{Follows, IsCode}
@@ -13,42 +14,30 @@ use Rattle.gltf_anim.specs.declared.animation.Sampler.{Sampler}
 use Rattle.gltf_anim.specs.declared.animation.Target.{Target}
 use Rattle.gltf_casting.specs.declared.outputs.ReadOutputs.{ReadOutputs}
 use Rattle.gltf_data.specs.Answers.{Results}
-use Rattle.gltf_read.specs.Channels.{property_of, input_of, output_of}
+use Rattle.gltf_read.specs.Channels.{property_of, sampler_of, output_of}
 use Rattle.gltf_read.specs.Outputs.{AreOutputs}
 use Rattle.gltf_read.specs.Reading.{Table, IsRead, ReadsMember, meant}
 use Rattle.gltf_read.proofs.Members.{of_member}
 
-pub inputs_read : {E : Type 0} (Are : Table E) (Gives : Results) (a : Handle AnimationRecord)
-    (c : ChannelRecord) (sampler : Sampler) (accessor : Accessor) (result : Option E)
+-- of the sampler's index for times, or of that for values
+pub sampler_read : {E : Type 0} (index : SamplerRecord → ℕ) (Are : Table E) (Gives : Results)
+    (a : Handle AnimationRecord) (c : ChannelRecord) (sampler : Sampler) (accessor : Accessor)
+    (result : Option E)
     → IsSampler a c.sampler sampler
-    → IsAccessor (sampler_handle sampler).animation.document (sampler_handle sampler).json.input
+    → IsAccessor (sampler_handle sampler).animation.document (index (sampler_handle sampler).json)
     accessor
     → Are (IsRead Gives (accessor_handle accessor).document (accessor_handle accessor).json)
     (accessor_handle accessor).json result
-    → ReadsMember Are Gives a.document (input_of a.json c) result
-inputs_read Are Gives a c sampler accessor result is at reads =
+    → ReadsMember Are Gives a.document (option_map index (sampler_of a.json c)) result
+sampler_read index Are Gives a c sampler accessor result is at reads =
     let s = (sampler_handle sampler).json in
-    let followed : Follows (IsAccessor a.document) (input_of a.json c) (Some accessor) =
-    subst (λ found. Follows (IsAccessor a.document) (option_map (λ x. x.input) found)
-    (Some accessor)) (sym is.json)
-    (subst (λ h. IsAccessor h.document s.input accessor) is.animation at) in
-    of_member Are Gives a.document (input_of a.json c) accessor result followed reads
-
-outputs_read_of : {E : Type 0} (Are : Table E) (Gives : Results) (a : Handle AnimationRecord)
-    (c : ChannelRecord) (sampler : Sampler) (accessor : Accessor) (result : Option E)
-    → IsSampler a c.sampler sampler
-    → IsAccessor (sampler_handle sampler).animation.document (sampler_handle sampler).json.output
-    accessor
-    → Are (IsRead Gives (accessor_handle accessor).document (accessor_handle accessor).json)
-    (accessor_handle accessor).json result
-    → ReadsMember Are Gives a.document (output_of a.json c) result
-outputs_read_of Are Gives a c sampler accessor result is at reads =
-    let s = (sampler_handle sampler).json in
-    let followed : Follows (IsAccessor a.document) (output_of a.json c) (Some accessor) =
-    subst (λ found. Follows (IsAccessor a.document) (option_map (λ x. x.output) found)
-    (Some accessor)) (sym is.json)
-    (subst (λ h. IsAccessor h.document s.output accessor) is.animation at) in
-    of_member Are Gives a.document (output_of a.json c) accessor result followed reads
+    let followed : Follows (IsAccessor a.document) (option_map index (sampler_of a.json c))
+    (Some accessor) =
+    subst (λ found. Follows (IsAccessor a.document) (option_map index found) (Some accessor))
+    (sym is.json)
+    (subst (λ h. IsAccessor h.document (index s) accessor) is.animation at) in
+    of_member Are Gives a.document (option_map index (sampler_of a.json c)) accessor result
+    followed reads
 
 pub outputs_read : (Gives : Results) (a : Handle AnimationRecord) (c : ChannelRecord)
     (target : Target) (property : Property) (sampler : Sampler) (accessor : Accessor)
@@ -66,4 +55,5 @@ outputs_read Gives a c target property sampler accessor result aims code is at r
     ap (λ x. meant (λ p. p) x.path) (sym aims.json) ∙ ap (meant (λ p. p)) code in
     subst (λ p. ReadsMember (AreOutputs p) Gives a.document (output_of a.json c) result)
     (sym means)
-    (outputs_read_of (AreOutputs (Some property)) Gives a c sampler accessor result is at reads)
+    (sampler_read (λ x. x.output) (AreOutputs (Some property)) Gives a c sampler accessor result
+    is at reads)

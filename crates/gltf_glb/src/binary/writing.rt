@@ -53,7 +53,7 @@ pub(crate) fn put_header(out: &mut Vec<u8>, total: u32) -> Result<(), AllocError
 }
 
 /// Adds a chunk, filled up to a multiple of four bytes.
-#[tactic(auto, using(crate::proofs::Lengths::length_padded))]
+#[tactic(auto, using(crate::specs::FillingLaws::length_padded))]
 pub(crate) fn put_chunk(
     out: &mut Vec<u8>,
     tag: [u8; 4],

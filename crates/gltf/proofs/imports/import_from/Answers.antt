@@ -1,9 +1,7 @@
-use Rattle.std.proofs.Common.{◌≢◌, inl}
-use Rattle.gltf_glb.specs.declared.error.Error.TheVariants.{Memory}
+use Rattle.std.proofs.Common.{inl}
+use Rattle.std.proofs.lemmas.Result.{err_from_is_err_and}
 use Rattle.gltf_buffers.specs.Names.{names_of}
-use Rattle.gltf.specs.Files.{IsNoFailure, IsNotAcceptedFile, RefusesFileAt}
 use Rattle.gltf.specs.Shown.{blob_bytes}
-use Rattle.gltf.proofs.Answered.{err_same}
 use Rattle.gltf.proofs.Files.{ok_file, only_file, not_file, err_not_file, err_file, path_failed}
 use Rattle.gltf.proofs.Files.{refuses_behind}
 use Rattle.gltf.proofs.WithBuffers.{ok_accepted, ok_only, err_buffers, err_exact}
@@ -12,18 +10,14 @@ use Rattle.gltf.proofs.imports.import_from.Goals as goal
 
 pub returns-in_err-bytes-clause-refused : goal.returns-in_err-bytes-clause-refused
 returns-in_err-bytes-clause-refused g c =
-    let names = names_of (g.S.NamedBytes.bytes_by_name c.args.source.now) in
-    err_same (RefusesFileAt names c.args.path.now (g.S.NamedBytes.failures c.args.source.now)
-    (g.S.NamedBytes.failures c.ask.new.self)) c.from_residual.result c.in_err-bytes.field-0.0
-    c.from_residual.ensures.1 (inl c.in_err-bytes.ensures.unanswered)
+    let passed = err_from_is_err_and c.from_residual.result c.from_residual.ensures.1 in
+    rw (passed.1, passed.2) (inl c.in_err-bytes.ensures.unanswered)
 
 pub returns-in_err-bytes-clause-exact : goal.returns-in_err-bytes-clause-exact
 returns-in_err-bytes-clause-exact g c = λ known.
     let held = g.S.NamedBytes.bytes_by_name c.args.source.now in
-    err_same (λ e. e ≢ Memory → IsNoFailure e
-    → IsNotAcceptedFile (names_of held) c.args.path.now)
-    c.from_residual.result c.in_err-bytes.field-0.0 c.from_residual.ensures.1
-    (path_failed held c.args.path.now _ _ c.in_err-bytes.field-0.0
+    let passed = err_from_is_err_and c.from_residual.result c.from_residual.ensures.1 in
+    rw (passed.1, passed.2) (path_failed held c.args.path.now _ _ c.in_err-bytes.field-0.0
     c.in_err-bytes.ensures.unanswered)
 
 pub returns-in_err-document-clause-refused : goal.returns-in_err-document-clause-refused
@@ -32,20 +26,19 @@ returns-in_err-document-clause-refused g c =
     let old = g.S.NamedBytes.failures c.args.source.now in
     let new = g.S.NamedBytes.failures c.ask.new.self in
     let e = c.in_err-document.field-0.0 in
-    err_same (RefusesFileAt names c.args.path.now old new)
-    c.from_residual-in_err-document.result e c.from_residual-in_err-document.ensures.1
-    (refuses_behind names c.args.path.now c.in_ok-bytes.bytes.items old new e
-    c.in_ok-bytes.ensures.gives c.in_ok-bytes.ensures.fine
+    let exit = c.from_residual-in_err-document in
+    let passed = err_from_is_err_and exit.result exit.ensures.1 in
+    rw (passed.1, passed.2) (refuses_behind names c.args.path.now c.in_ok-bytes.bytes.items old
+    new e c.in_ok-bytes.ensures.gives c.in_ok-bytes.ensures.fine
     (refuses_document names c.in_ok-bytes.bytes.items old e c.in_err-document.ensures.refused))
 
 pub returns-in_err-document-clause-exact : goal.returns-in_err-document-clause-exact
 returns-in_err-document-clause-exact g c = λ known.
     let names = names_of (g.S.NamedBytes.bytes_by_name c.args.source.now) in
     let path = c.args.path.now in
-    err_same (λ e. e ≢ Memory → IsNoFailure e → IsNotAcceptedFile names path)
-    c.from_residual-in_err-document.result c.in_err-document.field-0.0
-    c.from_residual-in_err-document.ensures.1
-    (λ other fine. not_file names path c.in_ok-bytes.bytes.items known
+    let exit = c.from_residual-in_err-document in
+    let passed = err_from_is_err_and exit.result exit.ensures.1 in
+    rw (passed.1, passed.2) (λ other fine. not_file names path c.in_ok-bytes.bytes.items known
     c.in_ok-bytes.ensures.gives (λ s buffers accepted.
     c.in_err-document.ensures.exact other s accepted.blob accepted.valid))
 

@@ -1,11 +1,10 @@
 use Rattle.std.proofs.Common.{◌≡◌, ◌++◌, ◌∷◌, [], map, ◌∙◌, rules, refl}
 use Rattle.std.proofs.lemmas.List.{map-append}
-use Rattle.gltf_buffers.specs.Buffers.{source_of, HasBufferFault, IsAskedFor}
-use Rattle.gltf_buffers.specs.Errors.{FailsOrNames}
+use Rattle.std.proofs.lemmas.Result.{err_from_is_err_and}
+use Rattle.gltf_buffers.specs.Buffers.{source_of}
 use Rattle.gltf_buffers.specs.Shown.{blob_bytes, bytes_of_each}
 use Rattle.gltf_buffers.proofs.Buffers.{none_yet, blob_first, one_more, blob_next, first_fault}
 use Rattle.gltf_buffers.proofs.Buffers.{source_at}
-use Rattle.gltf_buffers.proofs.Answered.{err_same}
 use Rattle.gltf_buffers.proofs.reading.read_buffers.Goals as goal
 
 pub buffers-init : goal.buffers-init
@@ -33,10 +32,9 @@ returns-in_err-data-clause-err g c =
       c.buffers.invariant.names,
       c.buffers.invariant.failures,
     ) at c.in_err-data.ensures.err in
-    err_same (FailsOrNames (HasBufferFault names sources blob) (IsAskedFor names sources blob)
-    old new) c.from_residual.result e c.from_residual.ensures.1
-    (first_fault names sources blob i (bytes_of_each c.buffers.all.items) (source_of b)
-    old new e c.buffers.invariant.so_far there told)
+    let passed = err_from_is_err_and c.from_residual.result c.from_residual.ensures.1 in
+    rw (passed.1, passed.2) (first_fault names sources blob i (bytes_of_each c.buffers.all.items)
+    (source_of b) old new e c.buffers.invariant.so_far there told)
 
 pub buffers-preserved : goal.buffers-preserved
 buffers-preserved g c =

@@ -1,65 +1,44 @@
 use Rattle.std.proofs.Common.{ℕ, List}
-use Rattle.gltf.specs.Reader.{IsValidFile, RefusesValidFile, RefusesTextOrRules}
+use Rattle.std.proofs.lemmas.Result.{err_from_is_err_and}
 use Rattle.gltf.specs.Import.{IsNoValidDocument}
-use Rattle.gltf.specs.Shown.{blob_bytes}
-use Rattle.gltf.proofs.Readers.{first_reading, err_answer, stopped_file, refused_file}
-use Rattle.gltf.proofs.Readers.{no_rules_io, no_rules_binary, told_apart}
+use Rattle.gltf.specs.Reader.{RefusesTextOrRules}
+use Rattle.gltf.proofs.Readers.{given_behind_none, stopped_file, refused_file}
+use Rattle.gltf.proofs.Readers.{rules_of_layers, told_apart}
 use Rattle.gltf.proofs.file.Gltf.from_reader.Goals as goal
 
 pub returns-in_err-read_file : goal.returns-in_err-read_file
 returns-in_err-read_file g c =
     let came : List ℕ = c.read_file.new.bytes.items in
     let left = g.R.Read.remaining c.read_file.new.reader in
+    let passed = err_from_is_err_and c.from_residual.result c.from_residual.ensures.1 in
     let why =
     stopped_file RefusesTextOrRules IsNoValidDocument left came c.in_err-read_file.field-0.0
-    (λ none s blob valid. none s blob valid.document)
-    c.in_err-read_file.ensures.stopped in
-    record {
-      came = came;
-      reads =
-          first_reading (g.R.Read.remaining c.args.reader.now) left c.new-bytes.result.items came
-          c.new-bytes.ensures.items c.read_file.ensures.came;
-      within = c.read_file.ensures.within;
-      answer =
-          err_answer (λ file. IsValidFile left came file.document (blob_bytes file.blob))
-          (RefusesValidFile left came) c.from_residual.result c.in_err-read_file.field-0.0
-          c.from_residual.ensures.1 (record { told = why.0; exact = why.1 });
-    }
+    (λ none s blob valid. none s blob valid.document) c.in_err-read_file.ensures.stopped in
+    given_behind_none came c.new-bytes.ensures.items c.read_file.ensures.came
+    c.read_file.ensures.within
+    (rw (passed.1, passed.2) (record { told = why.0; exact = why.1 }))
 
 pub returns-in_err-document : goal.returns-in_err-document
 returns-in_err-document g c =
     let came : List ℕ = c.read_file.new.bytes.items in
     let left = g.R.Read.remaining c.read_file.new.reader in
     let e = c.in_err-document.field-0.0 in
+    let exit = c.from_residual-in_err-document in
+    let passed = err_from_is_err_and exit.result exit.ensures.1 in
     let why =
     refused_file RefusesTextOrRules IsNoValidDocument left came e c.whole_bytes_decide.ensures
-    c.in_ok-read_file.ensures.all (no_rules_io came) (no_rules_binary came)
+    c.in_ok-read_file.ensures.all (rules_of_layers came)
     (told_apart came e c.in_err-document.ensures.refused) c.in_err-document.ensures.exact in
-    record {
-      came = came;
-      reads =
-          first_reading (g.R.Read.remaining c.args.reader.now) left c.new-bytes.result.items came
-          c.new-bytes.ensures.items c.read_file.ensures.came;
-      within = c.read_file.ensures.within;
-      answer =
-          err_answer (λ file. IsValidFile left came file.document (blob_bytes file.blob))
-          (RefusesValidFile left came) c.from_residual-in_err-document.result e
-          c.from_residual-in_err-document.ensures.1 (record { told = why.0; exact = why.1 });
-    }
+    given_behind_none came c.new-bytes.ensures.items c.read_file.ensures.came
+    c.read_file.ensures.within
+    (rw (passed.1, passed.2) (record { told = why.0; exact = why.1 }))
 
 pub returns : goal.returns
 returns g c =
-    let came : List ℕ = c.read_file.new.bytes.items in
-    let left = g.R.Read.remaining c.read_file.new.reader in
-    record {
-      came = came;
-      reads =
-          first_reading (g.R.Read.remaining c.args.reader.now) left c.new-bytes.result.items came
-          c.new-bytes.ensures.items c.read_file.ensures.came;
-      within = c.read_file.ensures.within;
-      answer = record {
-        all = c.in_ok-read_file.ensures.all;
-        valid = c.in_ok-document.ensures.valid;
-        only = c.in_ok-document.ensures.only;
-      };
-    }
+    given_behind_none c.read_file.new.bytes.items c.new-bytes.ensures.items
+    c.read_file.ensures.came c.read_file.ensures.within
+    (record {
+      all = c.in_ok-read_file.ensures.all;
+      valid = c.in_ok-document.ensures.valid;
+      only = c.in_ok-document.ensures.only;
+    })

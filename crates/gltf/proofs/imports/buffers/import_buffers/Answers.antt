@@ -1,4 +1,4 @@
-use Rattle.std.proofs.Common.{List, [], Result, Ok, Err, subst}
+use Rattle.std.proofs.Common.{List, [], Result, Ok, Err}
 use Rattle.std.specs.Prelude.{IfErr}
 use Rattle.gltf_glb.specs.declared.error.Error.{Error}
 use Rattle.gltf_names.specs.Named.{Named}

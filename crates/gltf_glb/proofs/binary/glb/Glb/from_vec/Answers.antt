@@ -7,14 +7,13 @@ use Rattle.gltf_glb.proofs.Places.{place_of, read_as}
 use Rattle.gltf_glb.proofs.binary.glb.Glb.from_vec.Goals as goal
 
 -- the place of the blob that was found
-the_place : (bytes read : List ℕ) (total : ℕ) (blob : Option Blob) (found : Blob)
-    → read ≡ bytes → blob ≡ Some found → total ≤ length read
-    → IfSome blob (StandsIn (take total read))
+the_place : {bytes read : List ℕ} {blob : Option Blob} {found : Blob} {total : ℕ} → read ≡ bytes
+    → blob ≡ Some found → total ≤ length read → IfSome blob (StandsIn (take total read))
     → (length found.behind.now + length found.contents.now ≤ total) × (total ≤ length bytes)
     × (take (length found.contents.now)
     (drop (total - length found.behind.now - length found.contents.now) bytes)
     ≡ found.contents.now)
-the_place bytes read total blob found same is fits stands =
+the_place {bytes} {read} {blob} {found} {total} same is fits stands =
     let size : length read ≡ length bytes = ap length same in
     let here : StandsIn (take total bytes) found =
     subst (λ (b : List ℕ). StandsIn (take total b) found) same
@@ -24,33 +23,25 @@ the_place bytes read total blob found same is fits stands =
 pub overflow_sub-at : goal.overflow_sub-at
 overflow_sub-at c =
     let e = c.in_ok-header.ensures in
-    let place =
-    the_place c.args.bytes.items c.deref.result.now c.in_ok-header.header.length
-    c.in_ok-header.blob c.in-Some.field-0 c.deref.ensures.value c.in-Some.is e.declared e.place in
+    let place = the_place c.deref.ensures.value c.in-Some.is e.declared e.place in
     omega (arith, place.0)
 
 pub overflow_sub-at-2 : goal.overflow_sub-at-2
 overflow_sub-at-2 c =
     let e = c.in_ok-header.ensures in
-    let place =
-    the_place c.args.bytes.items c.deref.result.now c.in_ok-header.header.length
-    c.in_ok-header.blob c.in-Some.field-0 c.deref.ensures.value c.in-Some.is e.declared e.place in
+    let place = the_place c.deref.ensures.value c.in-Some.is e.declared e.place in
     omega (arith, place.0)
 
 pub cut_out-requires : goal.cut_out-requires
 cut_out-requires c =
     let e = c.in_ok-header.ensures in
-    let place =
-    the_place c.args.bytes.items c.deref.result.now c.in_ok-header.header.length
-    c.in_ok-header.blob c.in-Some.field-0 c.deref.ensures.value c.in-Some.is e.declared e.place in
+    let place = the_place c.deref.ensures.value c.in-Some.is e.declared e.place in
     omega (arith, place.0, place.1)
 
 pub returns-clause-parts : goal.returns-clause-parts
 returns-clause-parts c =
     let e = c.in_ok-header.ensures in
-    let place =
-    the_place c.args.bytes.items c.deref.result.now c.in_ok-header.header.length
-    c.in_ok-header.blob c.in-Some.field-0 c.deref.ensures.value c.in-Some.is e.declared e.place in
+    let place = the_place c.deref.ensures.value c.in-Some.is e.declared e.place in
     record {
       parts =
           read_as c.deref.result.now c.args.bytes.items c.in_ok-header.json.now
