@@ -79,6 +79,10 @@ pub fn import_from<S: NamedBytes>(
 
 /// [`import_from`] over the files of the system: those that the document names by relative
 /// references are looked for beside the file, behind [`base_of`] its path.
+///
+/// Any file that the document names is read, wherever it is, whole and as often as a buffer names
+/// it. For a document that is not trusted, take [`import_slice`], or [`import_from`] over a source
+/// that looks at each name.
 pub fn import(rt: &HostRuntime, alloc: Global, path: &str) -> Result<(Document, Vec<Data>)>
     ensures accepted { IfOk result (λ read. AcceptsFile Anywhere path.now read.0
         (bytes_of_each read.1.items)) }

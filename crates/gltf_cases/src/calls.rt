@@ -1,10 +1,10 @@
 //! The calls by their names.
 use crate::asked::Asked;
-use crate::containers::{container, write_bytes, write_hex};
+use crate::containers::{container, write_hex};
 use crate::refused::write_error;
 use crate::told::{Written, tell};
-use crate::{broken, documents, files, items, iterators, words};
-use gltf::{Glb, Gltf, import_slice};
+use crate::{broken, documents, files, imported, items, iterators, words};
+use gltf::Glb;
 use gltf_pack::repack;
 use hex::FromHexError;
 use std::alloc::{AllocError, Global};
@@ -83,29 +83,25 @@ pub(crate) fn of_bytes(
 ) -> Written {
     match asked.call {
         "each" => of_each(alloc, asked, bytes, line),
-        "repack" => write_bytes(asked, &repack(alloc, bytes), line),
+        "repack" => tell(alloc, asked, repack(alloc, bytes), line),
         "repacked" => of_repacked(alloc, asked, bytes, line),
         _ => of_one(alloc, asked, bytes, line),
     }
 }
 
-/// Answers one call on the bytes of a file.
+/// Answers one call on the bytes of a file. What the calls give is held in a function for each: a
+/// proof goes through the drops of all that a function holds at each of its exits.
 fn of_one(alloc: Global, asked: Asked<'_>, bytes: &[u8], line: &mut String) -> Written {
     match asked.call {
         "glb" => tell(alloc, asked, Glb::from_slice(bytes), line),
-        "root" => tell(alloc, asked, documents::root_of(alloc, bytes), line),
-        "document" => tell(alloc, asked, documents::document_of(alloc, bytes), line),
-        "records" => tell(
-            alloc,
-            asked,
-            Gltf::from_slice_without_validation(alloc, bytes),
-            line,
-        ),
+        "root" => documents::tell_root(alloc, asked, bytes, line),
+        "document" => documents::tell_document(alloc, asked, bytes, line),
+        "records" => documents::tell_records(alloc, asked, bytes, line),
         "read" => items::read(alloc, asked, bytes, line),
         "import" | "check" | "walk" | "readers" | "cast" => {
-            tell(alloc, asked, import_slice(alloc, bytes), line)
+            imported::tell_import(alloc, asked, bytes, line)
         }
-        _ => tell(alloc, asked, Gltf::from_slice(alloc, bytes), line),
+        _ => documents::tell_file(alloc, asked, bytes, line),
     }
 }
 

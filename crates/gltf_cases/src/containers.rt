@@ -1,8 +1,7 @@
 //! GLB containers.
 use crate::asked::Asked;
 use crate::calls::bytes_of;
-use crate::refused::write_error;
-use crate::told::{Told, Written, tell_copy};
+use crate::told::{Told, Written, tell, tell_copy};
 use gltf::binary::Header;
 use gltf::{Glb, Result};
 use std::alloc::Global;
@@ -44,16 +43,15 @@ impl Told for Glb<'_> {
             write_hex(bin.as_slice(), line)?;
         }
         line.push_str("; written ")?;
-        write_bytes(asked, &self.to_vec(alloc), line)?;
+        tell(alloc, asked, self.to_vec(alloc), line)?;
         tell_copy(alloc, self.clone(alloc), self, line)
     }
 }
 
-/// Writes the bytes of a container, or why there are none.
-pub(crate) fn write_bytes(asked: Asked<'_>, bytes: &Result<Vec<u8>>, line: &mut String) -> Written {
-    match bytes {
-        Ok(bytes) => write_hex(bytes, line),
-        Err(error) => write_error(asked, error, line),
+impl Told for Vec<u8> {
+    /// The bytes in hexadecimal digits.
+    fn tell(&self, _alloc: Global, _asked: Asked<'_>, line: &mut String) -> Written {
+        write_hex(self, line)
     }
 }
 

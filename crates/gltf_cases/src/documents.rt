@@ -3,19 +3,64 @@ use crate::asked::Asked;
 use crate::calls::bytes_of;
 use crate::members::write_member;
 use crate::refused::write_error;
-use crate::told::{Told, Written, prints_alike, tell_copy};
+use crate::told::{Told, Written, prints_alike, tell, tell_copy};
 use crate::{items, lists};
 use gltf::json::{Root, deserialize};
 use gltf::{Document, Gltf, RawGltf, Result};
 use std::alloc::Global;
 
+/// Tells of the records of a text.
+pub(crate) fn tell_root(
+    alloc: Global,
+    asked: Asked<'_>,
+    bytes: &[u8],
+    line: &mut String,
+) -> Written {
+    tell(alloc, asked, root_of(alloc, bytes), line)
+}
+
+/// Tells of the document of a text.
+pub(crate) fn tell_document(
+    alloc: Global,
+    asked: Asked<'_>,
+    bytes: &[u8],
+    line: &mut String,
+) -> Written {
+    tell(alloc, asked, document_of(alloc, bytes), line)
+}
+
+/// Tells of a file without its buffers, whose records may break rules.
+pub(crate) fn tell_records(
+    alloc: Global,
+    asked: Asked<'_>,
+    bytes: &[u8],
+    line: &mut String,
+) -> Written {
+    tell(
+        alloc,
+        asked,
+        Gltf::from_slice_without_validation(alloc, bytes),
+        line,
+    )
+}
+
+/// Tells of a file without its buffers.
+pub(crate) fn tell_file(
+    alloc: Global,
+    asked: Asked<'_>,
+    bytes: &[u8],
+    line: &mut String,
+) -> Written {
+    tell(alloc, asked, Gltf::from_slice(alloc, bytes), line)
+}
+
 /// The records of a text.
-pub(crate) fn root_of(alloc: Global, bytes: &[u8]) -> Result<Root> {
+fn root_of(alloc: Global, bytes: &[u8]) -> Result<Root> {
     Ok(deserialize::from_slice(alloc, bytes)?)
 }
 
 /// The document of a text.
-pub(crate) fn document_of(alloc: Global, bytes: &[u8]) -> Result<Document> {
+fn document_of(alloc: Global, bytes: &[u8]) -> Result<Document> {
     Document::from_json(alloc, root_of(alloc, bytes)?)
 }
 
@@ -64,15 +109,19 @@ impl Told for RawGltf {
     /// Whether it is accepted, or every rule that it breaks. Where a member is asked for, it stands
     /// behind that with the blob.
     fn tell(&self, alloc: Global, asked: Asked<'_>, line: &mut String) -> Written {
-        match &self.document.validate(alloc) {
-            Ok(()) => line.push_str("accepted")?,
-            Err(error) => write_error(asked, error, line)?,
-        }
+        tell(alloc, asked, self.document.validate(alloc), line)?;
         if asked.words.is_empty() {
             return Ok(());
         }
         write!(line, " with blob {:?} and ", self.blob)?;
         write_member(self.document.as_json(), asked.words, line)
+    }
+}
+
+impl Told for () {
+    /// That the rules are kept.
+    fn tell(&self, _alloc: Global, _asked: Asked<'_>, line: &mut String) -> Written {
+        line.push_str("accepted")
     }
 }
 

@@ -28,16 +28,27 @@ pub(crate) fn of_shelf(alloc: Global, asked: Asked<'_>, line: &mut String) -> Wr
 }
 
 fn of_file(alloc: Global, asked: Asked<'_>, file: &[u8], line: &mut String) -> Written {
-    let mut shelf = shelf_of(alloc, asked, file)?;
-    let answer = import_from(alloc, &mut shelf, "a.gltf");
-    write_import(asked, &answer, line)?;
+    from_shelf(alloc, asked, &mut shelf_of(alloc, asked, file)?, line)
+}
+
+fn from_shelf(alloc: Global, asked: Asked<'_>, shelf: &mut Shelf, line: &mut String) -> Written {
+    tell_import(asked, import_from(alloc, shelf, "a.gltf"), line)?;
     match shelf.last_failed() {
         Some(name) => write!(line, "; {name} failed"),
         None => Ok(()),
     }
 }
 
-/// Writes the bytes of the buffers, or what is wrong.
+/// Writes the bytes of the buffers, or what is wrong. The answer is dropped here, at one exit.
+fn tell_import(
+    asked: Asked<'_>,
+    answer: Result<(Document, Vec<Data>)>,
+    line: &mut String,
+) -> Written {
+    write_import(asked, &answer, line)
+}
+
+/// Writes the bytes of the buffers, or what is wrong, by reference.
 fn write_import(
     asked: Asked<'_>,
     answer: &Result<(Document, Vec<Data>)>,

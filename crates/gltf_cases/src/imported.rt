@@ -1,12 +1,22 @@
 //! What a line tells of an import.
 use crate::asked::Asked;
 use crate::members::write_member;
-use crate::told::{Told, Written};
+use crate::told::{Told, Written, tell};
 use crate::{items, reads};
-use gltf::Document;
 use gltf::buffer::Data;
 use gltf::json::Root;
+use gltf::{Document, import_slice};
 use std::alloc::Global;
+
+/// Tells of the import of a file.
+pub(crate) fn tell_import(
+    alloc: Global,
+    asked: Asked<'_>,
+    bytes: &[u8],
+    line: &mut String,
+) -> Written {
+    tell(alloc, asked, import_slice(alloc, bytes), line)
+}
 
 impl Told for (Document, Vec<Data>) {
     /// The bytes of the buffers, or a member of the records.
@@ -18,8 +28,7 @@ impl Told for (Document, Vec<Data>) {
         match asked.call {
             "check" => check(self.0.as_json(), &self.1, line),
             "walk" => items::walked(alloc, asked, &self.0, &self.1, line),
-            "readers" => reads::write_reads(&self.0, &self.1, asked, line),
-            "cast" => reads::write_casts(&self.0, &self.1, asked, line),
+            "readers" | "cast" => reads::write(&self.0, &self.1, asked, line),
             _ if asked.words.is_empty() => write!(line, "{:?}", self.1),
             _ => write_member(self.0.as_json(), asked.words, line),
         }

@@ -107,10 +107,23 @@ pub(crate) fn walked(
     line: &mut String,
 ) -> Written {
     let steps = steps_of(alloc, asked.words)?;
+    walked_by(alloc, asked, document, buffers, &steps, line)
+}
+
+/// Writes what a walk by these steps answers. What has memory is held by the caller, which has one
+/// exit: here there is one for each type.
+fn walked_by(
+    alloc: Global,
+    asked: Asked<'_>,
+    document: &Document,
+    buffers: &[Data],
+    steps: &[Step],
+    line: &mut String,
+) -> Written {
     by_type!(
         asked.word(0),
         line,
-        walked_as(alloc, asked, document, buffers, &steps)
+        walked_as(alloc, asked, document, buffers, steps)
     )
 }
 

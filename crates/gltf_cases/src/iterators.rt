@@ -11,8 +11,19 @@ use std::fmt::Debug;
 /// Writes what a walk over plain items answers: `plain TYPE STRIDE STEP.. : BYTES`.
 pub(crate) fn plain(alloc: Global, asked: Asked<'_>, line: &mut String) -> Written {
     let bytes = bytes_of(alloc, asked.given)?;
-    let steps = steps_of(alloc, asked.words)?;
-    by_type!(asked.word(0), line, plain_as(alloc, asked, &bytes, &steps))
+    plain_by(alloc, asked, &bytes, &steps_of(alloc, asked.words)?, line)
+}
+
+/// Writes what a walk over plain items answers, by these steps. It holds no memory: there is an exit
+/// for each type.
+fn plain_by(
+    alloc: Global,
+    asked: Asked<'_>,
+    bytes: &[u8],
+    steps: &[Step],
+    line: &mut String,
+) -> Written {
+    by_type!(asked.word(0), line, plain_as(alloc, asked, bytes, steps))
 }
 
 /// Writes what a walk over plain items answers, which are read as `T`.
@@ -58,8 +69,19 @@ pub(crate) fn sparse(alloc: Global, asked: Asked<'_>, line: &mut String) -> Writ
         indices: bytes_of(alloc, indices)?,
         values: bytes_of(alloc, asked.part(2))?,
     };
-    let steps = steps_of(alloc, asked.words)?;
-    by_type!(asked.word(0), line, sparse_as(alloc, asked, &parts, &steps))
+    sparse_by(alloc, asked, &parts, &steps_of(alloc, asked.words)?, line)
+}
+
+/// Writes what a walk over sparse items answers, by these steps. It holds no memory: there is an
+/// exit for each type.
+fn sparse_by(
+    alloc: Global,
+    asked: Asked<'_>,
+    parts: &Parts,
+    steps: &[Step],
+    line: &mut String,
+) -> Written {
+    by_type!(asked.word(0), line, sparse_as(alloc, asked, parts, steps))
 }
 
 /// Writes what a walk over sparse items answers, which are read as `T`.

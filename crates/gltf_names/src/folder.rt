@@ -15,6 +15,9 @@ use std::rt::Files;
 
 /// Files by name: [`Name::File`] as it stands, [`Name::Relative`] behind the base, but one that
 /// begins with `/` as it stands.
+///
+/// It looks at no name: `..` leads out of the folder, and what is there is read to its end, also a
+/// device that has none. For names that are not trusted, write a source that looks at them.
 #[derive(Drop)]
 pub struct Folder<'a, R: Files> {
     rt: &'a R,

@@ -10,20 +10,41 @@ use gltf::{Error, Result};
 use std::process::ExitCode;
 use std::{env, io};
 
-/// The names of the rows.
-const ROWS: [&str; 12] = [
-    "container_read",
-    "container_written",
-    "data_uri_imported",
-    "blob_taken_twice_imported",
-    "broken_imported",
-    "sparse_imported",
-    "two_names_imported",
-    "sparse_items_read",
-    "items_read",
-    "sparse_items_walked",
-    "broken_validated",
-    "records_of_a_value",
+/// A call.
+#[derive(Clone, Copy)]
+enum Call {
+    ReadContainer,
+    WriteContainer,
+    Import,
+    ImportNames,
+    ReadFloats,
+    ReadNumbers,
+    WalkSparse,
+    Validate,
+    ReadValue,
+}
+
+/// A row's name, its call, and what that is given.
+type Row = (&'static str, Call, &'static [u8]);
+
+/// The rows.
+const ROWS: [Row; 12] = [
+    ("container_read", Call::ReadContainer, rows::TWO_CHUNKS),
+    ("container_written", Call::WriteContainer, rows::TWO_CHUNKS),
+    ("data_uri_imported", Call::Import, rows::DATA_URI),
+    (
+        "blob_taken_twice_imported",
+        Call::Import,
+        rows::BLOB_TAKEN_TWICE,
+    ),
+    ("broken_imported", Call::Import, rows::BROKEN),
+    ("sparse_imported", Call::Import, rows::ONE_REPLACED),
+    ("two_names_imported", Call::ImportNames, rows::TWO_NAMES),
+    ("sparse_items_read", Call::ReadFloats, rows::ONE_REPLACED),
+    ("items_read", Call::ReadNumbers, rows::TWO_NUMBERS),
+    ("sparse_items_walked", Call::WalkSparse, b""),
+    ("broken_validated", Call::Validate, rows::BROKEN),
+    ("records_of_a_value", Call::ReadValue, rows::ONE_REPLACED),
 ];
 
 /// Tells what the row answers that the word names, or each row where there is none.
@@ -43,7 +64,7 @@ fn main(rt: HostRuntime) -> io::Result<ExitCode> {
 
 fn run(rt: &HostRuntime) -> Result<()> {
     match word(rt)? {
-        Some(row) => tell(rt, row.as_str()),
+        Some(name) => tell_one(rt, name.as_str()),
         None => tell_all(rt),
     }
 }
@@ -60,33 +81,34 @@ fn word(rt: &HostRuntime) -> Result<Option<String>> {
 }
 
 fn tell_all(rt: &(impl Print + AllocGlobal)) -> Result<()> {
-    for row in ROWS {
-        tell(rt, row)?;
+    for (name, call, given) in ROWS {
+        tell(rt, name, call, given)?;
     }
+    Ok(())
+}
+
+fn tell_one(rt: &(impl Print + AllocGlobal), wanted: &str) -> Result<()> {
+    for (name, call, given) in ROWS {
+        if name == wanted {
+            return tell(rt, name, call, given);
+        }
+    }
+    println!(rt; "{wanted}: there is no such row")?;
     Ok(())
 }
 
 /// Writes a row's name and answer.
-fn tell(rt: &(impl Print + AllocGlobal), row: &str) -> Result<()> {
-    print!(rt; "{row}: ")?;
-    match row {
-        "container_read" => calls::read_container(rt, rows::TWO_CHUNKS),
-        "container_written" => calls::write_container(rt, rows::TWO_CHUNKS),
-        "data_uri_imported" => calls::import(rt, rows::DATA_URI.as_bytes()),
-        "blob_taken_twice_imported" => calls::import(rt, rows::BLOB_TAKEN_TWICE),
-        "broken_imported" => calls::import(rt, rows::BROKEN.as_bytes()),
-        "sparse_imported" => calls::import(rt, rows::ONE_REPLACED.as_bytes()),
-        "two_names_imported" => calls::import_names(rt, rows::TWO_NAMES.as_bytes()),
-        "sparse_items_read" => calls::read_floats(rt, rows::ONE_REPLACED.as_bytes()),
-        "items_read" => calls::read_numbers(rt, rows::TWO_NUMBERS.as_bytes()),
-        "sparse_items_walked" => calls::walk_sparse(rt),
-        "broken_validated" => calls::validate(rt, rows::BROKEN.as_bytes()),
-        "records_of_a_value" => calls::read_value(rt, rows::ONE_REPLACED.as_bytes()),
-        _ => no_row(rt),
+fn tell(rt: &(impl Print + AllocGlobal), name: &str, call: Call, given: &[u8]) -> Result<()> {
+    print!(rt; "{name}: ")?;
+    match call {
+        Call::ReadContainer => calls::read_container(rt, given),
+        Call::WriteContainer => calls::write_container(rt, given),
+        Call::Import => calls::import(rt, given),
+        Call::ImportNames => calls::import_names(rt, given),
+        Call::ReadFloats => calls::read_floats(rt, given),
+        Call::ReadNumbers => calls::read_numbers(rt, given),
+        Call::WalkSparse => calls::walk_sparse(rt),
+        Call::Validate => calls::validate(rt, given),
+        Call::ReadValue => calls::read_value(rt, given),
     }
-}
-
-fn no_row(rt: &impl Print) -> Result<()> {
-    println!(rt; "there is no such row")?;
-    Ok(())
 }

@@ -10,14 +10,14 @@ pub(crate) const BLOB_TAKEN_TWICE: &[u8] =
 [{\"byteLength\":4},{\"byteLength\":4}]}   \x04\0\0\0BIN\0\x01\x02\x03\x04";
 
 /// A buffer of three bytes in its URI, which are filled up to four.
-pub(crate) const DATA_URI: &str = r#"{"asset":{"version":"2.0"},
+pub(crate) const DATA_URI: &[u8] = br#"{"asset":{"version":"2.0"},
     "buffers":[{"byteLength":4,"uri":"data:application/octet-stream;base64,AAEC"}]}"#;
 
 /// A node whose mesh and skin are not there.
-pub(crate) const BROKEN: &str = r#"{"asset":{"version":"2.0"},"nodes":[{"mesh":3,"skin":0}]}"#;
+pub(crate) const BROKEN: &[u8] = br#"{"asset":{"version":"2.0"},"nodes":[{"mesh":3,"skin":0}]}"#;
 
 /// Two zeros, of which the second is replaced by 1.0.
-pub(crate) const ONE_REPLACED: &str = r#"{"asset":{"version":"2.0"},
+pub(crate) const ONE_REPLACED: &[u8] = br#"{"asset":{"version":"2.0"},
     "buffers":[{"byteLength":8,"uri":"data:;base64,AQAAAAAAgD8="}],
     "bufferViews":[{"buffer":0,"byteLength":1},{"buffer":0,"byteOffset":4,"byteLength":4}],
     "accessors":[{"componentType":5126,"count":2,"type":"SCALAR",
@@ -25,11 +25,11 @@ pub(crate) const ONE_REPLACED: &str = r#"{"asset":{"version":"2.0"},
     "values":{"bufferView":1}}}]}"#;
 
 /// Two numbers of two bytes, 1 and 2.
-pub(crate) const TWO_NUMBERS: &str =
-    r#"{"asset":{"version":"2.0"},"buffers":[{"byteLength":4,"uri":"data:;base64,AQACAA=="}],
+pub(crate) const TWO_NUMBERS: &[u8] =
+    br#"{"asset":{"version":"2.0"},"buffers":[{"byteLength":4,"uri":"data:;base64,AQACAA=="}],
     "bufferViews":[{"buffer":0,"byteLength":4}],
     "accessors":[{"bufferView":0,"componentType":5123,"count":2,"type":"SCALAR"}]}"#;
 
 /// Two buffers of one and of two bytes, each in a name of its own.
-pub(crate) const TWO_NAMES: &str = r#"{"asset":{"version":"2.0"},
+pub(crate) const TWO_NAMES: &[u8] = br#"{"asset":{"version":"2.0"},
     "buffers":[{"byteLength":1,"uri":"a.bin"},{"byteLength":2,"uri":"b.bin"}]}"#;
