@@ -42,10 +42,16 @@ def program(name):
 
 
 def is_fresh(name):
-    """Whether the program of a crate was built behind the last change of what it is made of. rt
-    builds none that it has not proved. A file that was taken away has changed its folder."""
+    """Whether the program of a crate was built of what it is made of, as that stands. rt builds
+    none that it has not proved."""
+    return is_built_of(program(name), name)
+
+
+def is_built_of(file, name):
+    """Whether a file was made behind the last change of what a crate is made of. A file that was
+    taken away has changed its folder."""
     try:
-        built = program(name).stat().st_mtime_ns
+        built = os.stat(file).st_mtime_ns
     except FileNotFoundError:
         return False
     sources = [TOP / "crates.txt"]

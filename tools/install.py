@@ -1,6 +1,6 @@
 #!/usr/bin/env python3
-"""Installs the proved programs, and the library for C where it is built: `make install PREFIX=..`,
-behind `make prove` and `make c`.
+"""Installs what is built of the sources as they stand: the proved programs, behind `make prove`,
+and the library for C, behind `make c`: `make install PREFIX=..`. It tells what it leaves out.
 
 GLTF_PREFIX has the folder, named from the one that make was called in, GLTF_FROM. DESTDIR stands
 before it."""
@@ -15,28 +15,33 @@ import c
 import crates
 
 
+def install_program(program, folder):
+    """A program that runs is replaced, and not written over."""
+    folder.mkdir(parents=True, exist_ok=True)
+    part = folder / f".{program}.{os.getpid()}"
+    shutil.copyfile(crates.program(program), part)
+    part.chmod(0o755)
+    part.replace(folder / program)
+    print(folder / program)
+
+
 def main():
-    for program in crates.PROGRAMS:
-        if not crates.is_fresh(program):
-            sys.exit(
-                f"make install: {program} is not built of these sources: "
-                "make prove proves and builds it"
-            )
+    programs = [program for program in crates.PROGRAMS if crates.is_fresh(program)]
+    has_library = crates.is_built_of(c.LIBRARY, "gltf_c")
+    if not programs and not has_library:
+        sys.exit("make install: nothing is built of these sources: make prove proves and builds "
+                 "the programs, and make c the library for C")
     prefix = os.path.join(os.environ.get("GLTF_FROM", ""), os.environ["GLTF_PREFIX"])
     place = pathlib.Path(os.environ.get("DESTDIR", "") + os.path.abspath(prefix))
-    folder = place / "bin"
-    folder.mkdir(parents=True, exist_ok=True)
-    for program in crates.PROGRAMS:
-        # A program that runs is replaced, and not written over.
-        part = folder / f".{program}.{os.getpid()}"
-        shutil.copyfile(crates.program(program), part)
-        part.chmod(0o755)
-        part.replace(folder / program)
-        print(folder / program)
-    if c.LIBRARY.exists():
+    for program in programs:
+        install_program(program, place / "bin")
+    if has_library:
         c.install(place)
-    else:
-        print("the library for C is not built: make c proves and builds it")
+    for program in crates.PROGRAMS:
+        if program not in programs:
+            print(f"{program} is not built of these sources: make prove proves and builds it")
+    if not has_library:
+        print("the library for C is not built of these sources: make c proves and builds it")
 
 
 try:
