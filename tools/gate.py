@@ -15,7 +15,7 @@ TOP = pathlib.Path(__file__).resolve().parent.parent
 PARTS = (
     ["rt", "ci"],
     ["python3", "tools/refusals.py"],
-    ["python3", "tools/failing_files.py"],
+    ["python3", "tools/programs.py"],
     ["python3", "tools/c.py", "behind-ci"],
 )
 # The most memory that a check was seen to take, and some more.

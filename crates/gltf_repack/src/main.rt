@@ -20,6 +20,3 @@ fn main(rt: HostRuntime) -> std::io::Result<ExitCode> {
     let status = run(&rt, words.as_slice(), &mut rt.stdout(), &mut rt.stderr());
     Ok(ExitCode::from(status))
 }
-
-#[cfg(test)]
-mod tests;

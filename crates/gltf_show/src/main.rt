@@ -40,6 +40,3 @@ fn base_of<'w>(words: &[&'w str]) -> &'w str {
         _ => "",
     }
 }
-
-#[cfg(test)]
-mod tests;

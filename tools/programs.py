@@ -1,0 +1,317 @@
+#!/usr/bin/env python3
+"""Runs the proved programs `gltf_show` and `gltf_repack` on files that it makes. A row is a call:
+its words, its status, and what it writes; and behind `gltf_repack` what stands in the folder.
+`make test` calls it behind `rt ci`. The last line is `N passed, M failed`."""
+import json
+import os
+import pathlib
+import resource
+import signal
+import struct
+import subprocess
+import sys
+import tempfile
+
+sys.dont_write_bytecode = True
+
+import crates
+
+# A user who may read nothing of root's.
+NOBODY = 65534
+LONG = "n" * 5_000
+# The greatest number that a usize holds, and the one behind it.
+GREATEST, TOO_GREAT = str(2**64 - 1), str(2**64)
+
+
+class Failed:
+    """A line with the name of a file that was not read or not written, and some text behind it."""
+
+    def __init__(self, name):
+        self.name = name
+
+    def __eq__(self, told):
+        begins = told.startswith(f"{self.name}: ") and len(told) > len(self.name) + 3
+        return begins and told.count("\n") == 1
+
+
+class Begins:
+    """A text that begins so."""
+
+    def __init__(self, text):
+        self.text = text
+
+    def __eq__(self, told):
+        return told.startswith(self.text)
+
+
+def chunk(kind, data):
+    return struct.pack("<I4s", len(data), kind) + data
+
+
+def container(*chunks, version=2):
+    body = b"".join(chunks)
+    return struct.pack("<4sII", b"glTF", version, 12 + len(body)) + body
+
+
+def document(**members):
+    return json.dumps({"asset": {"version": "2.0"}, **members}).encode()
+
+
+def buffers(*pairs):
+    return [{"byteLength": length, "uri": uri} for length, uri in pairs]
+
+
+def view(offset, length):
+    return {"buffer": 0, "byteOffset": offset, "byteLength": length}
+
+
+def accessor(component_type, count, **members):
+    kind = {"componentType": component_type, "count": count, "type": "SCALAR"}
+    return {"bufferView": 0, **kind, **members}
+
+
+def meshes(*indices):
+    """One mesh, whose primitives have these accessors as their indices."""
+    return [{"primitives": [{"attributes": {}, "indices": index} for index in indices]}]
+
+
+OLD = container(version=1)
+WHOLE = container(chunk(b"JSON", b"{}  "), chunk(b"BIN\0", bytes([1, 2, 3, 4, 5, 0, 0, 0])))
+UNKNOWN = container(chunk(b"JSON", b"{}  "), chunk(b"XYZ\0", b"\xAA\xBB"), chunk(b"BIN\0", b"1234"))
+# The numbers 1 and 2, of two bytes each.
+NUMBERS = [(4, "data:;base64,AQACAA==")]
+# The numbers 1, 0, 2 and 0 of one byte each; the index 1, and the 9 that it has in place of the 0.
+REPLACED = [(6, "data:;base64,AQACAAEJ")]
+SPARSE = {
+    "count": 1,
+    "indices": {"bufferView": 1, "componentType": 5121},
+    "values": {"bufferView": 2},
+}
+
+
+def with_numbers(*accessors, **members):
+    return document(bufferViews=[view(0, 4)], accessors=[*accessors], **members)
+
+
+def shown(room):
+    """The files that `gltf_show` is called on."""
+    numbers, indices = accessor(5123, 2), {"meshes": meshes(0)}
+    outside = with_numbers(numbers, buffers=buffers((4, "b%20c.bin")), **indices)
+    more = document(
+        buffers=buffers(*REPLACED),
+        bufferViews=[view(0, 4), view(4, 1), view(5, 1)],
+        accessors=[accessor(5121, 4, sparse=SPARSE), accessor(5125, 1), accessor(5125, 2)],
+        meshes=[{"primitives": [{"attributes": {}}]}, *meshes(0, 1, 2)],
+    )
+    files = {
+        "box.glb": WHOLE,
+        "unknown.glb": UNKNOWN,
+        "cut.glb": WHOLE[:24],
+        "old.glb": OLD,
+        "plain.gltf": with_numbers(numbers, buffers=buffers(*NUMBERS)),
+        "dangling.gltf": document(nodes=[{"mesh": 3, "skin": 0}]),
+        "row.gltf": with_numbers(numbers, buffers=buffers(*NUMBERS), **indices),
+        "float.gltf": with_numbers(accessor(5126, 1), buffers=buffers(*NUMBERS), **indices),
+        "more.gltf": more,
+        "outside.gltf": outside,
+        "models/outside.gltf": outside,
+        "models/b c.bin": struct.pack("<2H", 3, 4),
+        "b c.bin": struct.pack("<2H", 1, 2),
+        "short.gltf": document(buffers=buffers((5, f"file://{room}/abc"))),
+        "abc": b"abc",
+        "two.gltf": document(buffers=buffers((4, "b%20c.bin"), (4, "no%20such.bin"))),
+        "locked": b"1",
+    }
+    for name in ("missing", "folder", "locked", LONG):
+        files[f"names {name[:9]}.gltf"] = document(buffers=buffers((1, name)))
+    return files
+
+
+USAGE = "usage: gltf_show chunks PATH | check PATH | indices PATH MESH PRIMITIVE\n"
+DANGLING = ("invalid glTF: nodes[0].mesh: Index out of bounds; "
+            "nodes[0].skin: Index out of bounds;\n")
+NO_MESH, NO_PRIMITIVE, NO_INDICES = "no such mesh\n", "no such primitive\n", "no indices\n"
+
+# The words, the status, the output, and what is told of a refusal.
+SHOWS = [
+    (["chunks", "box.glb"], 0, "glTF 2 40\nJSON 4\nBIN 8\n", ""),
+    (["chunks", "unknown.glb"], 0, "glTF 2 46\nJSON 4\nBIN 4\n", ""),
+    (["chunks", "old.glb"], 1, "", "unsupported version\n"),
+    (["chunks", "cut.glb"], 1, "", "could not completely read the object\n"),
+    (["check", "plain.gltf"], 0, "ok buffers=1 accessors=1 meshes=0 nodes=0\n", ""),
+    (["check", "dangling.gltf"], 1, "", DANGLING),
+    (["check", "outside.gltf"], 0, "ok buffers=1 accessors=1 meshes=1 nodes=0\n", ""),
+    (["check", "short.gltf"], 1, "", "buffer 0: expected 5 bytes but received 4 bytes\n"),
+    (["indices", "outside.gltf", "0", "0"], 0, "1\n2\n", ""),
+    (["indices", "models/outside.gltf", "0", "0"], 0, "3\n4\n", ""),
+    (["indices", "row.gltf", "0", "0"], 0, "1\n2\n", ""),
+    (["indices", "row.gltf", "00", "000"], 0, "1\n2\n", ""),
+    (["indices", "more.gltf", "1", "0"], 0, "1\n9\n2\n0\n", ""),
+    (["indices", "more.gltf", "1", "1"], 0, "131073\n", ""),
+    (["indices", "row.gltf", "0", "1"], 1, "", NO_PRIMITIVE),
+    (["indices", "row.gltf", "0", GREATEST], 1, "", NO_PRIMITIVE),
+    (["indices", "row.gltf", "1", "1"], 1, "", NO_MESH),
+    (["indices", "row.gltf", GREATEST, "0"], 1, "", NO_MESH),
+    (["indices", "plain.gltf", "0", "0"], 1, "", NO_MESH),
+    (["indices", "float.gltf", "0", "0"], 1, "", NO_INDICES),
+    (["indices", "more.gltf", "0", "0"], 1, "", NO_INDICES),
+    (["indices", "more.gltf", "1", "2"], 1, "", NO_INDICES),
+    (["indices", "dangling.gltf", "0", "0"], 1, "", DANGLING),
+    (["indices", "box.glb", "0", "0"], 1, "", "asset: missing member\n"),
+    ([], 2, "", USAGE),
+    (["chunks"], 2, "", USAGE),
+    (["chunks", "box.glb", "box.glb"], 2, "", USAGE),
+    (["check"], 2, "", USAGE),
+    (["Chunks", "no.glb"], 2, "", USAGE),
+    (["indices", "a", "0"], 2, "", USAGE),
+    (["indices", "a", "0", TOO_GREAT], 2, "", USAGE),
+    (["indices", "a", TOO_GREAT, "0"], 2, "", USAGE),
+    (["indices", "row.gltf", "0", "+0"], 2, "", USAGE),
+    (["indices", "row.gltf", "-0", "0"], 2, "", USAGE),
+    (["indices", "row.gltf", "0", ""], 2, "", USAGE),
+    (["indices", "row.gltf", "0x0", "0"], 2, "", USAGE),
+    (["indices", "row.gltf", "0", "\u0660"], 2, "", USAGE),
+    (["indices", "row.gltf", "0", "0", "0"], 2, "", USAGE),
+    (["indices", "row.gltf"], 2, "", USAGE),
+    (["chunks", "no.glb"], 1, "", Failed("no.glb")),
+    (["indices", "no.glb", "0", "0"], 1, "", Failed("no.glb")),
+    (["check", "two.gltf"], 1, "", Failed("no such.bin")),
+    (["indices", "two.gltf", "0", "0"], 1, "", Failed("no such.bin")),
+    (["check", "missing"], 1, "", Failed("missing")),
+    (["check", "folder"], 1, "", Failed("folder")),
+    (["check", "locked"], 1, "", Failed("locked")),
+    (["check", LONG], 1, "", Failed(LONG)),
+    (["check", "names missing.gltf"], 1, "", Failed("missing")),
+    (["check", "names folder.gltf"], 1, "", Failed("folder")),
+    (["check", "names locked.gltf"], 1, "", Failed("locked")),
+    (["check", f"names {LONG[:9]}.gltf"], 1, "", Failed(LONG)),
+]
+
+# What an output takes, and one byte more, before it fails.
+FULL = [
+    (["chunks", "box.glb"], "glTF 2 40\n"),
+    (["indices", "row.gltf", "0", "0"], "1\n"),
+]
+
+REPACK_USAGE = Begins("usage: gltf_repack IN OUT\n")
+# What the text `{}` is repacked as.
+PACKED = container(chunk(b"JSON", b"{}  "))
+REPACKS = [
+    (["in.gltf", "out.glb"], 0, "out.glb: 24 bytes\n", ""),
+    (["out.glb", "out.glb"], 0, "out.glb: 24 bytes\n", ""),
+    (["old.glb", "out.glb"], 1, "", "unsupported version\n"),
+    (["no.gltf", "out.glb"], 1, "", None),
+    (["in.gltf", "folder"], 1, "", Failed("folder.part")),
+    (["in.gltf", "no/out.glb"], 1, "", Failed("no/out.glb.part")),
+    (["in.gltf", "mine.glb"], 1, "", Failed("mine.glb.part")),
+    ([], 2, "", REPACK_USAGE),
+    (["in.gltf"], 2, "", REPACK_USAGE),
+    (["in.gltf", "out.glb", "out.glb"], 2, "", REPACK_USAGE),
+]
+# What stands in the folder behind each of these calls.
+REPACKED = {"in.gltf": b"{}", "old.glb": OLD, "mine.glb.part": b"mine", "out.glb": PACKED}
+
+
+def make(room, files):
+    """A folder with these files, a folder in it, and a file that nobody may read."""
+    for name, contents in files.items():
+        file = room / name
+        file.parent.mkdir(parents=True, exist_ok=True)
+        file.write_bytes(contents)
+    (room / "folder").mkdir()
+    room.chmod(0o777)
+    if "locked" in files:
+        (room / "locked").chmod(0)
+
+
+def files_in(room):
+    """The files that stand in a folder, and those in it not."""
+    return {file.name: file.read_bytes() for file in room.iterdir() if file.is_file()}
+
+
+def started(limit=None):
+    """What a program's process does first: it takes no more rights than nobody has, and may write
+    no file that is longer than the limit."""
+    def start():
+        if limit is not None:
+            signal.signal(signal.SIGXFSZ, signal.SIG_IGN)
+            resource.setrlimit(resource.RLIMIT_FSIZE, (limit, limit))
+        if os.geteuid() == 0:
+            os.setgroups([])
+            os.setgid(NOBODY)
+            os.setuid(NOBODY)
+    return start
+
+
+def tell(program, words, good, ran):
+    shown_words = " ".join(word[:20] for word in words)
+    print(f"{program} {shown_words}: {'ok' if good else f'FAILED: {ran}'}")
+    return good
+
+
+def answers(program, room, words, status, out, told):
+    """Whether a call answers so."""
+    how = {"cwd": room, "capture_output": True, "text": True, "encoding": "utf-8"}
+    ran = subprocess.run([program, *words], preexec_fn=started(), **how)
+    said = ran.stderr != "" if told is None else told == ran.stderr
+    good = ran.returncode == status and ran.stdout == out and said
+    return tell(program.name, words, good, ran)
+
+
+def ends_where_full(program, room, words, taken):
+    """Whether a call ends with 1 where its output is full, and has written all it could."""
+    with tempfile.TemporaryFile() as out:
+        limit = len(taken) + 1
+        how = {"cwd": room, "stdout": out, "stderr": subprocess.DEVNULL}
+        ran = subprocess.run([program, *words], preexec_fn=started(limit), **how)
+        out.seek(0)
+        good = ran.returncode == 1 and out.read().startswith(taken.encode())
+    return tell(program.name, words, good, ran)
+
+
+def leaves(program, room, row):
+    """Whether a call answers as its row says, and leaves the folder as it has to be."""
+    good = answers(program, room, *row)
+    left = files_in(room)
+    if left != REPACKED:
+        print(f"{program.name}: FAILED: the folder has {sorted(left)}")
+    return good and left == REPACKED
+
+
+def takes_no_line(program, room):
+    """Whether a file is repacked whole where the line that tells of it cannot be written, and the
+    program then ends with 1."""
+    with open("/dev/full", "wb") as full:
+        how = {"cwd": room, "stdout": full, "stderr": subprocess.DEVNULL}
+        ran = subprocess.run([program, "in.gltf", "out.glb"], preexec_fn=started(), **how)
+    good = ran.returncode == 1 and files_in(room) == REPACKED
+    return tell(program.name, ["in.gltf", "out.glb"], good, ran)
+
+
+def copy_of(name, place):
+    """A copy of a proved program, which nobody may run."""
+    program = place / name
+    program.write_bytes(crates.program(name).read_bytes())
+    program.chmod(0o755)
+    return program
+
+
+def main():
+    with tempfile.TemporaryDirectory() as name:
+        place = pathlib.Path(name)
+        place.chmod(0o755)
+        show, repack = copy_of("gltf_show", place), copy_of("gltf_repack", place)
+        room = place / "shown"
+        make(room, shown(room))
+        good = [answers(show, room, *row) for row in SHOWS]
+        good += [ends_where_full(show, room, *row) for row in FULL]
+        room = place / "repacked"
+        make(room, {name: REPACKED[name] for name in ("in.gltf", "old.glb", "mine.glb.part")})
+        good += [leaves(repack, room, row) for row in REPACKS]
+        good.append(takes_no_line(repack, room))
+    print(f"{sum(good)} passed, {len(good) - sum(good)} failed")
+    return 0 if all(good) else 1
+
+
+if __name__ == "__main__":
+    sys.exit(main())
