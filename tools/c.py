@@ -27,7 +27,7 @@ FILES = [os.fspath(crates.TOP / "examples" / name) for name in
 RIG = os.fspath(C / "rig.gltf")
 FINE = [*FILES[:2], RIG]
 # How many mutated copies of each file are tried, by the sanitizers and by valgrind.
-TIMES, TIMES_BY_VALGRIND = 25_001, 251
+TIMES, TIMES_BY_VALGRIND = 33_334, 334
 STRICT = ["-Wall", "-Wextra", "-Werror", "-pedantic", "-O2"]
 # What the types of exports are in C. A slice is a pointer and a count.
 TYPES = {
