@@ -14,8 +14,8 @@ pub(crate) fn plain(alloc: Global, asked: Asked<'_>, line: &mut String) -> Writt
     plain_by(alloc, asked, &bytes, &steps_of(alloc, asked.words)?, line)
 }
 
-/// Writes what a walk over plain items answers, by these steps. It holds no memory: there is an exit
-/// for each type.
+/// Writes what a walk over plain items answers, by these steps. It holds no memory: there is an
+/// exit for each type.
 fn plain_by(
     alloc: Global,
     asked: Asked<'_>,

@@ -102,8 +102,8 @@ fn write_channels<'s, F: Fn(Buffer) -> Option<&'s [u8]>>(
     Ok(())
 }
 
-/// Writes what is cast of what the reader of this name gives. Outputs are those of the first channel
-/// of the first animation.
+/// Writes what is cast of what the reader of this name gives. Outputs are those of the first
+/// channel of the first animation.
 fn write_casts<'s, F: Fn(Buffer) -> Option<&'s [u8]>>(
     document: &Document,
     bytes: &F,
