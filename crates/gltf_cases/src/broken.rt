@@ -1,7 +1,8 @@
 //! Documents that break many rules.
-use crate::asked::Asked;
-use crate::told::{Written, tell};
+use crate::told::tell;
 use gltf::import_slice;
+use gltf_case::asked::Asked;
+use gltf_case::shown::Written;
 use std::alloc::{AllocError, Global};
 
 /// Writes how long the text is that tells an import of so many broken rules, and its end: `broken

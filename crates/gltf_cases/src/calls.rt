@@ -1,13 +1,15 @@
 //! The calls by their names.
-use crate::asked::Asked;
-use crate::containers::{container, write_hex};
+use crate::containers::container;
 use crate::refused::write_error;
-use crate::told::{Written, tell};
-use crate::{broken, documents, files, imported, items, iterators, words};
+use crate::told::tell;
+use crate::{broken, documents, files, imported, items};
 use gltf::Glb;
+use gltf_case::asked::Asked;
+use gltf_case::bytes::{bytes_of, write_hex};
+use gltf_case::shown::Written;
+use gltf_case::{iterators, texts};
 use gltf_pack::repack;
-use hex::FromHexError;
-use std::alloc::{AllocError, Global};
+use std::alloc::Global;
 
 /// Answers a case whose given is a text or stands in hexadecimal digits.
 ///
@@ -21,10 +23,10 @@ use std::alloc::{AllocError, Global};
 ///   blob.
 pub(crate) fn answer(alloc: Global, asked: Asked<'_>, line: &mut String) -> Written {
     match asked.call {
-        "uri" => words::write_uri(alloc, asked.given, line),
-        "payload" => words::write_payload(alloc, asked.given, line),
-        "zeros" => words::write_zeros(alloc, asked.given, line),
-        "attribute" => words::write_attribute(alloc, asked.given, line),
+        "uri" => texts::write_uri(alloc, asked.given, line),
+        "payload" => texts::write_payload(alloc, asked.given, line),
+        "zeros" => texts::write_zeros(alloc, asked.given, line),
+        "attribute" => texts::write_attribute(alloc, asked.given, line),
         "plain" => iterators::plain(alloc, asked, line),
         "sparse" => iterators::sparse(alloc, asked, line),
         "indices" => iterators::indices(alloc, asked, line),
@@ -51,15 +53,6 @@ fn of_container(alloc: Global, asked: Asked<'_>, line: &mut String) -> Written {
         Ok(bytes) if asked.call == "write" => write_hex(bytes, line),
         Ok(bytes) => of_bytes(alloc, asked, bytes, line),
         Err(error) => write_error(asked, error, line),
-    }
-}
-
-/// The bytes that hexadecimal digits spell; none where they spell none.
-pub(crate) fn bytes_of(alloc: Global, digits: &str) -> Result<Vec<u8>, AllocError> {
-    match hex::decode(alloc, digits) {
-        Ok(bytes) => Ok(bytes),
-        Err(FromHexError::OutOfMemory) => Err(AllocError),
-        Err(_) => Ok(Vec::new(alloc)),
     }
 }
 

@@ -1,9 +1,10 @@
 //! GLB containers.
-use crate::asked::Asked;
-use crate::calls::bytes_of;
-use crate::told::{Told, Written, tell, tell_copy};
+use crate::told::{Told, tell};
 use gltf::binary::Header;
 use gltf::{Glb, Result};
+use gltf_case::asked::Asked;
+use gltf_case::bytes::{bytes_of, write_hex};
+use gltf_case::shown::{Written, tell_copy};
 use std::alloc::Global;
 use std::borrow::CowSlice;
 
@@ -53,12 +54,4 @@ impl Told for Vec<u8> {
     fn tell(&self, _alloc: Global, _asked: Asked<'_>, line: &mut String) -> Written {
         write_hex(self, line)
     }
-}
-
-/// Writes bytes in hexadecimal digits.
-pub(crate) fn write_hex(bytes: &[u8], line: &mut String) -> Written {
-    for byte in bytes {
-        write!(line, "{byte:02x}")?;
-    }
-    Ok(())
 }

@@ -1,12 +1,13 @@
 //! Documents and their records, read from a text or from a file without its buffers.
-use crate::asked::Asked;
-use crate::calls::bytes_of;
 use crate::members::write_member;
 use crate::refused::write_error;
-use crate::told::{Told, Written, prints_alike, tell, tell_copy};
+use crate::told::{Told, tell};
 use crate::{items, lists};
 use gltf::json::{Root, deserialize};
 use gltf::{Document, Gltf, RawGltf, Result};
+use gltf_case::asked::Asked;
+use gltf_case::bytes::bytes_of;
+use gltf_case::shown::{Written, prints_alike, tell_copy};
 use std::alloc::Global;
 
 /// Tells of the records of a text.

@@ -1,11 +1,12 @@
 //! Imports of files that name others.
-use crate::asked::Asked;
-use crate::calls::bytes_of;
 use crate::containers::container;
 use crate::refused::write_error;
-use crate::told::{Written, tell};
+use crate::told::tell;
 use gltf::buffer::Data;
 use gltf::{Document, Error, Name, NamedBytes, Result, Shelf, import, import_from};
+use gltf_case::asked::Asked;
+use gltf_case::bytes::bytes_of;
+use gltf_case::shown::Written;
 use std::alloc::{AllocError, Global};
 use std::rt::HostRuntime;
 

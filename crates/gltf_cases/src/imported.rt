@@ -1,11 +1,12 @@
 //! What a line tells of an import.
-use crate::asked::Asked;
 use crate::members::write_member;
-use crate::told::{Told, Written, tell};
+use crate::told::{Told, tell};
 use crate::{items, reads};
 use gltf::buffer::Data;
 use gltf::json::Root;
 use gltf::{Document, import_slice};
+use gltf_case::asked::Asked;
+use gltf_case::shown::Written;
 use std::alloc::Global;
 
 /// Tells of the import of a file.

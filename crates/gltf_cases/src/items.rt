@@ -1,38 +1,14 @@
 //! Items of accessors, as a type that a word names.
-use crate::asked::Asked;
-use crate::steps::{steps_of, write_walk};
-use crate::told::{Told, Written, show, tell};
-use gltf::accessor::{F32, Item, Iter, Step};
+use crate::told::{Told, tell};
+use gltf::accessor::{Item, Iter, Step};
 use gltf::buffer::Data;
 use gltf::{Buffer, Document, imported_items, read_items};
+use gltf_case::asked::Asked;
+use gltf_case::by_type;
+use gltf_case::shown::{Written, show};
+use gltf_case::steps::{steps_of, write_walk};
 use std::alloc::{AllocError, Global};
 use std::fmt::Debug;
-
-/// Calls a function at the type that a word names: `u8x3` stands for `[u8; 3]`.
-macro_rules! by_type {
-    ($word:expr, $line:ident, $call:ident($($given:expr),*)) => {
-        match $word {
-            "i8" => $call::<i8>($($given,)* $line),
-            "u8" => $call::<u8>($($given,)* $line),
-            "i16" => $call::<i16>($($given,)* $line),
-            "u16" => $call::<u16>($($given,)* $line),
-            "u32" => $call::<u32>($($given,)* $line),
-            "f32" => $call::<F32>($($given,)* $line),
-            "i8x2" => $call::<[i8; 2]>($($given,)* $line),
-            "u8x2" => $call::<[u8; 2]>($($given,)* $line),
-            "f32x2" => $call::<[F32; 2]>($($given,)* $line),
-            "i8x3" => $call::<[i8; 3]>($($given,)* $line),
-            "u8x3" => $call::<[u8; 3]>($($given,)* $line),
-            "f32x3" => $call::<[F32; 3]>($($given,)* $line),
-            "u8x4" => $call::<[u8; 4]>($($given,)* $line),
-            "u16x4" => $call::<[u16; 4]>($($given,)* $line),
-            "u8x2x2" => $call::<[[u8; 2]; 2]>($($given,)* $line),
-            _ => $line.push_str("no type"),
-        }
-    };
-}
-
-pub(crate) use by_type;
 
 /// Writes the items of an accessor, from the bytes of a file.
 pub(crate) fn read(alloc: Global, asked: Asked<'_>, bytes: &[u8], line: &mut String) -> Written {

@@ -1,7 +1,7 @@
 //! The lists of a document, walked by words.
-use crate::asked::Asked;
-use crate::told::Written;
 use gltf::{Document, Material, Primitive};
+use gltf_case::asked::Asked;
+use gltf_case::shown::Written;
 use gltf_lines::{Shown, write_attribute_steps, write_list, write_list_or_none};
 
 /// Writes what the steps over a list of handles give, or extensions that are not known.

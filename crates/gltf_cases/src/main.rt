@@ -2,7 +2,6 @@
 //! folder say what they are and what has to be answered.
 #![tactic(auto)]
 
-mod asked;
 mod broken;
 mod calls;
 mod containers;
@@ -10,17 +9,14 @@ mod documents;
 mod files;
 mod imported;
 mod items;
-mod iterators;
 mod lists;
 mod members;
 mod reads;
 mod refused;
-mod steps;
 mod told;
-mod words;
 
-use crate::asked::Asked;
 use gltf::Error;
+use gltf_case::asked::Asked;
 use std::rt::HostRuntime;
 use std::{env, fs};
 

@@ -1,6 +1,6 @@
 //! The members of the records of a document.
-use crate::told::Written;
 use gltf::json::Root;
+use gltf_case::shown::Written;
 
 /// Prints a member of the records, by its name in JSON; all of them where it is the name of none.
 pub(crate) fn write_member(root: &Root, name: &str, line: &mut String) -> Written {

@@ -1,11 +1,11 @@
 //! What readers of a document give.
-use crate::asked::Asked;
 use crate::lists::first_primitive;
-use crate::told::Written;
 use gltf::animation::Channel;
 use gltf::animation::iter::Channels;
 use gltf::buffer::Data;
 use gltf::{Buffer, Document, animation, mesh, skin};
+use gltf_case::asked::Asked;
+use gltf_case::shown::Written;
 use gltf_lines::{
     write_channel, write_channel_casts, write_primitive, write_primitive_casts, write_skin,
 };

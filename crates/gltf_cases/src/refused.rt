@@ -1,7 +1,7 @@
 //! What a line tells of a call that is refused.
-use crate::asked::Asked;
-use crate::told::Written;
 use gltf::{Error, binary, json};
+use gltf_case::asked::Asked;
+use gltf_case::shown::Written;
 
 /// Writes why a call is refused. The texts of I/O errors, and of faults in base64 and JSON text,
 /// are claimed nowhere, so words stand for them. Of a container the fault is told with its numbers.

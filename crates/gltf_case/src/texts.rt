@@ -1,19 +1,18 @@
 //! URIs, payloads, the zeros behind buffers, and the names of attributes.
-use crate::calls::bytes_of;
-use crate::containers::write_hex;
-use crate::told::{Written, show, tell_copy};
+use crate::bytes::{bytes_of, write_hex};
+use crate::shown::{Written, show, tell_copy};
 use base64::{DecodeAllocError, DecodeError};
 use gltf::json::mesh::Semantic;
 use gltf_uri::Uri;
 use std::alloc::{AllocError, Global};
 
 /// Prints where a URI leads.
-pub(crate) fn write_uri(alloc: Global, text: &str, line: &mut String) -> Written {
+pub fn write_uri(alloc: Global, text: &str, line: &mut String) -> Written {
     show(Uri::parse(alloc, text), line)
 }
 
 /// Writes the bytes of a payload, or its fault.
-pub(crate) fn write_payload(alloc: Global, text: &str, line: &mut String) -> Written {
+pub fn write_payload(alloc: Global, text: &str, line: &mut String) -> Written {
     match &gltf_payload::decode(alloc, text) {
         Ok(bytes) => write_bytes(bytes, line),
         Err(DecodeAllocError::OutOfMemory) => line.push_str("out of memory"),
@@ -40,14 +39,14 @@ fn write_fault(fault: &DecodeError, line: &mut String) -> Written {
 }
 
 /// Writes bytes and the zeros behind them.
-pub(crate) fn write_zeros(alloc: Global, digits: &str, line: &mut String) -> Written {
+pub fn write_zeros(alloc: Global, digits: &str, line: &mut String) -> Written {
     let mut bytes = bytes_of(alloc, digits)?;
     gltf_payload::pad_to_four(&mut bytes)?;
     write_bytes(&bytes, line)
 }
 
 /// Prints what the name of an attribute means, and how that is named.
-pub(crate) fn write_attribute(alloc: Global, name: &str, line: &mut String) -> Written {
+pub fn write_attribute(alloc: Global, name: &str, line: &mut String) -> Written {
     tell_meaning(alloc, &Semantic::of_name(alloc, name), line)
 }
 

@@ -2,21 +2,21 @@
 
 /// A call, and what it is given: `CALL [+BLOB] WORD.. : GIVEN`.
 #[derive(Clone, Copy)]
-pub(crate) struct Asked<'t> {
+pub struct Asked<'t> {
     /// The name of the call.
-    pub(crate) call: &'t str,
+    pub call: &'t str,
     /// The binary buffer of a container round the given text, in hexadecimal digits; or what a call
     /// does with it.
-    pub(crate) blob: Option<&'t str>,
+    pub blob: Option<&'t str>,
     /// What else the call is told.
-    pub(crate) words: &'t str,
+    pub words: &'t str,
     /// What the call is made on: a text, or `%` and the hexadecimal digits of bytes.
-    pub(crate) given: &'t str,
+    pub given: &'t str,
 }
 
 impl<'t> Asked<'t> {
     /// What a line asks.
-    pub(crate) fn of(line: &'t str) -> Asked<'t> {
+    pub fn of(line: &'t str) -> Asked<'t> {
         let (head, given) = line.split_once(" :").unwrap_or((line, ""));
         let given = given.strip_prefix(" ").unwrap_or(given);
         let (call, words) = head.split_once(" ").unwrap_or((head, ""));
@@ -40,7 +40,7 @@ impl<'t> Asked<'t> {
     }
 
     /// The call that the first of the words names, with the words behind it.
-    pub(crate) fn inner(self) -> Asked<'t> {
+    pub fn inner(self) -> Asked<'t> {
         let (call, words) = self.words.split_once(" ").unwrap_or((self.words, ""));
         Asked {
             call,
@@ -50,17 +50,17 @@ impl<'t> Asked<'t> {
     }
 
     /// One of the words, counted from 0; nothing where there are fewer.
-    pub(crate) fn word(&self, place: usize) -> &'t str {
+    pub fn word(&self, place: usize) -> &'t str {
         self.words.split_whitespace().nth(place).unwrap_or("")
     }
 
     /// One of the words as a number; 0 where it is none.
-    pub(crate) fn number(&self, place: usize) -> usize {
+    pub fn number(&self, place: usize) -> usize {
         self.word(place).parse::<usize>().unwrap_or(0)
     }
 
     /// One of the parts of what is given, counted from 0; nothing where there are fewer.
-    pub(crate) fn part(&self, place: usize) -> &'t str {
+    pub fn part(&self, place: usize) -> &'t str {
         self.given.split_whitespace().nth(place).unwrap_or("")
     }
 }

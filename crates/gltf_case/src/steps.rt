@@ -1,11 +1,11 @@
 //! Steps of walks, as words.
-use crate::told::{Written, show};
+use crate::shown::{Written, show};
 use gltf::accessor::{End, Item, Iter, Step, Walked, walk};
 use std::alloc::{AllocError, Global};
 use std::fmt::Debug;
 
 /// The steps among words: `next`, `nth:NUMBER` and `len`.
-pub(crate) fn steps_of(alloc: Global, words: &str) -> Result<Vec<Step>, AllocError> {
+pub fn steps_of(alloc: Global, words: &str) -> Result<Vec<Step>, AllocError> {
     let mut steps = Vec::new(alloc);
     for word in words.split_whitespace() {
         if let Some(step) = step_of(word) {
@@ -28,7 +28,7 @@ fn step_of(word: &str) -> Option<Step> {
 }
 
 /// The end that the last of these words names: `last`, `count`, or none.
-pub(crate) fn end_of(words: &str) -> End {
+pub fn end_of(words: &str) -> End {
     if words.ends_with("last") {
         End::Last
     } else if words.ends_with("count") {
@@ -40,7 +40,7 @@ pub(crate) fn end_of(words: &str) -> End {
 
 /// Writes what a walk over items answers; with the word `hints` each item, and before it how many
 /// are left.
-pub(crate) fn write_walk<T: Item + Debug>(
+pub fn write_walk<T: Item + Debug>(
     alloc: Global,
     words: &str,
     steps: &[Step],

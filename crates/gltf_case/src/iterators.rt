@@ -1,15 +1,15 @@
 //! Iterators over bytes that stand in a case.
 use crate::asked::Asked;
-use crate::calls::bytes_of;
-use crate::items::by_type;
+use crate::by_type;
+use crate::bytes::bytes_of;
+use crate::shown::Written;
 use crate::steps::{steps_of, write_walk};
-use crate::told::Written;
-use gltf::accessor::{F32, Item, ItemIter, Iter, SparseIndicesIter, SparseIter, Step};
+use gltf::accessor::{Item, ItemIter, Iter, SparseIndicesIter, SparseIter, Step};
 use std::alloc::Global;
 use std::fmt::Debug;
 
 /// Writes what a walk over plain items answers: `plain TYPE STRIDE STEP.. : BYTES`.
-pub(crate) fn plain(alloc: Global, asked: Asked<'_>, line: &mut String) -> Written {
+pub fn plain(alloc: Global, asked: Asked<'_>, line: &mut String) -> Written {
     let bytes = bytes_of(alloc, asked.given)?;
     plain_by(alloc, asked, &bytes, &steps_of(alloc, asked.words)?, line)
 }
@@ -62,7 +62,7 @@ struct Parts {
 
 /// Writes what a walk over sparse items answers: `sparse TYPE STEP.. : BASE WIDTH:INDICES VALUES`.
 /// Without a base there are `zeros:COUNT`, or `none`.
-pub(crate) fn sparse(alloc: Global, asked: Asked<'_>, line: &mut String) -> Written {
+pub fn sparse(alloc: Global, asked: Asked<'_>, line: &mut String) -> Written {
     let indices = asked.part(1).split_once(":").unwrap_or(("", "")).1;
     let parts = Parts {
         base: bytes_of(alloc, asked.part(0))?,
@@ -131,7 +131,7 @@ fn indices_of<'p>(word: &str, bytes: &'p [u8]) -> SparseIndicesIter<'p> {
 }
 
 /// Writes what steps over stored indices give: `indices WIDTH STEP.. : BYTES`.
-pub(crate) fn indices(alloc: Global, asked: Asked<'_>, line: &mut String) -> Written {
+pub fn indices(alloc: Global, asked: Asked<'_>, line: &mut String) -> Written {
     let bytes = bytes_of(alloc, asked.given)?;
     let (width, words) = asked.words.split_once(" ").unwrap_or(("", ""));
     write_indices(indices_of(width, &bytes), words, line)

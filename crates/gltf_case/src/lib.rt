@@ -1,0 +1,11 @@
+//! Cases: what a line asks, and what it is answered where that takes no document: texts, bytes, and
+//! walks over items. `gltf_cases` prints these, and answers calls on files.
+#![tactic(auto)]
+
+pub mod asked;
+pub mod bytes;
+pub mod iterators;
+pub mod shown;
+pub mod steps;
+pub mod texts;
+pub mod types;
