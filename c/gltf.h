@@ -2,11 +2,15 @@
  *
  *     gltf_file file = GLTF_CLOSED_FILE;
  *     gltf_accessor what;
+ *     void *items;
  *     char why[256];
- *     if (gltf_open(bytes, size, &file, why, sizeof why) != GLTF_SUCCESS) { puts(why); return 1; }
- *     if (gltf_accessor_info(&file, 0, &what) == GLTF_SUCCESS) {
- *         unsigned char *items = malloc(what.count * what.item_size);
- *         gltf_accessor_read(&file, 0, items, what.count * what.item_size);
+ *     if (gltf_open(bytes, size, &file, why, sizeof why) != GLTF_SUCCESS)
+ *         return puts(why), 1;
+ *     if (gltf_accessor_info(&file, 0, &what) == GLTF_SUCCESS
+ *         && (items = malloc(what.count * what.item_size)) != NULL) {
+ *         if (gltf_accessor_read(&file, 0, items, what.count * what.item_size) == GLTF_SUCCESS)
+ *             use(items);
+ *         free(items);
  *     }
  *     gltf_close(&file);
  *
@@ -61,11 +65,13 @@ enum {
     GLTF_SHORT_BUFFER = 6,        /* a buffer has fewer bytes than it declares */
     GLTF_MISSING_BLOB = 7,        /* a buffer has no URI, and there is no BIN chunk for it */
     GLTF_EXTERNAL_REFERENCE = 8,  /* a URI leads to another file */
-    GLTF_UNSUPPORTED_SCHEME = 9,  /* a URI has another scheme than `data`, or is no text */
+    GLTF_UNSUPPORTED_SCHEME = 9,  /* a URI has a scheme that is neither `data` nor `file`, or spells
+                                     no text */
     GLTF_INPUT_OUTPUT = 10,       /* answered by no call */
     GLTF_CLOSED = 11,             /* the file is closed */
     GLTF_NO_SUCH_INDEX = 12,      /* nothing has that index, or it has not what was asked for */
-    GLTF_UNREADABLE = 13,         /* the accessor does not fit its views, or they their buffers */
+    GLTF_UNREADABLE = 13,         /* the accessor does not fit its views, or they their buffers, as
+                                     gltf_accessor_read says it */
     GLTF_NO_ROOM = 14,            /* the items are more bytes than there is room for */
     GLTF_OUT_OF_RANGE = 15        /* the buffer ends before the bytes that were asked for */
 };
@@ -98,9 +104,12 @@ enum {
     GLTF_F32 = 5126
 };
 
-/* What an accessor is. A matrix is a column behind the other. */
+/* What an accessor is. A matrix is a column behind the other. Columns of 2 or 3 components of one
+ * byte, and of 3 of two, are padded in a file to multiples of 4 bytes (glTF 2.0, section 3.6.2.4):
+ * of these matrices the padding is read as numbers too. */
 typedef struct gltf_accessor {
-    size_t count;                /* items; of a sparse one without a view any number may stand */
+    size_t count;                /* items; of a sparse one without a view any number may stand, also
+                                    one of which count * item_size is no size_t */
     size_t item_size;            /* bytes of an item, 1 to 64: its components, with no padding */
     unsigned int component_type; /* GLTF_I8 .. GLTF_F32 */
     unsigned int components;     /* of an item: 1, 2, 3, 4, 9 or 16 */
@@ -151,16 +160,18 @@ typedef struct gltf_node {
     size_t children;         /* how many children it has: gltf_node_child gives them */
 } gltf_node;
 
-/* The members of a node that are lists of numbers. */
+/* The members of a node that are lists of numbers. Of one that is absent no number is given: it
+ * then means what stands behind `else` here. */
 enum {
-    GLTF_MATRIX = 0,      /* its place: 16 numbers, column by column; where it is absent, these: */
-    GLTF_TRANSLATION = 1, /* x, y, z in metres; 0, 0, 0 where absent */
-    GLTF_ROTATION = 2,    /* a unit quaternion x, y, z, w; 0, 0, 0, 1 where absent */
-    GLTF_SCALE = 3,       /* along x, y, z; 1, 1, 1 where absent */
-    GLTF_NODE_WEIGHTS = 4 /* of the morph targets of its mesh */
+    GLTF_MATRIX = 0,      /* its place: 16 numbers, column by column; else the next three members */
+    GLTF_TRANSLATION = 1, /* x, y, z in metres; else 0, 0, 0 */
+    GLTF_ROTATION = 2,    /* a unit quaternion x, y, z, w; else 0, 0, 0, 1 */
+    GLTF_SCALE = 3,       /* along x, y, z; else 1, 1, 1 */
+    GLTF_NODE_WEIGHTS = 4 /* of the morph targets of its mesh; else those of the mesh */
 };
 
-/* Where the bytes of an image are (glTF 2.0, section 3.8.3). */
+/* Where the bytes of an image are (glTF 2.0, section 3.8.3). No rule says that they lie in the
+ * buffer: ask for its size before room is made, or gltf_buffer_read, which refuses what does not. */
 typedef struct gltf_image {
     unsigned int has_view; /* 1 where they are in a buffer, else 0: then gltf_image_uri says it */
     size_t buffer;         /* that buffer, or 0 */
@@ -173,9 +184,11 @@ typedef struct gltf_image {
  * other file is read. What is needed is copied: the bytes may go after the call. What `file` held
  * before is let go.
  *
- * GLTF_SUCCESS exactly where container, text, records, all rules of the format and the buffers
- * hold, and there was memory: then `file` holds that document and those buffers, and no others are
- * in the bytes. Else `file` is closed, and the status is that of the first of these layers that
+ * GLTF_SUCCESS exactly where container, text, records, rules and the buffers hold, and there was
+ * memory: then `file` holds that document and those buffers, and no others are in the bytes. The
+ * rules are that indices are in range, codes are known, that which is required is there, and no
+ * extension is required that is not known; not what the format says of alignment, strides, bounds,
+ * units, and of nodes making up trees. Else `file` is closed, and the status is that of the first of these layers that
  * does not hold; then the bytes are not accepted at any other time either. Or it is GLTF_NO_MEMORY,
  * which says nothing of the bytes.
  *
@@ -199,9 +212,11 @@ gltf_status gltf_accessor_info(gltf_file *file, size_t index, gltf_accessor *out
  * section 3.6.2). What stands behind them in `out` stays.
  *
  * GLTF_CLOSED where the file is closed, else GLTF_NO_SUCH_INDEX where there is no such accessor,
- * else GLTF_UNREADABLE where its views do not hold its items, or it has neither a view nor sparse
- * values, else GLTF_NO_ROOM where these are more than `out_size` bytes, else GLTF_SUCCESS; each
- * exactly there. */
+ * else GLTF_UNREADABLE where it has neither a view nor sparse values, or where one of its parts,
+ * items, stored indices or sparse values, has a count of 0, a view that does not lie in its buffer
+ * or does not hold the part, or a byteStride above 0 and below the part's item size; else
+ * GLTF_NO_ROOM where the items are more than `out_size` bytes, else GLTF_SUCCESS; each exactly
+ * there. */
 gltf_status gltf_accessor_read(gltf_file *file, size_t index, void *out, size_t out_size);
 
 /* How many bytes buffer `index` has: a multiple of 4, at least as many as it declares, filled up
