@@ -10,7 +10,7 @@ use Rattle.gltf_buffers.specs.declared.data.Data.{Data}
 use Rattle.gltf_buffers.specs.Errors.{IsUnanswered}
 use Rattle.gltf_buffers.specs.Names.{Names, Nowhere, Anywhere, Held, AreKnown, Gives, names_of}
 use Rattle.gltf.specs.Files.{FailsOrRefuses, AcceptsFile, RefusesFileAt, IsOnlyFile}
-use Rattle.gltf.specs.Files.{IsNotAcceptedFile, IsNoFailure}
+use Rattle.gltf.specs.Files.{IsNotAcceptedFile, IsNotIo}
 use Rattle.gltf.specs.Import.{AcceptsWith, IsOnlyImportWith, IsNotAcceptedWith}
 use Rattle.gltf.specs.Shown.{bytes_of_each}
 
@@ -53,8 +53,8 @@ not_file names path bytes known gives exact s buffers file =
 
 pub err_not_file : {T : Type 0} (names : Names) (path bytes : List ℕ) (result : Result T Error)
     → AreKnown names → Gives names (File path) bytes
-    → IfErr result (λ e. e ≢ error.Memory → IsNoFailure e → IsNotAcceptedWith names bytes)
-    → IfErr result (λ e. e ≢ error.Memory → IsNoFailure e → IsNotAcceptedFile names path)
+    → IfErr result (λ e. e ≢ error.Memory → IsNotIo e → IsNotAcceptedWith names bytes)
+    → IfErr result (λ e. e ≢ error.Memory → IsNotIo e → IsNotAcceptedFile names path)
 err_not_file names path bytes (Ok x) known gives exact = tt
 err_not_file names path bytes (Err e) known gives exact = λ other fine.
     not_file names path bytes known gives (exact other fine)
@@ -74,7 +74,7 @@ not_nowhere (Some holds) e = cc
 -- a path that was not answered failed, or there was not enough memory
 pub path_failed : (held : Option (Named → Option (List ℕ))) (path : List ℕ)
     (old new : List Named) (e : Error) → IsUnanswered (names_of held) (File path) old new e
-    → e ≢ error.Memory → IsNoFailure e → IsNotAcceptedFile (names_of held) path
+    → e ≢ error.Memory → IsNotIo e → IsNotAcceptedFile (names_of held) path
 path_failed held path old new (error.Io cause) told other fine = absurd fine
 path_failed held path old new error.Memory told other fine = absurd (other refl)
 path_failed held path old new error.ExternalReferenceInSliceImport told other fine =

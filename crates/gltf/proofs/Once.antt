@@ -21,7 +21,7 @@ use Rattle.gltf_buffers.specs.Buffers.{HasBufferFault, IsAskedFor}
 use Rattle.gltf_buffers.specs.Errors.{FailsOrNames}
 use Rattle.gltf_buffers.specs.ErrorLaws.{named_fault}
 use Rattle.gltf_buffers.specs.Names.{Names, Nowhere, Anywhere, Held, AreKnown, MayBeGiven, name_of}
-use Rattle.gltf.specs.Files.{IsNoFailure}
+use Rattle.gltf.specs.Files.{IsNotIo}
 use Rattle.gltf.specs.Import.{IsOnlyDocument, AcceptsWith, IsOnlyImportWith, IsNotAcceptedWith}
 
 -- ---- what documents that show the same say of their buffers
@@ -94,7 +94,7 @@ no_fault names sources blob buffers fault known all wrong =
     cc
 
 none_fails : (P : BufferFault → Type 0) (Q : Named → Type 0) (old new : List Named) (e : Error)
-    → ((fault : BufferFault) → P fault → ⊥) → e ≢ error.Memory → IsNoFailure e
+    → ((fault : BufferFault) → P fault → ⊥) → e ≢ error.Memory → IsNotIo e
     → FailsOrNames P Q old new e → ⊥
 none_fails P Q old new (error.Io cause) none other fine told = fine
 none_fails P Q old new error.Memory none other fine told = other refl
@@ -153,7 +153,7 @@ pub not_accepted : (names : Names) (bytes : List ℕ) (r : Root) (blob : Option 
     (old new : List Named) (e : Error) → Alike → AreKnown names → IsOnlyDocument bytes r blob
     → FailsOrNames (HasBufferFault names (sources_of r) blob)
     (IsAskedFor names (sources_of r) blob) old new e
-    → e ≢ error.Memory → IsNoFailure e → IsNotAcceptedWith names bytes
+    → e ≢ error.Memory → IsNotIo e → IsNotAcceptedWith names bytes
 not_accepted names bytes r blob old new e alike known only fails other fine s buffers accepted =
     let also = also_read names bytes r s blob buffers alike only accepted in
     none_fails (HasBufferFault names (sources_of r) blob) (IsAskedFor names (sources_of r) blob)

@@ -12,7 +12,7 @@ use Rattle.gltf_buffers.specs.Buffers.{sources_of, AreBytes, HasBufferFault, IsA
 use Rattle.gltf_buffers.specs.Errors.{FailsOrNames}
 use Rattle.gltf_buffers.specs.Names.{Names, Nowhere, AreKnown}
 use Rattle.gltf.specs.Errors.{OutOfMemoryOr}
-use Rattle.gltf.specs.Files.{FailsOrRefuses, IsNoFailure}
+use Rattle.gltf.specs.Files.{FailsOrRefuses, IsNotIo}
 use Rattle.gltf.specs.Import.{IsValidDocument, IsOnlyDocument, AcceptsWith, IsOnlyImportWith}
 use Rattle.gltf.specs.Import.{RefusesDocument, RefusesImport, IsNotAcceptedWith, IsNotAccepted}
 use Rattle.gltf.specs.Shown.{bytes_of_each}
@@ -88,7 +88,7 @@ pub err_exact : {T : Type 0} (names : Names) (bytes : List ℕ) (r : Root)
     (blob : Option (List ℕ)) (old new : List Named) (result : Result T Error) → Alike
     → AreKnown names → IsOnlyDocument bytes r blob
     → IfErr result (FailsWith names r blob old new)
-    → IfErr result (λ e. e ≢ error.Memory → IsNoFailure e → IsNotAcceptedWith names bytes)
+    → IfErr result (λ e. e ≢ error.Memory → IsNotIo e → IsNotAcceptedWith names bytes)
 err_exact names bytes r blob old new (Ok x) alike known only told = tt
 err_exact names bytes r blob old new (Err e) alike known only told =
     λ other fine. not_accepted names bytes r blob old new e alike known only told other fine
@@ -115,6 +115,6 @@ nowhere_exact bytes r blob old new (Ok x) alike only told = tt
 nowhere_exact bytes r blob old new (Err e) alike only told = λ other.
     not_accepted Nowhere bytes r blob old new e alike tt only told other (fine e told)
   where
-    fine : (e : Error) → FailsWith Nowhere r blob old new e → IsNoFailure e
+    fine : (e : Error) → FailsWith Nowhere r blob old new e → IsNotIo e
     fine (error.Io cause) told = absurd told.1.leads.0
     fine e told = tt

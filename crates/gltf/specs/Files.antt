@@ -59,9 +59,9 @@ IsNotAcceptedFile names path =
     (s : Root) (buffers : List (List ℕ)) → AcceptsFile names path s buffers → ⊥
 
 -- the error is not that a source failed
-abbrev pub IsNoFailure : Error → Type 0
-IsNoFailure (Io cause) = ⊥
-IsNoFailure _ = ⊤
+abbrev pub IsNotIo : Error → Type 0
+IsNotIo (Io cause) = ⊥
+IsNotIo _ = ⊤
 
 -- what is known of the names of files: they can be asked for where there is a base
 abbrev pub names_behind : {A : Type 0} → Option A → Names

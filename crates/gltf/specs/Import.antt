@@ -1,5 +1,6 @@
 -- Which bytes are accepted, and what is wrong with the others. Five layers decide, one after the
--- other: the container, the JSON text, the records, the rules and the buffers.
+-- other: the container (glTF 2.0, section 4.4), the JSON text (section 2.7), the records (section
+-- 5), the rules between them (sections 3 and 5) and the buffers (section 3.6.1).
 use Rattle.std.specs.Prelude.{◌≡◌, ◌≢◌, ◌⊎◌, ℕ, List, [], length, true, nat_eq, MatchBool, Option}
 use Rattle.std.specs.Prelude.{None, Err}
 use Rattle.std.specs.List.{starts_with}

@@ -1,4 +1,5 @@
--- What a file out of a reader is: the bytes that came decide.
+-- What a file out of a reader is: the bytes that came decide (glTF 2.0, section 4.4, of a
+-- container).
 use Rattle.std.specs.Prelude.{◌≡◌, ◌≤◌, ◌<◌, ◌⊎◌, ℕ, List, length, Option, true, false, nat_eq, ⊤}
 use Rattle.std.specs.Prelude.{MatchBool}
 use Rattle.std.specs.Io.KnownBytes.{Consumes, IsAtEnd}
@@ -30,10 +31,10 @@ abbrev pub IsNoContainer : List ℕ → Type 0
 IsNoContainer came = (length came < 4) ⊎ (starts_with nat_eq came magic ≡ false)
 
 -- the reader failed or ended too early, or there was not enough memory
-abbrev pub IsFailure : Error → Type 0
-IsFailure (Io cause) = ⊤
-IsFailure Memory = ⊤
-IsFailure _ = ⊥
+abbrev pub IsIoOrMemory : Error → Type 0
+IsIoOrMemory (Io cause) = ⊤
+IsIoOrMemory Memory = ⊤
+IsIoOrMemory _ = ⊥
 
 -- why no more bytes came, or the fault of the container that they are
 abbrev pub StopsReading : List ℕ → Error → Type 0

@@ -5,7 +5,7 @@ ghost use Rattle.gltf_glb.specs.declared.error.Error.TheVariants.{Memory};
 ghost use Rattle.gltf_names.specs.Named.{Named};
 ghost use Rattle.gltf.specs.Errors.{OutOfMemoryOr};
 ghost use Rattle.gltf.specs.Files.{AcceptsFile, RefusesFileAt, IsOnlyFile, IsNotAcceptedFile};
-ghost use Rattle.gltf.specs.Files.{IsNoFailure, IsBaseOf};
+ghost use Rattle.gltf.specs.Files.{IsNotIo, IsBaseOf};
 ghost use Rattle.gltf.specs.Import.{Accepts, RefusesImport, IsOnlyImport, IsNotAccepted};
 ghost use Rattle.gltf.specs.Shown.{bytes_of_each};
 
@@ -28,8 +28,9 @@ use std::rt::HostRuntime;
 /// where they begin with `glTF`, else JSON text (glTF 2.0, sections 2.8, 3.6.1 and 4.4).
 ///
 /// The bytes are accepted exactly where the container, the text, the records, the rules and the
-/// buffers hold; the error is that of the first of these that does not. No name is asked for: a URI
-/// that leads outside is [`gltf_glb::Error::ExternalReferenceInSliceImport`].
+/// buffers hold; the error is that of the first of these that does not, or
+/// [`gltf_glb::Error::Memory`], which says nothing of the bytes. No name is asked for: a URI that
+/// leads outside is [`gltf_glb::Error::ExternalReferenceInSliceImport`].
 pub fn import_slice(alloc: Global, bytes: &[u8]) -> Result<(Document, Vec<Data>)>
     ensures accepted { IfOk result (λ read. Accepts bytes.now read.0
         (bytes_of_each read.1.items)) }
@@ -65,7 +66,7 @@ pub fn import_from<S: NamedBytes>(
     ensures refused { IfErr result (RefusesFileAt (names_of (S.bytes_by_name source.old)) path.now
         (S.failures source.old) (S.failures source.new)) }
     ensures exact { AreKnown (names_of (S.bytes_by_name source.old)) → IfErr result (λ e.
-        e ≢ Memory → IsNoFailure e
+        e ≢ Memory → IsNotIo e
         → IsNotAcceptedFile (names_of (S.bytes_by_name source.old)) path.now) }
     ensures fine { OnOk result (S.failures source.new ≡ S.failures source.old) }
     ensures kept { names_of (S.bytes_by_name source.new) ≡ names_of (S.bytes_by_name source.old) }

@@ -1,6 +1,7 @@
 //! glTF 2.0, loaded, checked and proved: after the Rust crate `gltf`.
 #![tactic(auto)]
 
+pub mod binary;
 pub mod buffer;
 mod document;
 mod file;
@@ -20,7 +21,7 @@ pub use camera::Camera;
 pub use document::{Document, RawDocument};
 pub use file::{Gltf, RawGltf};
 pub use gltf_data::{accessor, list};
-pub use gltf_glb::{Error, Glb, Result, binary};
+pub use gltf_glb::{Error, Glb, Result};
 pub use gltf_look::{camera, image, khr_lights_punctual};
 pub use gltf_material::material;
 pub use gltf_names::{Folder, Name, NamedBytes, NamedFault, Shelf};

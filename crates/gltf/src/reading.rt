@@ -12,7 +12,7 @@ ghost use Rattle.gltf.specs.Errors.{OutOfMemoryOr};
 ghost use Rattle.gltf.specs.Import.{AreParts, IsDocument, IsValidDocument, IsOnlyDocument};
 ghost use Rattle.gltf.specs.Import.{IsNoDocument, IsNoValidDocument, RefusesContainer};
 ghost use Rattle.gltf.specs.Import.{RefusesRecords, RefusesDocument};
-ghost use Rattle.gltf.specs.Reader.{IsAllThatCounts, StopsReading, IsFailure};
+ghost use Rattle.gltf.specs.Reader.{IsAllThatCounts, StopsReading, IsIoOrMemory};
 ghost use Rattle.gltf.specs.Shown.{blob_bytes};
 
 use crate::document::{Document, RawDocument};
@@ -52,7 +52,7 @@ pub(crate) fn read_file<R: Read>(reader: &mut R, bytes: &mut Vec<u8>) -> Result<
 
 /// Why no more bytes came, outside of a container.
 fn failure_of(fault: ReadFault) -> Error
-    ensures { IsFailure result }
+    ensures { IsIoOrMemory result }
 {
     match fault {
         ReadFault::Ended => Error::Io(io::Error::new(

@@ -2,7 +2,7 @@
 use crate::containers::container;
 use crate::refused::write_error;
 use crate::told::tell;
-use crate::{broken, documents, files, imported, items};
+use crate::{broken, documents, files, imported, items, streamed};
 use gltf::Glb;
 use gltf_case::asked::Asked;
 use gltf_case::bytes::{bytes_of, write_hex};
@@ -62,6 +62,8 @@ fn of_container(alloc: Global, asked: Asked<'_>, line: &mut String) -> Written {
 /// - `root MEMBER`: the records of a text; `document` the same, validated.
 /// - `file MEMBER`, `records MEMBER`: the document of a file, with the rules and without.
 /// - `read TYPE INDEX`: the items of an accessor.
+/// - `streamed glb`, `streamed records MEMBER`, `streamed file MEMBER`: the same as those calls, by
+///   a reader that gives a byte a call.
 /// - `over TYPE`: those of the first accessor, where each buffer has the bytes of the blob.
 /// - `each`: what several calls tell, where they tell the same.
 /// - `repack`: the bytes that a file is repacked to.
@@ -91,6 +93,7 @@ fn of_one(alloc: Global, asked: Asked<'_>, bytes: &[u8], line: &mut String) -> W
         "document" => documents::tell_document(alloc, asked, bytes, line),
         "records" => documents::tell_records(alloc, asked, bytes, line),
         "read" => items::read(alloc, asked, bytes, line),
+        "streamed" => streamed::tell_streamed(alloc, asked.inner(), bytes, line),
         "import" | "check" | "walk" | "readers" | "cast" => {
             imported::tell_import(alloc, asked, bytes, line)
         }

@@ -13,6 +13,7 @@ mod lists;
 mod members;
 mod reads;
 mod refused;
+mod streamed;
 mod told;
 
 use gltf::Error;

@@ -2,7 +2,7 @@
 use crate::lists::first_primitive;
 use gltf::animation::Channel;
 use gltf::animation::iter::Channels;
-use gltf::buffer::Data;
+use gltf::buffer::{Data, bytes_of};
 use gltf::{Buffer, Document, animation, mesh, skin};
 use gltf_case::asked::Asked;
 use gltf_case::shown::Written;
@@ -158,10 +158,4 @@ fn write_attribute_casts<'s, F: Fn(Buffer) -> Option<&'s [u8]>>(
 /// The first channel of the first animation.
 fn first_channel(document: &Document) -> Option<Channel<'_>> {
     document.animations().nth(0)?.channels().nth(0)
-}
-
-/// The bytes of a buffer, among those of all.
-fn bytes_of<'s>(buffers: &'s [Data], buffer: Buffer) -> Option<&'s [u8]> {
-    let data = buffers.get(buffer.index())?;
-    Some(data.0.as_slice())
 }

@@ -10,7 +10,7 @@ pub(crate) fn write_error(asked: Asked<'_>, error: &Error, line: &mut String) ->
         Error::Base64(_) => line.push_str("payload refused"),
         Error::Deserialize(json::Error::Text(_)) => line.push_str("no JSON"),
         Error::Binary(binary::Error::Io(_)) => line.push_str("container ends early"),
-        Error::Io(_) => line.push_str("not to be written"),
+        Error::Io(_) => line.push_str("neither read nor written"),
         Error::Binary(fault) if asked.call == "glb" || asked.call == "repack" => {
             write!(line, "{fault:?}: {error}")
         }

@@ -1,7 +1,7 @@
 //! The indices of a primitive.
 use crate::call::Place;
 use crate::refusal::Refusal;
-use gltf::buffer::Data;
+use gltf::buffer::{Data, bytes_of};
 use gltf::mesh::Reader;
 use gltf::mesh::util::ReadIndices;
 use gltf::mesh::util::indices::{CastingIter, U32};
@@ -34,12 +34,6 @@ fn indices_at<'s>(
     Reader::new(&primitive, &bytes)
         .read_indices()
         .ok_or(Refusal::NoIndices)
-}
-
-/// The bytes of a buffer, among those of all.
-fn bytes_of<'s>(buffers: &'s [Data], buffer: Buffer) -> Option<&'s [u8]> {
-    let data = buffers.get(buffer.index())?;
-    Some(data.0.as_slice())
 }
 
 /// Writes a line for each index.

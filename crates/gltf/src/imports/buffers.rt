@@ -40,7 +40,8 @@ pub(crate) fn with_buffers<N: Ask>(
 /// 2.0, section 3.6.1). Names are asked of `names`, where it is there.
 ///
 /// The error is that of the first buffer that has one: that of [`Data::from_source_and_blob`], or
-/// [`gltf_glb::Error::BufferLength`] where there are fewer bytes than the buffer declares.
+/// [`gltf_glb::Error::BufferLength`] where there are fewer bytes than the buffer declares; or
+/// [`gltf_glb::Error::Memory`].
 pub fn import_buffers_from<S: NamedBytes>(
     alloc: Global,
     document: &Document,

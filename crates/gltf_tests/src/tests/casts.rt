@@ -23,6 +23,7 @@ fn cast_items_are_taken_from_either_end(rt: HostRuntime) {
     assert_eq!(rt; (cast.take_last(), cast.len()), (Some(9), 0));
     assert_eq!(rt; (cast.take_last(), cast.next()), (None, None));
     assert_eq!(rt; (replaced().last(), replaced().count()), (Some(9), 4));
+    assert_eq!(rt; replaced().nth(usize::MAX), None);
 }
 
 #[test]

@@ -1,5 +1,5 @@
 //! Records that are read, taken, given back and changed in code, and the paths of their members.
-use crate::tests::texts::{TWO_NODES, TWO_REPLACED, printed, printed_last, records};
+use crate::tests::texts::{ONE_BUFFER, TWO_NODES, TWO_REPLACED, printed, printed_last, records};
 use gltf::json::accessor::ComponentType;
 use gltf::json::path::{Path, Step};
 use gltf::json::validation::Checked;
@@ -23,7 +23,7 @@ fn records_read_from_a_value_are_those_of_its_text(rt: HostRuntime) -> Result<()
 
 #[test]
 fn a_valid_document_is_lent_and_given_back_as_it_was(rt: HostRuntime) -> Result<(), Fail> {
-    for text in [TWO_REPLACED, TWO_NODES] {
+    for text in [TWO_REPLACED, ONE_BUFFER] {
         let before = printed_last(rt.alloc(), records(rt.alloc(), text)?)?;
         let valid = Valid::new(rt.alloc(), records(rt.alloc(), text)?)?;
         let (lent, after) = lent_and_given_back(rt.alloc(), valid)?;
@@ -57,19 +57,19 @@ fn compare_node(rt: &impl Abort, valid: &Valid) {
 
 #[test]
 fn a_document_is_made_of_records_and_gives_them_back(rt: HostRuntime) -> Result<(), Fail> {
-    let root = records(rt.alloc(), TWO_NODES)?;
+    let root = records(rt.alloc(), ONE_BUFFER)?;
     let root = Document::from_json(rt.alloc(), root)?.into_json();
-    assert_eq!(rt; root.nodes.len(), 2);
+    assert_eq!(rt; root.buffers.len(), 1);
     let document = Document::from_json_without_validation(root);
     compare_raw(&rt, rt.alloc(), &document);
-    assert_eq!(rt; document.into_json().nodes.len(), 2);
+    assert_eq!(rt; document.into_json().buffers.len(), 1);
     Ok(())
 }
 
 /// A document that nobody has checked and that breaks no rule.
 fn compare_raw(rt: &impl Abort, alloc: Global, document: &RawDocument) {
     assert!(rt; document.validate(alloc).is_ok());
-    assert_eq!(rt; document.as_json().nodes.len(), 2);
+    assert_eq!(rt; document.as_json().buffers.len(), 1);
 }
 
 #[test]

@@ -1,7 +1,7 @@
 //! Containers and documents out of readers, and containers into writers, where these are slow or
 //! fail. A failure is not passed over: no call that failed is tried again.
 use crate::tests::devices::{Sink, Source};
-use crate::tests::texts::{TWO_NODES, TWO_NUMBERS, container};
+use crate::tests::texts::{ONE_BUFFER, TWO_NODES, container};
 use gltf::{Error, Glb, Gltf, binary};
 use std::alloc::Global;
 use std::borrow::CowSlice;
@@ -106,15 +106,21 @@ fn a_writer_holds_a_beginning_where_it_failed(rt: HostRuntime) -> Result<(), Fai
     let mut sink = Sink::of(rt.alloc(), 0);
     assert!(rt; matches!(glb.to_writer(&mut sink), Err(Error::Io(_))));
     assert!(rt; sink.taken.is_empty());
+    let mut sink = Sink::of(rt.alloc(), 1);
+    glb.to_writer(&mut sink)?;
+    assert_eq!(rt; sink.taken.as_slice(), SHORT);
     Ok(())
 }
 
 #[test]
 fn a_reader_gives_a_document_and_its_blob(rt: HostRuntime) -> Result<(), Fail> {
     for most in [1, 3, 100] {
-        let mut source = Source::of(TWO_NUMBERS.as_bytes(), most);
+        let mut source = Source::of(ONE_BUFFER.as_bytes(), most);
         let file = Gltf::from_reader(rt.alloc(), &mut source)?;
         assert!(rt; file.buffers().len() == 1 && file.blob.is_none());
+        let mut source = Source::of(ONE_BUFFER.as_bytes(), most);
+        let raw = Gltf::from_reader_without_validation(rt.alloc(), &mut source)?;
+        assert!(rt; raw.document.as_json().buffers.len() == 1 && raw.blob.is_none());
         let bytes = container(rt.alloc(), TWO_NODES)?;
         let mut source = Source::of(&bytes, most);
         let file = Gltf::from_reader(rt.alloc(), &mut source)?;
@@ -138,13 +144,21 @@ fn a_text_is_no_document_where_its_reader_fails(rt: HostRuntime) {
     fails(&rt, rt.alloc(), &mut Source::of(b"", 1));
     fails(&rt, rt.alloc(), &mut Source::of(b"{}", 1));
     let text = TWO_NODES.as_bytes();
-    for at in [0, 3, 4, 5, text.len()] {
+    for at in 0..text.len() {
         for kind in KINDS {
             let mut source = Source::failing(text, at, kind);
             fails(&rt, rt.alloc(), &mut source);
             assert_eq!(rt; source.given, at);
+            let mut source = Source::failing(text, at, kind);
+            let raw = Gltf::from_reader_without_validation(rt.alloc(), &mut source);
+            assert!(rt; matches!(raw, Err(Error::Io(_))));
         }
     }
+    fails(
+        &rt,
+        rt.alloc(),
+        &mut Source::failing(text, text.len(), io::ErrorKind::Other),
+    );
     let mut source = Source::of(b"{} ]", 1);
     let answer = Gltf::from_reader(rt.alloc(), &mut source);
     assert!(rt; matches!(answer, Err(Error::Deserialize(_))));
@@ -152,7 +166,7 @@ fn a_text_is_no_document_where_its_reader_fails(rt: HostRuntime) {
 
 #[test]
 fn a_document_is_opened_by_its_path(rt: HostRuntime) -> Result<(), Fail> {
-    fs::write(&rt, "opened.gltf", TWO_NUMBERS.as_bytes())?;
+    fs::write(&rt, "opened.gltf", ONE_BUFFER.as_bytes())?;
     let file = Gltf::open(&rt, rt.alloc(), "opened.gltf")?;
     assert!(rt; file.buffers().len() == 1 && file.blob.is_none());
     fs::remove_file(&rt, "opened.gltf")?;

@@ -38,6 +38,14 @@ pub(crate) const THREE_BUFFERS: &str =
         "sparse":{"count":2,"indices":{"bufferView":1,"componentType":5121},
         "values":{"bufferView":2}}}]}"#;
 
+/// A buffer of the bytes 0, 1, 2 and one behind them that its payload lacks.
+pub(crate) const ONE_BUFFER: &str = r#"{"asset":{"version":"2.0"},
+        "buffers":[{"byteLength":4,"uri":"data:application/octet-stream;base64,AAEC"}]}"#;
+
+/// A buffer of three bytes in a file beside.
+pub(crate) const BESIDE: &str =
+    r#"{"asset":{"version":"2.0"},"buffers":[{"byteLength":3,"uri":"b.bin"}]}"#;
+
 /// Two nodes with names.
 pub(crate) const TWO_NODES: &str =
     r#"{"asset":{"version":"2.0"},"nodes":[{"name":"a"},{"name":"b"}]}"#;
