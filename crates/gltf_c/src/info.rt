@@ -8,21 +8,34 @@ ghost use Rattle.gltf_c.specs.Info.{component_number};
 use crate::file::File;
 use gltf::accessor::{Accessor, DataType};
 
-/// A kind of records.
+/// A kind of records that the root lists (glTF 2.0, section 5.17).
 #[derive(Clone, Copy, Debug, PartialEq, Eq)]
 pub enum Kind {
+    /// Buffers (section 5.10).
     Buffers,
+    /// Views of buffers (section 5.11).
     BufferViews,
+    /// Accessors (section 5.1).
     Accessors,
+    /// Meshes (section 5.23).
     Meshes,
+    /// Nodes (section 5.25).
     Nodes,
+    /// Materials (section 5.19).
     Materials,
+    /// Scenes (section 5.27).
     Scenes,
+    /// Skins (section 5.28).
     Skins,
+    /// Animations (section 5.5).
     Animations,
+    /// Images (section 5.18).
     Images,
+    /// Textures (section 5.29).
     Textures,
+    /// Samplers (section 5.26).
     Samplers,
+    /// Cameras (section 5.12).
     Cameras,
 }
 

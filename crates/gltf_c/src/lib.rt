@@ -57,8 +57,9 @@ macro_rules! answer {
 /// 2.0, sections 2.8, 3.6.1 and 4.4). A copy is made of what is needed. What `file` held is let go.
 ///
 /// Answers 0 where the bytes are accepted, and then `file` holds their document and buffers; else
-/// `file` is closed, and the number is that of the layer at fault. `message` is given the error's
-/// text, or none.
+/// `file` is closed, and the number is that of the first layer at fault, from
+/// [`Status::BadContainer`] to [`Status::UnsupportedScheme`], or [`Status::NoMemory`]. `message` is
+/// given the error's text or an empty one, cut to its room, with a zero byte behind it.
 #[unsafe(no_mangle)]
 pub extern "C" fn gltf_open(
     alloc: Global,
@@ -90,7 +91,7 @@ pub extern "C" fn gltf_close(alloc: Global, file: &mut GltfFile)
     handle::take(alloc, file);
 }
 
-/// How many records of a kind there are; none in a closed file, nor of a kind that has no number.
+/// How many records of a kind there are; none in a closed file, nor of a number that has no kind.
 #[unsafe(no_mangle)]
 pub extern "C" fn gltf_count(alloc: Global, file: &mut GltfFile, kind: u32) -> usize
     ensures same { file.new.value ≡ file.old.value }
@@ -107,7 +108,9 @@ pub extern "C" fn gltf_count(alloc: Global, file: &mut GltfFile, kind: u32) -> u
     count
 }
 
-/// What the accessor at an index is.
+/// What the accessor at an index is (glTF 2.0, section 5.1). As each call below, it answers the
+/// number of a [`Status`], and one that is not 0 leaves all as it was: [`Status::Closed`], or
+/// [`Status::NoSuchIndex`] where there is no such accessor.
 #[unsafe(no_mangle)]
 pub extern "C" fn gltf_accessor_info(
     alloc: Global,
@@ -121,7 +124,11 @@ pub extern "C" fn gltf_accessor_info(
     answer!(alloc, file, held => give(info::accessor(&held, index), out))
 }
 
-/// The items of the accessor at an index, one behind the other, with the sparse overrides.
+/// The items of the accessor at an index as bytes, one behind the other, with the sparse overrides
+/// (glTF 2.0, section 3.6.2), at the front of the room.
+///
+/// [`Status::Closed`]; [`Status::NoSuchIndex`]; [`Status::Unreadable`] where the accessor cannot be
+/// read over the buffers; [`Status::NoRoom`] where there are more bytes than room.
 #[unsafe(no_mangle)]
 pub extern "C" fn gltf_accessor_read(
     alloc: Global,
@@ -135,7 +142,8 @@ pub extern "C" fn gltf_accessor_read(
     answer!(alloc, file, held => read::read(&held, index, out))
 }
 
-/// How many bytes the buffer at an index has, with the zeros behind them.
+/// How many bytes the buffer at an index has, with the zeros behind them. [`Status::Closed`] or
+/// [`Status::NoSuchIndex`].
 #[unsafe(no_mangle)]
 pub extern "C" fn gltf_buffer_size(
     alloc: Global,
@@ -149,7 +157,8 @@ pub extern "C" fn gltf_buffer_size(
     answer!(alloc, file, held => give(read::size(&held, index), out))
 }
 
-/// As many bytes of the buffer at an index as there is room for, from an offset on.
+/// Fills the room with the bytes of the buffer at an index, from an offset on. [`Status::Closed`],
+/// [`Status::NoSuchIndex`], or [`Status::OutOfRange`] where the buffer has not so many.
 #[unsafe(no_mangle)]
 pub extern "C" fn gltf_buffer_read(
     alloc: Global,
@@ -164,7 +173,7 @@ pub extern "C" fn gltf_buffer_read(
     answer!(alloc, file, held => read::copy(&held, index, offset, out))
 }
 
-/// How many primitives the mesh at an index has.
+/// How many primitives the mesh at an index has. [`Status::Closed`] or [`Status::NoSuchIndex`].
 #[unsafe(no_mangle)]
 pub extern "C" fn gltf_primitive_count(
     alloc: Global,
@@ -178,7 +187,8 @@ pub extern "C" fn gltf_primitive_count(
     answer!(alloc, file, held => give(primitives::count(&held, mesh), out))
 }
 
-/// What a primitive of a mesh is (glTF 2.0, section 5.24).
+/// What a primitive of a mesh is (glTF 2.0, section 5.24). [`Status::Closed`], or
+/// [`Status::NoSuchIndex`] where there is no such mesh, or no such primitive in it.
 #[unsafe(no_mangle)]
 pub extern "C" fn gltf_primitive_info(
     alloc: Global,
@@ -194,7 +204,9 @@ pub extern "C" fn gltf_primitive_info(
     answer!(alloc, file, held => give(primitives::shown(&held, mesh, primitive), out))
 }
 
-/// The accessor of an attribute of a primitive (glTF 2.0, section 3.7.2.1).
+/// The index of the accessor of an attribute of a primitive, by the number of its meaning and that
+/// of its set (glTF 2.0, section 3.7.2.1). [`Status::Closed`], or [`Status::NoSuchIndex`] where
+/// there is no such mesh, primitive, meaning or attribute.
 #[unsafe(no_mangle)]
 pub extern "C" fn gltf_attribute(
     alloc: Global,
@@ -214,7 +226,8 @@ pub extern "C" fn gltf_attribute(
     })
 }
 
-/// What the node at an index is (glTF 2.0, section 5.25).
+/// What the node at an index is (glTF 2.0, section 5.25). [`Status::Closed`] or
+/// [`Status::NoSuchIndex`].
 #[unsafe(no_mangle)]
 pub extern "C" fn gltf_node_info(
     alloc: Global,
@@ -228,7 +241,8 @@ pub extern "C" fn gltf_node_info(
     answer!(alloc, file, held => give(nodes::shown(&held, index), out))
 }
 
-/// The child of a node at a position among its children.
+/// The index of the child of a node at a position among its children. [`Status::Closed`], or
+/// [`Status::NoSuchIndex`] where there is no such node, or it has not so many.
 #[unsafe(no_mangle)]
 pub extern "C" fn gltf_node_child(
     alloc: Global,
@@ -243,8 +257,9 @@ pub extern "C" fn gltf_node_child(
     answer!(alloc, file, held => give(nodes::child(&held, node, position), out))
 }
 
-/// The number at a position of a member of a node: its matrix, translation, rotation, scale or
-/// weights (glTF 2.0, section 3.5.3).
+/// The number at a position of a member of a node, its matrix, translation, rotation, scale or
+/// weights (glTF 2.0, section 3.5.3), as the nearest double. [`Status::Closed`], or
+/// [`Status::NoSuchIndex`] where there is no such node, member or position.
 #[unsafe(no_mangle)]
 pub extern "C" fn gltf_node_number(
     alloc: Global,
@@ -261,7 +276,9 @@ pub extern "C" fn gltf_node_number(
     answer!(alloc, file, held => give(nodes::number(&held, node, member, position), out))
 }
 
-/// The node of a scene at a position among its root nodes (glTF 2.0, section 5.27).
+/// The index of the node of a scene at a position among its root nodes (glTF 2.0, section 5.27).
+/// [`Status::Closed`], or [`Status::NoSuchIndex`] where there is no such scene, or it has not so
+/// many.
 #[unsafe(no_mangle)]
 pub extern "C" fn gltf_scene_node(
     alloc: Global,
@@ -276,7 +293,9 @@ pub extern "C" fn gltf_scene_node(
     answer!(alloc, file, held => give(nodes::scene_node(&held, scene, position), out))
 }
 
-/// Where the bytes of the image at an index are (glTF 2.0, section 3.8.3).
+/// Where the bytes of the image at an index are (glTF 2.0, section 3.8.3): in which buffer, from
+/// which offset on, and how many, as the document says it. [`Status::Closed`] or
+/// [`Status::NoSuchIndex`].
 #[unsafe(no_mangle)]
 pub extern "C" fn gltf_image_info(
     alloc: Global,
@@ -290,7 +309,9 @@ pub extern "C" fn gltf_image_info(
     answer!(alloc, file, held => give(images::shown(&held, index), out))
 }
 
-/// The URI of the image at an index, where it has one.
+/// The URI of the image at an index (glTF 2.0, section 5.18.1): as much of it as there is room for
+/// before a zero byte, and the length of the whole. [`Status::Closed`], or [`Status::NoSuchIndex`]
+/// where there is no such image, or it has none.
 #[unsafe(no_mangle)]
 pub extern "C" fn gltf_image_uri(
     alloc: Global,
@@ -306,7 +327,8 @@ pub extern "C" fn gltf_image_uri(
     answer!(alloc, file, held => give_text(images::uri(&held, index), text, length))
 }
 
-/// The media type of the image at an index, where it has one.
+/// The media type of the image at an index (glTF 2.0, section 5.18.2), as [`gltf_image_uri`] gives
+/// the URI.
 #[unsafe(no_mangle)]
 pub extern "C" fn gltf_image_mime_type(
     alloc: Global,
@@ -322,7 +344,8 @@ pub extern "C" fn gltf_image_mime_type(
     answer!(alloc, file, held => give_text(images::mime_type(&held, index), text, length))
 }
 
-/// The name of the record of a kind at an index, where it has one.
+/// The name of the record of a kind at an index, as [`gltf_image_uri`] gives a URI.
+/// [`Status::NoSuchIndex`] is answered for a number that has no kind too.
 #[unsafe(no_mangle)]
 pub extern "C" fn gltf_name(
     alloc: Global,

@@ -30,13 +30,18 @@ pub struct GltfNode {
     pub children: usize,
 }
 
-/// A member of a node that is a list of numbers.
+/// A member of a node that is a list of numbers (glTF 2.0, section 5.25).
 #[derive(Clone, Copy, Debug, PartialEq, Eq)]
 pub enum Member {
+    /// Its place, column by column: 16 numbers.
     Matrix,
+    /// Its place, in metres: x, y, z.
     Translation,
+    /// How it is turned, as a quaternion: x, y, z, w.
     Rotation,
+    /// How it is scaled along x, y and z.
     Scale,
+    /// The weights of the morph targets of its mesh.
     Weights,
 }
 

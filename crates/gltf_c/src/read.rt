@@ -135,7 +135,8 @@ pub(crate) fn size(file: &File, index: usize) -> Option<usize>
     Some(file.buffers.get(index)?.len())
 }
 
-/// As many bytes of a buffer as there is room for, from an offset on.
+/// Fills the room with the bytes of a buffer, from an offset on; `OutOfRange`, and nothing written,
+/// where it has fewer.
 pub(crate) fn copy(file: &File, index: usize, offset: usize, out: &mut [u8]) -> Status
     ensures { IsCopied offset (buffer_of index file.now) result out.old out.new }
 {

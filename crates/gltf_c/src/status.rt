@@ -31,7 +31,7 @@ pub enum Status {
     InputOutput,
     /// The handle is closed.
     Closed,
-    /// Nothing has that index.
+    /// Nothing has that index, or it has not what was asked for.
     NoSuchIndex,
     /// The accessor cannot be read over the buffers.
     Unreadable,
