@@ -6,6 +6,7 @@ ghost use Rattle.gltf_c.specs.Info.{kind_of, counted, description, accessor_of};
 ghost use Rattle.gltf_c.specs.Info.{component_number};
 
 use crate::file::File;
+use crate::numbers::one_or_zero;
 use gltf::accessor::{Accessor, DataType};
 
 /// A kind of records that the root lists (glTF 2.0, section 5.17).
@@ -123,8 +124,8 @@ fn description(accessor: Accessor<'_>) -> GltfAccessor
         item_size: accessor.size(),
         component_type: number_of(accessor.data_type()),
         components: accessor.dimensions().multiplicity() as u32,
-        normalized: if accessor.normalized() { 1 } else { 0 },
-        sparse: if accessor.sparse().is_some() { 1 } else { 0 },
+        normalized: one_or_zero(accessor.normalized()),
+        sparse: one_or_zero(accessor.sparse().is_some()),
     }
 }
 

@@ -25,6 +25,7 @@ pub mod info;
 mod message;
 mod names;
 pub mod nodes;
+mod numbers;
 mod open;
 pub mod primitives;
 mod read;

@@ -7,6 +7,7 @@ ghost use Rattle.gltf_c.specs.Nodes.{node_at, node_shown, shown_node_of, child_o
 ghost use Rattle.gltf_c.specs.Nodes.{member_of, member_value, number_in, number_of};
 
 use crate::file::File;
+use crate::numbers::{index_or_zero, one_or_zero};
 use gltf_json::Value;
 use gltf_json::scene::Node;
 
@@ -78,21 +79,12 @@ fn shown_node(node: &Node) -> GltfNode
     ensures { result ≡ node_shown node.now }
 {
     GltfNode {
-        has_mesh: if node.mesh.is_some() { 1 } else { 0 },
-        has_skin: if node.skin.is_some() { 1 } else { 0 },
-        has_camera: if node.camera.is_some() { 1 } else { 0 },
-        mesh: match node.mesh {
-            Some(index) => index.value(),
-            None => 0,
-        },
-        skin: match node.skin {
-            Some(index) => index.value(),
-            None => 0,
-        },
-        camera: match node.camera {
-            Some(index) => index.value(),
-            None => 0,
-        },
+        has_mesh: one_or_zero(node.mesh.is_some()),
+        has_skin: one_or_zero(node.skin.is_some()),
+        has_camera: one_or_zero(node.camera.is_some()),
+        mesh: index_or_zero(node.mesh),
+        skin: index_or_zero(node.skin),
+        camera: index_or_zero(node.camera),
         children: node.children.len(),
     }
 }

@@ -8,6 +8,7 @@ ghost use Rattle.gltf_c.specs.Primitives.{shown_primitive_of, mode_number, seman
 ghost use Rattle.gltf_c.specs.Primitives.{attribute_of, attribute_accessor_of};
 
 use crate::file::File;
+use crate::numbers::{index_or_zero, one_or_zero};
 use gltf_json::mesh::{Mode, Primitive, Semantic};
 use gltf_json_geometry::laws::order_is_the_stated_one;
 use gltf_json_record::validation::Checked;
@@ -71,17 +72,11 @@ fn shown_primitive(primitive: &Primitive) -> GltfPrimitive
     ensures { result ≡ primitive_shown primitive.now }
 {
     GltfPrimitive {
-        has_indices: if primitive.indices.is_some() { 1 } else { 0 },
-        has_material: if primitive.material.is_some() { 1 } else { 0 },
+        has_indices: one_or_zero(primitive.indices.is_some()),
+        has_material: one_or_zero(primitive.material.is_some()),
         mode: number_of(primitive.mode),
-        indices: match primitive.indices {
-            Some(index) => index.value(),
-            None => 0,
-        },
-        material: match primitive.material {
-            Some(index) => index.value(),
-            None => 0,
-        },
+        indices: index_or_zero(primitive.indices),
+        material: index_or_zero(primitive.material),
     }
 }
 
@@ -119,6 +114,7 @@ fn semantic(meaning: u32, set: u32) -> Option<Semantic>
 fn accessor(primitive: &Primitive, semantic: &Semantic) -> Option<usize>
     ensures { result ≡ attribute_of primitive.now semantic.now }
 {
+    // A law that the proof stands on; the call does nothing.
     order_is_the_stated_one();
     match primitive.attributes.get(semantic) {
         Some(index) => Some(index.value()),
