@@ -43,8 +43,8 @@ testable {𝓤 = 𝓤} 𝓛 p x =
 module _ {M : Type 1} {𝓤 : Ura M} {𝓛 : Logic 𝓤} {K : Type 0} {Γ : List (Item 𝓤)} {G : Goal 𝓤 𝓛.H}
   where
     -- a handle is made of its pointer and what is there
-    pub handle_in : K → (p : Ptr) (v : Option File)
-        → Step K 𝓛 (‵ (handle.the_row.own_val (record { at = p; value = v }) (pointer p ∷ [])) ∷ Γ) G
+    pub handle_in : K → (p : Ptr) (v : Option File) → Step K 𝓛
+        (‵ (handle.the_row.own_val (record { at = p; value = v }) (pointer p ∷ [])) ∷ Γ) G
         (‵ (handle_owns p v) ∷ Γ) G
     handle_in t p v = step (λ rest.
         nothing t $ feq_i t (List Val) (ptr_val p ∷ []) (ptr_val p ∷ []) refl $ fjoin t $
@@ -56,8 +56,8 @@ module _ {M : Type 1} {𝓤 : Ura M} {𝓛 : Logic 𝓤} {K : Type 0} {Γ : List
         → (vs ≡ pointer d.at ∷ [] → Seq K 𝓛 (‵ (handle_owns d.at d.value) ∷ Γ) G)
         → Seq K 𝓛 (‵ (handle.the_row.own_val d vs) ∷ Γ) G
     handle_out t d vs next =
-        fsplit t $ fpick t (λ vss. fsplit t $ feq_l t (λ whole. fsplit t $ feq_l t (λ field. drop t $
-        next (subst (λ (ps : List Val). vs ≡ vstruct (of_list (ps ++ [])) ∷ []) field whole))))
+        fsplit t $ fpick t (λ vss. fsplit t $ feq_l t (λ whole. fsplit t $ feq_l t (λ field.
+        drop t $ next (subst (λ (ps : List Val). vs ≡ vstruct (of_list (ps ++ [])) ∷ []) field whole))))
 
     -- by what is there: nothing at null, or the value at a pointer that may be compared with null
     pub by_value : K → (p : Ptr) (v : Option File)

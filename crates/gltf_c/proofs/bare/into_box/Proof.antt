@@ -9,7 +9,8 @@ use base.Logic.{SProp, ent, emp, never, id⊢, fst∗}
 use base.Fml.{ftrue, flft}
 use prog.Wp.{WpFn}
 use types.Logic.{sem}
-use types.Kit.{‵, raw, ◌⊛◌, some, later, at_ret, split3, rewrite, feq_i, ◌$◌, ◌∵◌, !, qed, by, move, keep, drop, split, join, fsplit, fjoin, pick, suffices, use0, use1, await, feq_l}
+use types.Kit.{‵, raw, ◌⊛◌, some, later, at_ret, split3, rewrite, feq_i, ◌$◌, ◌∵◌, !, qed, by, move}
+use types.Kit.{keep, drop, split, join, fsplit, fjoin, pick, suffices, use0, use1, await, feq_l}
 use types.Run.{stop, fld, of_opd, no_more, and_then, first, blocks, exec, returns, enter}
 use types.ByLocal.{alloc_all, pass_all, free_all, look_at, get, get_in, sets, lands_last, env}
 use types.Part.{sub, whole}

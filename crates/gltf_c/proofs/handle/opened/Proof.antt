@@ -5,8 +5,10 @@ use base.Fml.{ftrue}
 use base.Logic.{SProp, ent, id⊢}
 use contract.Running.{tables}
 use prog.Wp.{WpFn}
-use types.Kit.{‵, raw, ◌⊛◌, at_ret, ◌$◌, ◌∵◌, !, qed, keep, drop, split, join, fsplit, suffices, use0, use1, done}
-use types.Run.{stop, fld, lit, of_opd, bin, no_more, and_then, first, branches, exec, returns, enter}
+use types.Kit.{‵, raw, ◌⊛◌, at_ret, ◌$◌, ◌∵◌, !, qed, keep, drop, split, join, fsplit, suffices}
+use types.Kit.{use0, use1, done}
+use types.Run.{stop, fld, lit, of_opd, bin, no_more, and_then, first, branches, exec, returns}
+use types.Run.{enter}
 use types.ByLocal.{alloc_all, pass_all, free_all, look_at, get, get_in, sets, sets_last, env}
 use types.Part.{agg, sub, whole}
 use types.Match.{live}
