@@ -38,6 +38,20 @@ TYPES = {
     "&mut usize": ["size_t *"],
     "&mut f64": ["double *"],
 }
+# What the types of members are in C, and how many bytes they are.
+FIELDS = {"usize": ("size_t", 8), "u32": ("unsigned int", 4), "*mut u8": ("void *", 8)}
+# The members and the enumerators that C has by other names.
+MEMBERS = {("gltf_file", "at"): "held"}
+ENUMERATORS = {
+    ("Semantic", "Positions"): "POSITION",
+    ("Semantic", "Normals"): "NORMAL",
+    ("Semantic", "Tangents"): "TANGENT",
+    ("Semantic", "Colors"): "COLOR",
+    ("Semantic", "TexCoords"): "TEXCOORD",
+    ("Member", "Weights"): "NODE_WEIGHTS",
+}
+# The types of the code whose variants C has as enumerators.
+KINDS = {"Status", "Kind", "DataType", "Mode", "Semantic", "Member"}
 
 
 def ran(*words, **how):
@@ -109,26 +123,88 @@ def c_types(name, kind):
     if kind == "&mut [u8]" and name in ("message", "text"):
         return ["char *", "size_t"]
     if kind.startswith("&mut Gltf"):
-        return [re.sub(r"(?<!^)(?=[A-Z])", "_", kind[5:]).lower() + " *"]
+        return [words_of(kind[5:]).lower() + " *"]
     return TYPES[kind]
 
 
-def header_has_the_signatures():
-    """A declaration made of each export has to be that of the header, and each struct has to lie
-    in memory as it does there."""
-    lines = ['#include "gltf.h"', "#include <stddef.h>"]
+def words_of(name):
+    """`TwoWords` as `Two_Words`."""
+    return re.sub(r"(?<!^)(?=[A-Z])", "_", name)
+
+
+def holds_in_c(condition):
+    return f'_Static_assert({condition}, "{condition}");'
+
+
+def header():
+    """The text of the header, with no comments and no directives."""
+    text = re.sub(r"/\*.*?\*/", "", (C / "gltf.h").read_text("utf-8"), flags=re.DOTALL)
+    return re.sub(r"(?m)^#.*$", "", text)
+
+
+def declarations():
+    """A declaration made of each export. What the header declares has to be of the same type."""
     for name, parameters, result in exports():
         types = [kind for pair in parameters for kind in c_types(*pair)]
         result = result if result == "void" else TYPES[result][0]
-        lines.append(f"{result} {name}({', '.join(types) or 'void'});")
-    for name, fields in re.findall(r"#\[repr\(C\)\][^{]*pub struct (\w+) \{([^}]*)\}", source()):
-        struct, at = re.sub(r"(?<!^)(?=[A-Z])", "_", name).lower(), 0
-        for field, kind in re.findall(r"pub (\w+): (usize|u32)\b", fields):
-            size = 8 if kind == "usize" else 4
+        yield f"{result} {name}({', '.join(types) or 'void'});"
+
+
+def structs():
+    """The structs that C declares too: of each its name there, and its members in memory."""
+    form = r"#\[repr\(C\)\]\n(?:#\[.*\]\n)*pub struct (\w+) \{\n((?:.*\n)*?)\}\n"
+    found = [(words_of(name).lower(), re.findall(r"(?m)^    (?:pub )?(\w+): (.+),$", inner))
+             for name, inner in re.findall(form, source())]
+    assert len(found) == source().count("#[repr(C)]"), found
+    return [(struct, [(MEMBERS.get((struct, member), member), kind) for member, kind in members])
+            for struct, members in found]
+
+
+def layouts():
+    """Each member has to be as wide in the header as in the code and to stand at the same place,
+    with nothing behind the last but what aligns it."""
+    for struct, members in structs():
+        at = 0
+        for member, kind in members:
+            c_type, size = FIELDS[kind]
             at = (at + size - 1) // size * size
-            lines.append(f"_Static_assert(offsetof({struct}, {field}) == {at}, \"{field}\");")
+            its = f"(({struct} *)0)->{member}"
+            yield from (holds_in_c(f"offsetof({struct}, {member}) == {at}"),
+                        holds_in_c(f"sizeof {its} == {size}"),
+                        holds_in_c(f"_Generic({its}, {c_type}: 1, default: 0)"))
             at += size
-    file = OUT / "signatures.c"
+        widest = max(FIELDS[kind][1] for _, kind in members)
+        whole = (at + widest - 1) // widest * widest
+        yield holds_in_c(f"sizeof({struct}) == {whole}")
+
+
+def enumerators():
+    """The enumerators, each with the number that the code has for it."""
+    given = re.findall(r"(\d+) => Some\((Kind|Member|Semantic)::(\w+)", source())
+    taken = re.findall(r"(Status|DataType|Mode)::(\w+)\)?(?: \| \S+)? => (\d+),", source())
+    pairs = [(kind, variant, number) for number, kind, variant in given] + taken
+    found = [("GLTF_" + ENUMERATORS.get((kind, variant), words_of(variant).upper()), number)
+             for kind, variant, number in pairs]
+    assert {kind for kind, _, _ in pairs} == KINDS and len(found) == len(dict(found)), pairs
+    return found
+
+
+def same(shown, wanted):
+    assert shown == wanted, f"{shown} is not {wanted}"
+
+
+def header_says_what_the_code_has():
+    """The header and the code have the same functions, structs, members and enumerators, of the
+    same types and numbers, and each struct lies in memory alike."""
+    text = header()
+    same(sorted(re.findall(r"(\w+)\s*\(", text)), sorted(name for name, _, _ in exports()))
+    shown = {struct: re.findall(r"(\w+);", inner) for inner, struct in
+             re.findall(r"typedef struct \w+ \{([^}]*)\} (\w+);", text)}
+    same(shown, {struct: [member for member, _ in members] for struct, members in structs()})
+    same(sorted(re.findall(r"(\w+) = ", text)), sorted(name for name, _ in enumerators()))
+    lines = ['#include "gltf.h"', *declarations(), *layouts(),
+             *(holds_in_c(f"{name} == {number}") for name, number in enumerators())]
+    file = OUT / "header.c"
     file.write_text("\n".join(lines) + "\n")
     ran("cc", "-std=c11", "-Wall", "-Werror", f"-I{C}", "-fsyntax-only", file)
 
@@ -257,7 +333,7 @@ def install(prefix):
 
 
 TESTS = (
-    shows_exports_alone, header_has_the_signatures, shows_by_each_compiler,
+    shows_exports_alone, header_says_what_the_code_has, shows_by_each_compiler,
     lists_what_the_files_hold, a_stack_of_256_kib_is_enough, mutated_files_break_nothing,
     valgrind_sees_no_error, threads_have_files_of_their_own, each_growth_is_refused_in_turn,
     links_from_rust, is_found_where_it_is_installed,
