@@ -3,8 +3,10 @@
 
 The prover proves `crates/gltf_c` before a byte of it is built. `out/c/libgltf.a` is that library
 and the few lines of the toolchain over malloc, joined, and shows the exports alone. With the word
-`behind-ci` it stands on the libraries as `rt ci` left them, and proves none of them again. The
-last line is `N passed, M failed`."""
+`behind-ci` it stands on the libraries as `rt ci` left them, and proves none of them again.
+
+A test whose tool is not there is told as not tried. The last line is `N passed, M failed`, and a
+test that was not tried is neither."""
 import os
 import pathlib
 import re
@@ -29,6 +31,9 @@ FINE = [*FILES[:2], RIG]
 # How many mutated copies of each file are tried, by the sanitizers and by valgrind.
 TIMES, TIMES_BY_VALGRIND = 33_334, 334
 STRICT = ["-Wall", "-Wextra", "-Werror", "-pedantic", "-O2"]
+# The compilers, each with the language that it is tried in.
+C89, CPP = ["-std=c89"], ["-std=c++11", "-x", "c++"]
+LANGUAGES = {"gcc": C89, "g++": CPP, "clang": C89, "clang++": CPP}
 # What the types of exports are in C. A slice is a pointer and a count.
 TYPES = {
     "usize": ["size_t"],
@@ -209,24 +214,26 @@ def header_says_what_the_code_has():
     ran("cc", "-std=c11", "-Wall", "-Werror", f"-I{C}", "-fsyntax-only", file)
 
 
-def built(name, *more, by="cc", language=()):
-    program = OUT / f"{name}{'_' + by if by != 'cc' else ''}"
+class Lacking(Exception):
+    """A tool that is not there."""
+
+
+def need(tool):
+    if not shutil.which(tool):
+        raise Lacking(f"there is no {tool}")
+
+
+def built(name, *more, by="cc", language=(), to=None):
+    program = OUT / (to or name)
     ran(by, *STRICT, *language, f"-I{C}", C / f"{name}.c", *more, "-x", "none", LIBRARY,
         "-o", program)
     return program
 
 
-def compilers():
-    """Each compiler that is there, with the language that it is tried in."""
-    ways = [("gcc", ["-std=c89"]), ("g++", ["-std=c++11", "-x", "c++"]),
-            ("clang", ["-std=c89"]), ("clang++", ["-std=c++11", "-x", "c++"])]
-    return [(by, words) for by, words in ways if shutil.which(by)]
-
-
-def shows_by_each_compiler():
-    for by, language in compilers():
-        told = ran(built("show", by=by, language=language), FILES[0])
-        assert told == "24 points, the first 0.5 -0.5 -0.5\n", (by, told)
+def shows_by(compiler):
+    need(compiler)
+    program = built("show", by=compiler, language=LANGUAGES[compiler], to=f"show_{compiler}")
+    same(ran(program, FILES[0]), "24 points, the first 0.5 -0.5 -0.5\n")
 
 
 def lists_what_the_files_hold():
@@ -253,21 +260,20 @@ def mutated_files_break_nothing():
 
 
 def valgrind_sees_no_error():
-    if not shutil.which("valgrind"):
-        return "there is no valgrind"
-    program = built("mutate", by="gcc")
+    need("valgrind")
+    program = built("mutate", to="mutate_by_valgrind")
     ran("valgrind", "-q", "--leak-check=full", "--error-exitcode=9", program,
         str(TIMES_BY_VALGRIND), *FILES, RIG)
-    return None
 
 
 def threads_have_files_of_their_own():
+    ran(built("threads", "-pthread"), "200", FILES[0])
+
+
+def helgrind_sees_no_race():
+    need("valgrind")
     program = built("threads", "-pthread")
-    ran(program, "200", FILES[0])
-    if not shutil.which("valgrind"):
-        return "there is no valgrind"
     ran("valgrind", "-q", "--tool=helgrind", "--error-exitcode=9", program, "2", FILES[0])
-    return None
 
 
 def each_growth_is_refused_in_turn():
@@ -278,43 +284,38 @@ def each_growth_is_refused_in_turn():
 
 
 def links_from_rust():
-    if not shutil.which("rustc"):
-        return "there is no rustc"
+    need("rustc")
     program = OUT / "main"
     ran("rustc", "-O", C / "main.rs", "-o", program, f"-Clink-arg={LIBRARY}")
-    assert ran(program, FILES[0]) == "4 accessors\n"
-    return None
+    same(ran(program, FILES[0]), "4 accessors\n")
 
 
-def is_found_where_it_is_installed():
-    """A program is built against the installed files, by pkg-config and by CMake."""
-    with tempfile.TemporaryDirectory() as room:
-        install(pathlib.Path(room) / "usr")
-        for name in ("show.c", "contents.h"):
-            shutil.copy(C / name, room)
-        lacking = [by for by, way in (("pkg-config", by_pkg_config), ("cmake", by_cmake))
-                   if not way(pathlib.Path(room))]
-    return f"there is no {' and no '.join(lacking)}" if lacking else None
+def is_found_by(tool):
+    """A program is built against the installed files, as this tool finds them."""
+    need(tool)
+    with tempfile.TemporaryDirectory() as name:
+        room = pathlib.Path(name)
+        install(room / "usr")
+        for file in ("show.c", "contents.h"):
+            shutil.copy(C / file, room)
+        program = by_cmake(room) if tool == "cmake" else by_pkg_config(room)
+        same(ran(program, FILES[0]), "24 points, the first 0.5 -0.5 -0.5\n")
 
 
 def by_pkg_config(room):
-    if not shutil.which("pkg-config"):
-        return False
     where = {**os.environ, "PKG_CONFIG_PATH": f"{room}/usr/lib/pkgconfig"}
     flags = ran("pkg-config", "--cflags", "--libs", "gltf", env=where).split()
     ran("cc", room / "show.c", *flags, "-o", room / "show")
-    return ran(room / "show", FILES[0]).startswith("24 points")
+    return room / "show"
 
 
 def by_cmake(room):
-    if not shutil.which("cmake"):
-        return False
     (room / "CMakeLists.txt").write_text(
         "cmake_minimum_required(VERSION 3.10)\nproject(show C)\nfind_package(gltf REQUIRED)\n"
         "add_executable(shown show.c)\ntarget_link_libraries(shown gltf::gltf)\n")
     ran("cmake", f"-DCMAKE_PREFIX_PATH={room}/usr", "-S", room, "-B", room / "built")
     ran("cmake", "--build", room / "built")
-    return ran(room / "built" / "shown", FILES[0]).startswith("24 points")
+    return room / "built" / "shown"
 
 
 def install(prefix):
@@ -332,30 +333,37 @@ def install(prefix):
         print(file)
 
 
+# Each test, with what it is given.
 TESTS = (
-    shows_exports_alone, header_says_what_the_code_has, shows_by_each_compiler,
-    lists_what_the_files_hold, a_stack_of_256_kib_is_enough, mutated_files_break_nothing,
-    valgrind_sees_no_error, threads_have_files_of_their_own, each_growth_is_refused_in_turn,
-    links_from_rust, is_found_where_it_is_installed,
+    [shows_exports_alone], [header_says_what_the_code_has],
+    *([shows_by, compiler] for compiler in LANGUAGES),
+    [lists_what_the_files_hold], [a_stack_of_256_kib_is_enough], [mutated_files_break_nothing],
+    [valgrind_sees_no_error], [threads_have_files_of_their_own], [helgrind_sees_no_race],
+    [each_growth_is_refused_in_turn], [links_from_rust],
+    [is_found_by, "pkg-config"], [is_found_by, "cmake"],
 )
 
 
-def holds(test):
-    name = test.__name__.replace("_", " ")
+def holds(test, *given):
+    """Whether a test passes; None where it is not tried."""
+    name = " ".join([test.__name__.replace("_", " "), *given])
     try:
-        skipped = test()
-    except (AssertionError, subprocess.CalledProcessError, KeyError) as why:
+        test(*given)
+    except Lacking as why:
+        print(f"c: {name}: not tried, since {why}")
+        return None
+    except (AssertionError, subprocess.CalledProcessError, KeyError, OSError) as why:
         print(f"c: {name}: FAILED: {why}")
         return False
-    print(f"c: {name}: {f'not tried, since {skipped}' if skipped else 'ok'}")
+    print(f"c: {name}: ok")
     return True
 
 
 def main():
     join(build("behind-ci" in sys.argv[1:]))
-    good = [holds(test) for test in TESTS]
-    print(f"{sum(good)} passed, {len(good) - sum(good)} failed")
-    return 0 if all(good) else 1
+    results = [holds(*row) for row in TESTS]
+    print(f"{results.count(True)} passed, {results.count(False)} failed")
+    return 1 if False in results else 0
 
 
 if __name__ == "__main__":
