@@ -1,5 +1,6 @@
 /* Tells what the files hold: all names, the bytes of buffers, all numbers of accessors, what the
- * primitives of meshes name, the nodes and where they are, and where images are: `list FILE..`. */
+ * primitives of meshes name, the nodes and where they are, and where images are; of a file that is
+ * refused the message, whole and cut: `list FILE..`. */
 #include "contents.h"
 #include "gltf.h"
 
@@ -254,15 +255,28 @@ static int tell_open(gltf_file *file)
     return status == 0 ? tell_each(file, GLTF_IMAGES, tell_image) : status;
 }
 
+/* The message, and behind it what a room of ten bytes gets of it: the first nine and a zero byte,
+ * with nothing written behind the room. */
+static int tell_refusal(const unsigned char *bytes, size_t size, const char *why)
+{
+    gltf_file file = GLTF_CLOSED_FILE;
+    char room[12];
+    memset(room, '#', sizeof room);
+    if (gltf_open(bytes, size, &file, room, 10) == GLTF_SUCCESS)
+        return 18;
+    if (memchr(room, 0, 10) == NULL || room[10] != '#' || room[11] != '#')
+        return 19;
+    printf("%s\n%s\n", why, room);
+    return 0;
+}
+
 static int tell_file(const unsigned char *bytes, size_t size)
 {
     gltf_file file = GLTF_CLOSED_FILE;
     char why[400];
     int status;
-    if (gltf_open(bytes, size, &file, why, sizeof why) != GLTF_SUCCESS) {
-        printf("%s\n", why);
-        return 0;
-    }
+    if (gltf_open(bytes, size, &file, why, sizeof why) != GLTF_SUCCESS)
+        return tell_refusal(bytes, size, why);
     status = tell_open(&file);
     gltf_close(&file);
     return status;

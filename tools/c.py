@@ -19,6 +19,7 @@ import tempfile
 sys.dont_write_bytecode = True
 
 import crates
+import programs
 
 CRATE = crates.TOP / "crates" / "gltf_c"
 C = crates.TOP / "c"
@@ -28,6 +29,8 @@ FILES = [os.fspath(crates.TOP / "examples" / name) for name in
          ("box.glb", "triangle.gltf", "dangling.gltf")]
 RIG = os.fspath(C / "rig.gltf")
 FINE = [*FILES[:2], RIG]
+# A file that is refused, and the message.
+REFUSED, MESSAGE = FILES[2], programs.DANGLING.rstrip("\n")
 # How many mutated copies of each file are tried, by the sanitizers and by valgrind.
 TIMES, TIMES_BY_VALGRIND = 33_334, 334
 STRICT = ["-Wall", "-Wextra", "-Werror", "-pedantic", "-O2"]
@@ -238,8 +241,8 @@ def shows_by(compiler):
 
 def lists_what_the_files_hold():
     program = built("list", "-std=c89")
-    wanted = ran(sys.executable, C / "expected.py", *FINE)
-    assert ran(program, *FINE) == wanted
+    wanted = ran(sys.executable, C / "expected.py", *FINE) + f"{MESSAGE}\n{MESSAGE[:9]}\n"
+    assert ran(program, *FINE, REFUSED) == wanted
 
 
 def a_stack_of_256_kib_is_enough():
