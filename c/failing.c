@@ -80,7 +80,7 @@ static long refused, with_text, without_text;
 /* Whether an answer with a growth refused is a right one, by the file's own answer. It counts. */
 static int counts(gltf_status status, const char *why, gltf_status own, const char *own_why)
 {
-    const char *text = status == own ? own_why : NO_MEMORY;
+    const char *text = status == GLTF_SUCCESS ? "" : status == own ? own_why : NO_MEMORY;
     if (blocks != 0 || (status != own && status != GLTF_NO_MEMORY))
         return 0;
     refused += status == GLTF_NO_MEMORY;
