@@ -28,9 +28,9 @@ def parts(data):
 
 
 def bytes_of(buffer, blob):
-    if "uri" not in buffer:
-        return blob
-    return base64.b64decode(buffer["uri"].partition(",")[2])
+    """The bytes of a buffer, filled up with zeros to a multiple of four."""
+    data = blob if "uri" not in buffer else base64.b64decode(buffer["uri"].partition(",")[2])
+    return data + bytes(-len(data) % 4)
 
 
 def numbers(document, buffers, accessor):
@@ -114,6 +114,8 @@ def tell(path):
         for index, record in enumerate(document.get(kind, [])):
             if "name" in record:
                 print(f"{kind} {index} is {record['name']}")
+    for index, data in enumerate(buffers):
+        print(f"buffer {index}: {len(data)} bytes: {data.hex()}")
     for index, accessor in enumerate(document.get("accessors", [])):
         tell_accessor(document, buffers, index, accessor)
     for index, mesh in enumerate(document.get("meshes", [])):

@@ -1,6 +1,7 @@
 /* Refuses each growth of memory in turn, from the opening of a file to its closing: `failing
  * FILE`. Linked with --wrap=malloc,--wrap=realloc,--wrap=free. It ends with 0 where each answer is
- * the file's own or says that there was not enough memory, and all memory was given back. */
+ * the file's own or says that there was not enough memory, the message is the text of that answer
+ * or says that there was no memory for it, and all memory was given back. */
 #include "gltf.h"
 
 #include <stdio.h>
@@ -52,6 +53,9 @@ void __wrap_free(void *block)
     __real_free(block);
 }
 
+static const char *const NO_MEMORY = "out of memory";
+static const char *const NO_MEMORY_FOR_TEXT = "there is no memory for the message";
+
 static unsigned char items[1 << 16];
 
 /* Opens, reads all and closes, and answers the status of the opening. */
@@ -69,34 +73,52 @@ static gltf_status whole(const unsigned char *bytes, size_t size, char *why, siz
     return status;
 }
 
+/* How often there was no memory, and how often each of the two messages was given: the text of the
+ * answer, which is an empty one of an open file, or that there was no memory for that text. */
+static long refused, with_text, without_text;
+
+/* Whether an answer with a growth refused is a right one, by the file's own answer. It counts. */
+static int counts(gltf_status status, const char *why, gltf_status own, const char *own_why)
+{
+    const char *text = status == GLTF_SUCCESS ? "" : status == own ? own_why : NO_MEMORY;
+    if (blocks != 0 || (status != own && status != GLTF_NO_MEMORY))
+        return 0;
+    refused += status == GLTF_NO_MEMORY;
+    if (strcmp(why, text) == 0)
+        with_text++;
+    else if (status != GLTF_SUCCESS && strcmp(why, NO_MEMORY_FOR_TEXT) == 0)
+        without_text++;
+    else
+        return 0;
+    return 1;
+}
+
 int main(int words, char **word)
 {
     static unsigned char bytes[1 << 20];
-    char why[200];
-    long growths = 0, refused = 0;
+    char why[200], own_why[200];
+    long growths;
     size_t size;
-    gltf_status own;
+    gltf_status own, status;
     FILE *file = words == 2 ? fopen(word[1], "rb") : NULL;
     if (file == NULL)
         return 2;
     size = fread(bytes, 1, sizeof bytes, file);
     fclose(file);
-    own = whole(bytes, size, why, sizeof why);
-    for (;;) {
-        gltf_status status;
+    own = whole(bytes, size, own_why, sizeof own_why);
+    for (growths = 0;; growths++) {
         blocks = 0;
         was_refused = 0;
         granted = growths;
         status = whole(bytes, size, why, sizeof why);
         granted = -1;
-        if (blocks != 0 || (status != own && status != GLTF_NO_MEMORY))
-            return 3;
         if (!was_refused)
             break;
-        refused += status == GLTF_NO_MEMORY;
-        growths++;
+        if (!counts(status, why, own, own_why))
+            return 3;
     }
-    printf("%ld growths, each refused once: %ld times no memory, then status %u\n", growths,
-           refused, own);
-    return 0;
+    printf("%ld growths, each refused once: %ld times no memory, then status %u; %ld messages are "
+           "the text of the answer, %ld that there is no memory for it\n", growths, refused, own,
+           with_text, without_text);
+    return blocks == 0 && status == own && strcmp(why, own_why) == 0 ? 0 : 4;
 }

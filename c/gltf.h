@@ -77,7 +77,8 @@ enum {
 };
 typedef unsigned int gltf_status;
 
-/* The kinds of records that a document lists. */
+/* The kinds of records that gltf_count counts: the lists of the root; not the lights and variants
+ * of extensions. */
 enum {
     GLTF_BUFFERS = 0,
     GLTF_BUFFER_VIEWS = 1,

@@ -1,5 +1,6 @@
-/* Tells what the files hold: all names, all numbers of accessors, what the primitives of meshes
- * name, the nodes and where they are, and where images are: `list FILE..`. */
+/* Tells what the files hold: all names, the bytes of buffers, all numbers of accessors, what the
+ * primitives of meshes name, the nodes and where they are, and where images are; of a file that is
+ * refused the message, whole and cut: `list FILE..`. */
 #include "contents.h"
 #include "gltf.h"
 
@@ -11,6 +12,25 @@ static const char *const KINDS[] = {
 };
 
 static const char *const MEMBERS[] = { "matrix", "translation", "rotation", "scale", "weights" };
+
+static int tell_buffer(gltf_file *file, size_t index)
+{
+    unsigned char *bytes;
+    gltf_status status;
+    size_t size, i;
+    if (gltf_buffer_size(file, index, &size) != GLTF_SUCCESS)
+        return 15;
+    bytes = (unsigned char *)malloc(size + 1);
+    if (bytes == NULL)
+        return 16;
+    status = gltf_buffer_read(file, index, 0, bytes, size);
+    printf("buffer %lu: %lu bytes: ", (unsigned long)index, (unsigned long)size);
+    for (i = 0; i < size && status == GLTF_SUCCESS; i++)
+        printf("%02x", bytes[i]);
+    printf("\n");
+    free(bytes);
+    return status == GLTF_SUCCESS ? 0 : 17;
+}
 
 /* One number of an item, in the byte order of the processor, which is the file's. */
 static void tell_number(const unsigned char *at, size_t size, unsigned type)
@@ -181,6 +201,8 @@ static int tell_scene(gltf_file *file, size_t index)
     return 0;
 }
 
+/* The sizes and places are the file's own, and need not lie in the buffer: whoever reads such bytes
+ * makes room for no more than the buffer has, or lets gltf_buffer_read refuse them. */
 static int tell_image(gltf_file *file, size_t index)
 {
     gltf_image about;
@@ -221,6 +243,8 @@ static int tell_open(gltf_file *file)
     for (kind = GLTF_BUFFERS; kind <= GLTF_CAMERAS && status == 0; kind++)
         status = tell_names(file, kind);
     if (status == 0)
+        status = tell_each(file, GLTF_BUFFERS, tell_buffer);
+    if (status == 0)
         status = tell_each(file, GLTF_ACCESSORS, tell_accessor);
     if (status == 0)
         status = tell_each(file, GLTF_MESHES, tell_mesh);
@@ -231,15 +255,28 @@ static int tell_open(gltf_file *file)
     return status == 0 ? tell_each(file, GLTF_IMAGES, tell_image) : status;
 }
 
+/* The message, and behind it what a room of ten bytes gets of it: the first nine and a zero byte,
+ * with nothing written behind the room. */
+static int tell_refusal(const unsigned char *bytes, size_t size, const char *why)
+{
+    gltf_file file = GLTF_CLOSED_FILE;
+    char room[12];
+    memset(room, '#', sizeof room);
+    if (gltf_open(bytes, size, &file, room, 10) == GLTF_SUCCESS)
+        return 18;
+    if (memchr(room, 0, 10) == NULL || room[10] != '#' || room[11] != '#')
+        return 19;
+    printf("%s\n%s\n", why, room);
+    return 0;
+}
+
 static int tell_file(const unsigned char *bytes, size_t size)
 {
     gltf_file file = GLTF_CLOSED_FILE;
     char why[400];
     int status;
-    if (gltf_open(bytes, size, &file, why, sizeof why) != GLTF_SUCCESS) {
-        printf("%s\n", why);
-        return 0;
-    }
+    if (gltf_open(bytes, size, &file, why, sizeof why) != GLTF_SUCCESS)
+        return tell_refusal(bytes, size, why);
     status = tell_open(&file);
     gltf_close(&file);
     return status;

@@ -1,5 +1,6 @@
-//! The library from Rust: `main FILE` tells how many accessors a file has.
-use std::ffi::{c_char, c_void};
+//! The library from Rust: `main FILE` tells how many accessors a file has. It is written for rustc
+//! 1.63 and later, of each edition before 2024.
+use std::os::raw::{c_char, c_void};
 use std::process::ExitCode;
 
 /// An open or a closed file, as `gltf.h` has it.
@@ -9,7 +10,7 @@ struct File(*mut c_void);
 const OK: u32 = 0;
 const ACCESSORS: u32 = 2;
 
-unsafe extern "C" {
+extern "C" {
     fn gltf_open(
         bytes: *const u8,
         size: usize,
@@ -22,8 +23,9 @@ unsafe extern "C" {
 }
 
 fn main() -> ExitCode {
-    let Some(bytes) = std::env::args_os().nth(1).and_then(|path| std::fs::read(path).ok()) else {
-        return ExitCode::from(2);
+    let bytes = match std::env::args_os().nth(1).and_then(|path| std::fs::read(path).ok()) {
+        Some(bytes) => bytes,
+        None => return ExitCode::from(2),
     };
     let mut file = File(std::ptr::null_mut());
     let mut why = [0; 200];

@@ -95,6 +95,113 @@ static int read_names(gltf_file *file, unsigned kind)
     return 0;
 }
 
+/* Whether so many bytes of a buffer, read into a block of exactly that size, give the status that
+ * is wanted, and are those of the whole where that is GLTF_SUCCESS. */
+static int reads_part(gltf_file *file, size_t index, const unsigned char *whole, size_t offset,
+                      size_t room, gltf_status wanted)
+{
+    unsigned char *part = (unsigned char *)malloc(room + (room == 0));
+    int right = part != NULL && gltf_buffer_read(file, index, offset, part, room) == wanted
+        && (wanted != GLTF_SUCCESS || memcmp(part, whole + offset, room) == 0);
+    free(part);
+    return right;
+}
+
+/* A buffer: the whole of it, the rest of it from a place on, some of that rest, and one byte more
+ * than there is. */
+static int read_buffer(gltf_file *file, size_t index)
+{
+    size_t size, offset;
+    unsigned char *whole;
+    int right;
+    if (gltf_buffer_size(file, index, &size) != GLTF_SUCCESS || size % 4 != 0)
+        return 18;
+    whole = (unsigned char *)malloc(size + (size == 0));
+    if (whole == NULL)
+        return 19;
+    offset = any(size + 1);
+    right = gltf_buffer_read(file, index, 0, whole, size) == GLTF_SUCCESS
+        && reads_part(file, index, whole, offset, size - offset, GLTF_SUCCESS)
+        && reads_part(file, index, whole, offset, any(size - offset + 1), GLTF_SUCCESS)
+        && reads_part(file, index, whole, 0, size + 1, GLTF_OUT_OF_RANGE)
+        && reads_part(file, index, whole, offset, size - offset + 1, GLTF_OUT_OF_RANGE)
+        && reads_part(file, index, whole, size + 1 + any(size + 1), 0, GLTF_OUT_OF_RANGE)
+        && reads_part(file, index, whole, (size_t)-1, 1, GLTF_OUT_OF_RANGE);
+    free(whole);
+    return right ? 0 : 20;
+}
+
+/* Each buffer, and the one behind the last. */
+static int read_buffers(gltf_file *file)
+{
+    size_t count = gltf_count(file, GLTF_BUFFERS), i, size;
+    int wrong = 0;
+    for (i = 0; i < count && wrong == 0; i++)
+        wrong = read_buffer(file, i);
+    if (wrong == 0
+        && (gltf_buffer_size(file, count, &size) != GLTF_NO_SUCH_INDEX
+            || !reads_part(file, count, NULL, 0, 0, GLTF_NO_SUCH_INDEX)))
+        wrong = 21;
+    return wrong;
+}
+
+/* A primitive: what it names is there, its attributes too. */
+static int read_primitive(gltf_file *file, size_t mesh, size_t primitive)
+{
+    size_t accessors = gltf_count(file, GLTF_ACCESSORS);
+    size_t materials = gltf_count(file, GLTF_MATERIALS), accessor;
+    gltf_primitive about;
+    unsigned meaning, set;
+    if (gltf_primitive_info(file, mesh, primitive, &about) != GLTF_SUCCESS)
+        return 22;
+    if (about.mode > GLTF_TRIANGLE_FAN
+        || (about.has_indices ? about.indices >= accessors : about.indices != 0)
+        || (about.has_material ? about.material >= materials : about.material != 0))
+        return 23;
+    for (meaning = GLTF_POSITION; meaning <= GLTF_WEIGHTS + 1; meaning++)
+        for (set = 0; set < 3; set++) {
+            gltf_status status = gltf_attribute(file, mesh, primitive, meaning, set, &accessor);
+            if (status == GLTF_SUCCESS ? accessor >= accessors || meaning > GLTF_WEIGHTS
+                : status != GLTF_NO_SUCH_INDEX)
+                return 24;
+        }
+    return 0;
+}
+
+/* Each mesh with its primitives, and what is behind the last of them. */
+static int read_meshes(gltf_file *file)
+{
+    size_t count = gltf_count(file, GLTF_MESHES), i, k, primitives;
+    gltf_primitive about;
+    int wrong = 0;
+    for (i = 0; i < count && wrong == 0; i++) {
+        if (gltf_primitive_count(file, i, &primitives) != GLTF_SUCCESS)
+            return 25;
+        for (k = 0; k < primitives && wrong == 0; k++)
+            wrong = read_primitive(file, i, k);
+        if (gltf_primitive_info(file, i, primitives, &about) != GLTF_NO_SUCH_INDEX)
+            return 26;
+    }
+    if (gltf_primitive_count(file, count, &primitives) != GLTF_NO_SUCH_INDEX)
+        return 27;
+    return wrong;
+}
+
+/* Each scene with its roots. */
+static int read_scenes(gltf_file *file)
+{
+    size_t count = gltf_count(file, GLTF_SCENES), i, k, node;
+    for (i = 0; i < count; i++) {
+        gltf_status status;
+        for (k = 0; (status = gltf_scene_node(file, i, k, &node)) == GLTF_SUCCESS; k++)
+            if (node >= gltf_count(file, GLTF_NODES))
+                return 28;
+        if (status != GLTF_NO_SUCH_INDEX)
+            return 29;
+    }
+    return gltf_scene_node(file, count, 0, &node) == GLTF_NO_SUCH_INDEX ? 0 : 30;
+}
+
 /* Each node with its children and the numbers of its members. */
 static int read_nodes(gltf_file *file)
 {
@@ -137,13 +244,17 @@ static int read_images(gltf_file *file)
 
 static int look_at_all(gltf_file *file, long *read)
 {
+    static int (*const readers[])(gltf_file *) = {
+        read_buffers, read_meshes, read_nodes, read_scenes, read_images
+    };
     int wrong = read_all(file, read);
     unsigned kind;
+    size_t i;
     for (kind = GLTF_BUFFERS; kind <= GLTF_CAMERAS && wrong == 0; kind++)
         wrong = read_names(file, kind);
-    if (wrong == 0)
-        wrong = read_nodes(file);
-    return wrong == 0 ? read_images(file) : wrong;
+    for (i = 0; i < sizeof readers / sizeof *readers && wrong == 0; i++)
+        wrong = readers[i](file);
+    return wrong;
 }
 
 /* A file's bytes stand in a block of their own size, so that each read past them is seen. */

@@ -3,8 +3,10 @@
 
 The prover proves `crates/gltf_c` before a byte of it is built. `out/c/libgltf.a` is that library
 and the few lines of the toolchain over malloc, joined, and shows the exports alone. With the word
-`behind-ci` it stands on the libraries as `rt ci` left them, and proves none of them again. The
-last line is `N passed, M failed`."""
+`behind-ci` it stands on the libraries as `rt ci` left them, and proves none of them again.
+
+A test whose tool is not there is told as not tried. The last line is `N passed, M failed`, and a
+test that was not tried is neither."""
 import os
 import pathlib
 import re
@@ -17,6 +19,7 @@ import tempfile
 sys.dont_write_bytecode = True
 
 import crates
+import programs
 
 CRATE = crates.TOP / "crates" / "gltf_c"
 C = crates.TOP / "c"
@@ -26,9 +29,14 @@ FILES = [os.fspath(crates.TOP / "examples" / name) for name in
          ("box.glb", "triangle.gltf", "dangling.gltf")]
 RIG = os.fspath(C / "rig.gltf")
 FINE = [*FILES[:2], RIG]
+# A file that is refused, and the message.
+REFUSED, MESSAGE = FILES[2], programs.DANGLING.rstrip("\n")
 # How many mutated copies of each file are tried, by the sanitizers and by valgrind.
 TIMES, TIMES_BY_VALGRIND = 33_334, 334
 STRICT = ["-Wall", "-Wextra", "-Werror", "-pedantic", "-O2"]
+# The compilers, each with the language that it is tried in.
+C89, CPP = ["-std=c89"], ["-std=c++11", "-x", "c++"]
+LANGUAGES = {"gcc": C89, "g++": CPP, "clang": C89, "clang++": CPP}
 # What the types of exports are in C. A slice is a pointer and a count.
 TYPES = {
     "usize": ["size_t"],
@@ -38,6 +46,20 @@ TYPES = {
     "&mut usize": ["size_t *"],
     "&mut f64": ["double *"],
 }
+# What the types of members are in C, and how many bytes they are.
+FIELDS = {"usize": ("size_t", 8), "u32": ("unsigned int", 4), "*mut u8": ("void *", 8)}
+# The members and the enumerators that C has by other names.
+MEMBERS = {("gltf_file", "at"): "held"}
+ENUMERATORS = {
+    ("Semantic", "Positions"): "POSITION",
+    ("Semantic", "Normals"): "NORMAL",
+    ("Semantic", "Tangents"): "TANGENT",
+    ("Semantic", "Colors"): "COLOR",
+    ("Semantic", "TexCoords"): "TEXCOORD",
+    ("Member", "Weights"): "NODE_WEIGHTS",
+}
+# The types of the code whose variants C has as enumerators.
+KINDS = {"Status", "Kind", "DataType", "Mode", "Semantic", "Member"}
 
 
 def ran(*words, **how):
@@ -109,54 +131,118 @@ def c_types(name, kind):
     if kind == "&mut [u8]" and name in ("message", "text"):
         return ["char *", "size_t"]
     if kind.startswith("&mut Gltf"):
-        return [re.sub(r"(?<!^)(?=[A-Z])", "_", kind[5:]).lower() + " *"]
+        return [words_of(kind[5:]).lower() + " *"]
     return TYPES[kind]
 
 
-def header_has_the_signatures():
-    """A declaration made of each export has to be that of the header, and each struct has to lie
-    in memory as it does there."""
-    lines = ['#include "gltf.h"', "#include <stddef.h>"]
+def words_of(name):
+    """`TwoWords` as `Two_Words`."""
+    return re.sub(r"(?<!^)(?=[A-Z])", "_", name)
+
+
+def holds_in_c(condition):
+    return f'_Static_assert({condition}, "{condition}");'
+
+
+def header():
+    """The text of the header, with no comments and no directives."""
+    text = re.sub(r"/\*.*?\*/", "", (C / "gltf.h").read_text("utf-8"), flags=re.DOTALL)
+    return re.sub(r"(?m)^#.*$", "", text)
+
+
+def declarations():
+    """A declaration made of each export. What the header declares has to be of the same type."""
     for name, parameters, result in exports():
         types = [kind for pair in parameters for kind in c_types(*pair)]
         result = result if result == "void" else TYPES[result][0]
-        lines.append(f"{result} {name}({', '.join(types) or 'void'});")
-    for name, fields in re.findall(r"#\[repr\(C\)\][^{]*pub struct (\w+) \{([^}]*)\}", source()):
-        struct, at = re.sub(r"(?<!^)(?=[A-Z])", "_", name).lower(), 0
-        for field, kind in re.findall(r"pub (\w+): (usize|u32)\b", fields):
-            size = 8 if kind == "usize" else 4
+        yield f"{result} {name}({', '.join(types) or 'void'});"
+
+
+def structs():
+    """The structs that C declares too: of each its name there, and its members in memory."""
+    form = r"#\[repr\(C\)\]\n(?:#\[.*\]\n)*pub struct (\w+) \{\n((?:.*\n)*?)\}\n"
+    found = [(words_of(name).lower(), re.findall(r"(?m)^    (?:pub )?(\w+): (.+),$", inner))
+             for name, inner in re.findall(form, source())]
+    assert len(found) == source().count("#[repr(C)]"), found
+    return [(struct, [(MEMBERS.get((struct, member), member), kind) for member, kind in members])
+            for struct, members in found]
+
+
+def layouts():
+    """Each member has to be as wide in the header as in the code and to stand at the same place,
+    with nothing behind the last but what aligns it."""
+    for struct, members in structs():
+        at = 0
+        for member, kind in members:
+            c_type, size = FIELDS[kind]
             at = (at + size - 1) // size * size
-            lines.append(f"_Static_assert(offsetof({struct}, {field}) == {at}, \"{field}\");")
+            its = f"(({struct} *)0)->{member}"
+            yield from (holds_in_c(f"offsetof({struct}, {member}) == {at}"),
+                        holds_in_c(f"sizeof {its} == {size}"),
+                        holds_in_c(f"_Generic({its}, {c_type}: 1, default: 0)"))
             at += size
-    file = OUT / "signatures.c"
+        widest = max(FIELDS[kind][1] for _, kind in members)
+        whole = (at + widest - 1) // widest * widest
+        yield holds_in_c(f"sizeof({struct}) == {whole}")
+
+
+def enumerators():
+    """The enumerators, each with the number that the code has for it."""
+    given = re.findall(r"(\d+) => Some\((Kind|Member|Semantic)::(\w+)", source())
+    taken = re.findall(r"(Status|DataType|Mode)::(\w+)\)?(?: \| \S+)? => (\d+),", source())
+    pairs = [(kind, variant, number) for number, kind, variant in given] + taken
+    found = [("GLTF_" + ENUMERATORS.get((kind, variant), words_of(variant).upper()), number)
+             for kind, variant, number in pairs]
+    assert {kind for kind, _, _ in pairs} == KINDS and len(found) == len(dict(found)), pairs
+    return found
+
+
+def same(shown, wanted):
+    assert shown == wanted, f"{shown} is not {wanted}"
+
+
+def header_says_what_the_code_has():
+    """The header and the code have the same functions, structs, members and enumerators, of the
+    same types and numbers, and each struct lies in memory alike."""
+    text = header()
+    same(sorted(re.findall(r"(\w+)\s*\(", text)), sorted(name for name, _, _ in exports()))
+    shown = {struct: re.findall(r"(\w+);", inner) for inner, struct in
+             re.findall(r"typedef struct \w+ \{([^}]*)\} (\w+);", text)}
+    same(shown, {struct: [member for member, _ in members] for struct, members in structs()})
+    same(sorted(re.findall(r"(\w+) = ", text)), sorted(name for name, _ in enumerators()))
+    lines = ['#include "gltf.h"', *declarations(), *layouts(),
+             *(holds_in_c(f"{name} == {number}") for name, number in enumerators())]
+    file = OUT / "header.c"
     file.write_text("\n".join(lines) + "\n")
     ran("cc", "-std=c11", "-Wall", "-Werror", f"-I{C}", "-fsyntax-only", file)
 
 
-def built(name, *more, by="cc", language=()):
-    program = OUT / f"{name}{'_' + by if by != 'cc' else ''}"
+class Lacking(Exception):
+    """A tool that is not there."""
+
+
+def need(tool):
+    if not shutil.which(tool):
+        raise Lacking(f"there is no {tool}")
+
+
+def built(name, *more, by="cc", language=(), to=None):
+    program = OUT / (to or name)
     ran(by, *STRICT, *language, f"-I{C}", C / f"{name}.c", *more, "-x", "none", LIBRARY,
         "-o", program)
     return program
 
 
-def compilers():
-    """Each compiler that is there, with the language that it is tried in."""
-    ways = [("gcc", ["-std=c89"]), ("g++", ["-std=c++11", "-x", "c++"]),
-            ("clang", ["-std=c89"]), ("clang++", ["-std=c++11", "-x", "c++"])]
-    return [(by, words) for by, words in ways if shutil.which(by)]
-
-
-def shows_by_each_compiler():
-    for by, language in compilers():
-        told = ran(built("show", by=by, language=language), FILES[0])
-        assert told == "24 points, the first 0.5 -0.5 -0.5\n", (by, told)
+def shows_by(compiler):
+    need(compiler)
+    program = built("show", by=compiler, language=LANGUAGES[compiler], to=f"show_{compiler}")
+    same(ran(program, FILES[0]), "24 points, the first 0.5 -0.5 -0.5\n")
 
 
 def lists_what_the_files_hold():
     program = built("list", "-std=c89")
-    wanted = ran(sys.executable, C / "expected.py", *FINE)
-    assert ran(program, *FINE) == wanted
+    wanted = ran(sys.executable, C / "expected.py", *FINE) + f"{MESSAGE}\n{MESSAGE[:9]}\n"
+    assert ran(program, *FINE, REFUSED) == wanted
 
 
 def a_stack_of_256_kib_is_enough():
@@ -172,26 +258,26 @@ def a_stack_of_256_kib_is_enough():
 
 
 def mutated_files_break_nothing():
-    program = built("mutate", "-g", "-fsanitize=address,undefined")
+    # A finding ends the program, also one of undefined behaviour.
+    program = built("mutate", "-g", "-fsanitize=address,undefined", "-fno-sanitize-recover=all")
     print(ran(program, str(TIMES), *FILES, RIG), end="")
 
 
 def valgrind_sees_no_error():
-    if not shutil.which("valgrind"):
-        return "there is no valgrind"
-    program = built("mutate", by="gcc")
+    need("valgrind")
+    program = built("mutate", to="mutate_by_valgrind")
     ran("valgrind", "-q", "--leak-check=full", "--error-exitcode=9", program,
         str(TIMES_BY_VALGRIND), *FILES, RIG)
-    return None
 
 
 def threads_have_files_of_their_own():
+    ran(built("threads", "-pthread"), "200", FILES[0])
+
+
+def helgrind_sees_no_race():
+    need("valgrind")
     program = built("threads", "-pthread")
-    ran(program, "200", FILES[0])
-    if not shutil.which("valgrind"):
-        return "there is no valgrind"
     ran("valgrind", "-q", "--tool=helgrind", "--error-exitcode=9", program, "2", FILES[0])
-    return None
 
 
 def each_growth_is_refused_in_turn():
@@ -202,43 +288,38 @@ def each_growth_is_refused_in_turn():
 
 
 def links_from_rust():
-    if not shutil.which("rustc"):
-        return "there is no rustc"
+    need("rustc")
     program = OUT / "main"
     ran("rustc", "-O", C / "main.rs", "-o", program, f"-Clink-arg={LIBRARY}")
-    assert ran(program, FILES[0]) == "4 accessors\n"
-    return None
+    same(ran(program, FILES[0]), "4 accessors\n")
 
 
-def is_found_where_it_is_installed():
-    """A program is built against the installed files, by pkg-config and by CMake."""
-    with tempfile.TemporaryDirectory() as room:
-        install(pathlib.Path(room) / "usr")
-        for name in ("show.c", "contents.h"):
-            shutil.copy(C / name, room)
-        lacking = [by for by, way in (("pkg-config", by_pkg_config), ("cmake", by_cmake))
-                   if not way(pathlib.Path(room))]
-    return f"there is no {' and no '.join(lacking)}" if lacking else None
+def is_found_by(tool):
+    """A program is built against the installed files, as this tool finds them."""
+    need(tool)
+    with tempfile.TemporaryDirectory() as name:
+        room = pathlib.Path(name)
+        install(room / "usr")
+        for file in ("show.c", "contents.h"):
+            shutil.copy(C / file, room)
+        program = by_cmake(room) if tool == "cmake" else by_pkg_config(room)
+        same(ran(program, FILES[0]), "24 points, the first 0.5 -0.5 -0.5\n")
 
 
 def by_pkg_config(room):
-    if not shutil.which("pkg-config"):
-        return False
     where = {**os.environ, "PKG_CONFIG_PATH": f"{room}/usr/lib/pkgconfig"}
     flags = ran("pkg-config", "--cflags", "--libs", "gltf", env=where).split()
     ran("cc", room / "show.c", *flags, "-o", room / "show")
-    return ran(room / "show", FILES[0]).startswith("24 points")
+    return room / "show"
 
 
 def by_cmake(room):
-    if not shutil.which("cmake"):
-        return False
     (room / "CMakeLists.txt").write_text(
         "cmake_minimum_required(VERSION 3.10)\nproject(show C)\nfind_package(gltf REQUIRED)\n"
         "add_executable(shown show.c)\ntarget_link_libraries(shown gltf::gltf)\n")
     ran("cmake", f"-DCMAKE_PREFIX_PATH={room}/usr", "-S", room, "-B", room / "built")
     ran("cmake", "--build", room / "built")
-    return ran(room / "built" / "shown", FILES[0]).startswith("24 points")
+    return room / "built" / "shown"
 
 
 def install(prefix):
@@ -256,30 +337,37 @@ def install(prefix):
         print(file)
 
 
+# Each test, with what it is given.
 TESTS = (
-    shows_exports_alone, header_has_the_signatures, shows_by_each_compiler,
-    lists_what_the_files_hold, a_stack_of_256_kib_is_enough, mutated_files_break_nothing,
-    valgrind_sees_no_error, threads_have_files_of_their_own, each_growth_is_refused_in_turn,
-    links_from_rust, is_found_where_it_is_installed,
+    [shows_exports_alone], [header_says_what_the_code_has],
+    *([shows_by, compiler] for compiler in LANGUAGES),
+    [lists_what_the_files_hold], [a_stack_of_256_kib_is_enough], [mutated_files_break_nothing],
+    [valgrind_sees_no_error], [threads_have_files_of_their_own], [helgrind_sees_no_race],
+    [each_growth_is_refused_in_turn], [links_from_rust],
+    [is_found_by, "pkg-config"], [is_found_by, "cmake"],
 )
 
 
-def holds(test):
-    name = test.__name__.replace("_", " ")
+def holds(test, *given):
+    """Whether a test passes; None where it is not tried."""
+    name = " ".join([test.__name__.replace("_", " "), *given])
     try:
-        skipped = test()
-    except (AssertionError, subprocess.CalledProcessError, KeyError) as why:
+        test(*given)
+    except Lacking as why:
+        print(f"c: {name}: not tried, since {why}")
+        return None
+    except (AssertionError, subprocess.CalledProcessError, KeyError, OSError) as why:
         print(f"c: {name}: FAILED: {why}")
         return False
-    print(f"c: {name}: {f'not tried, since {skipped}' if skipped else 'ok'}")
+    print(f"c: {name}: ok")
     return True
 
 
 def main():
     join(build("behind-ci" in sys.argv[1:]))
-    good = [holds(test) for test in TESTS]
-    print(f"{sum(good)} passed, {len(good) - sum(good)} failed")
-    return 0 if all(good) else 1
+    results = [holds(*row) for row in TESTS]
+    print(f"{results.count(True)} passed, {results.count(False)} failed")
+    return 1 if False in results else 0
 
 
 if __name__ == "__main__":
