@@ -172,7 +172,7 @@ enum {
 };
 
 /* Where the bytes of an image are (glTF 2.0, section 3.8.3). No rule says that they lie in the
- * buffer: ask for its size before room is made, or gltf_buffer_read, which refuses what does not. */
+ * buffer: compare them with gltf_buffer_size before room is made for them. */
 typedef struct gltf_image {
     unsigned int has_view; /* 1 where they are in a buffer, else 0: then gltf_image_uri says it */
     size_t buffer;         /* that buffer, or 0 */
@@ -188,10 +188,10 @@ typedef struct gltf_image {
  * GLTF_SUCCESS exactly where container, text, records, rules and the buffers hold, and there was
  * memory: then `file` holds that document and those buffers, and no others are in the bytes. The
  * rules are that indices are in range, codes are known, that which is required is there, and no
- * extension is required that is not known; not what the format says of alignment, strides, bounds,
- * units, and of nodes making up trees. Else `file` is closed, and the status is that of the first of these layers that
- * does not hold; then the bytes are not accepted at any other time either. Or it is GLTF_NO_MEMORY,
- * which says nothing of the bytes.
+ * extension is required that is not known; not what the format says of alignment, strides, bounds
+ * and units, and not that nodes make up trees. Else `file` is closed, and the status is that of the
+ * first of these layers that does not hold; then the bytes are not accepted at any other time
+ * either. Or it is GLTF_NO_MEMORY, which says nothing of the bytes.
  *
  * `message` gets the text of the error, cut to `message_size` - 1 bytes, with a zero byte behind
  * it, or an empty text; with a size of 0 nothing is written. Where there was no memory for the text
