@@ -1,5 +1,5 @@
 -- What an error says of a buffer, and of the names that were asked for.
-use Rattle.std.specs.Prelude.{◌≡◌, ℕ, List, ◌∷◌, Option, None, ⊤}
+use Rattle.std.specs.Prelude.{◌≡◌, ℕ, List, ◌∷◌, Option, None, IsSome}
 use Rattle.gltf_glb.specs.declared.error.Error.{Error}
 use Rattle.gltf_glb.specs.declared.error.Error.TheVariants.{Base64, BufferLength, MissingBlob}
 use Rattle.gltf_glb.specs.declared.error.Error.TheVariants.{ExternalReferenceInSliceImport}
@@ -34,8 +34,8 @@ IsUnanswered names name old new ExternalReferenceInSliceImport = (names ≡ Nowh
 IsUnanswered names name old new Memory = new ≡ old
 IsUnanswered names name old new _ = ⊥
 
--- there is no blob, or not enough memory for the zeros behind it
+-- there is no blob, or there is one and not enough memory for the zeros behind it
 abbrev pub IsNotTaken : Option (List ℕ) → Error → Type 0
 IsNotTaken blob MissingBlob = blob ≡ None
-IsNotTaken blob Memory = ⊤
+IsNotTaken blob Memory = IsSome blob
 IsNotTaken blob _ = ⊥

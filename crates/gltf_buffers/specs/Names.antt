@@ -1,4 +1,5 @@
--- Where bytes that stand outside a document come from, and which of them are given for a name.
+-- Where bytes that stand outside a document come from, and which of them are given for a name
+-- (glTF 2.0, section 2.8).
 use Rattle.std.specs.Prelude.{◌≡◌, ℕ, List, Option, Some, None, IsSome, ⊤, ◌⊎◌, []}
 use Rattle.std.specs.Borrow.{MutBor}
 use Rattle.std.proofs.Common.{inl, inr}
@@ -64,3 +65,10 @@ abbrev pub failures_left : {S : Type 0} → (S → List Named)
 failures_left failures (inl none) = []
 failures_left failures (inr (inl source)) = failures source.0.now
 failures_left failures (inr (inr never)) = absurd never
+
+-- what is known of the names of such a source then
+abbrev pub names_left : {S : Type 0} → (S → Option (Named → Option (List ℕ)))
+    → Unit {0} ⊎ ((MutBor S × Unit {0}) ⊎ ⊥) → Names
+names_left held (inl none) = Nowhere
+names_left held (inr (inl source)) = names_of (held source.0.now)
+names_left held (inr (inr never)) = absurd never

@@ -3,7 +3,7 @@ ghost use Rattle.std.specs.Prelude.{◌≡◌, Ok, Err, IfOk, IfErr, OnOk, OnErr
 ghost use Rattle.std.specs.Prelude.{if◌then◌else◌, option_copied};
 ghost use Rattle.gltf_buffers.specs.Buffers.{IsDataOf, LeadsTo};
 ghost use Rattle.gltf_buffers.specs.Errors.{FailsOrNames};
-ghost use Rattle.gltf_buffers.specs.Names.{names_in, failures_in, failures_left};
+ghost use Rattle.gltf_buffers.specs.Names.{names_in, names_left, failures_in, failures_left};
 ghost use Rattle.gltf_buffers.specs.Shown.{blob_bytes};
 ghost use Rattle.gltf_handles.specs.Buffers.{uri_of};
 
@@ -39,6 +39,8 @@ impl Data {
             (failures_in S.failures names.entry) (failures_left S.failures names.exit)) }
         ensures fine { OnOk result (failures_left S.failures names.exit
             ≡ failures_in S.failures names.entry) }
+        ensures kept { names_left S.bytes_by_name names.exit
+            ≡ names_in S.bytes_by_name names.entry }
     {
         match names {
             Some(names) => data_without_blob(alloc, uri_in(source), names),
@@ -67,6 +69,8 @@ impl Data {
             (failures_in S.failures names.entry) (failures_left S.failures names.exit)) }
         ensures fine { OnOk result (failures_left S.failures names.exit
             ≡ failures_in S.failures names.entry) }
+        ensures kept { names_left S.bytes_by_name names.exit
+            ≡ names_in S.bytes_by_name names.entry }
         ensures blob { OnOk result (blob_bytes blob.new
             ≡ (if is_some (uri_of source.entry) then blob_bytes blob.old else None)) }
         ensures stays { OnErr result (blob_bytes blob.new ≡ blob_bytes blob.old) }

@@ -1,4 +1,4 @@
--- Names as contracts see them.
+-- Names of files as contracts see them (glTF 2.0, section 2.8).
 use Rattle.std.specs.Prelude.{◌≡◌, ℕ, List, [], ◌∷◌, Option, Some, None, IfSome, Bool, false, ◌⊎◌}
 use Rattle.std.specs.Prelude.{string_bytes}
 use Rattle.std.specs.Coded.{Coded, coded_list, coded⊎, coded_ℕ, code_by}

@@ -1,4 +1,5 @@
--- The path of the file that a name stands for.
+-- The path of the file that a name stands for: relative references stand behind the folder of the
+-- document (glTF 2.0, section 2.8).
 use Rattle.std.specs.Prelude.{ℕ, List, [], ◌∷◌, ◌++◌, nat_eq, if◌then◌else◌}
 use Rattle.std.specs.List.{starts_with}
 use Rattle.gltf_names.specs.Named.{Named, File, Relative}

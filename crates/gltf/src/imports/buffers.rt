@@ -2,7 +2,7 @@
 ghost use Rattle.std.specs.Prelude.{◌≡◌, [], List, Some, None, IfOk, IfErr, OnOk, length};
 ghost use Rattle.gltf_buffers.specs.Buffers.{sources_of, AreBytes, HasBufferFault, IsAskedFor};
 ghost use Rattle.gltf_buffers.specs.Errors.{FailsOrNames};
-ghost use Rattle.gltf_buffers.specs.Names.{names_in, failures_in, failures_left};
+ghost use Rattle.gltf_buffers.specs.Names.{names_in, names_left, failures_in, failures_left};
 ghost use Rattle.gltf_names.specs.Named.{Named};
 ghost use Rattle.gltf.specs.Files.{names_behind};
 ghost use Rattle.gltf.specs.Shown.{blob_bytes, bytes_of_each};
@@ -58,6 +58,7 @@ pub fn import_buffers_from<S: NamedBytes>(
         (failures_in S.failures names.entry) (failures_left S.failures names.exit)) }
     ensures fine { OnOk result (failures_left S.failures names.exit
         ≡ failures_in S.failures names.entry) }
+    ensures kept { names_left S.bytes_by_name names.exit ≡ names_in S.bytes_by_name names.entry }
 {
     match names {
         Some(names) => read_buffers(alloc, &document.as_json().buffers, names, blob),
