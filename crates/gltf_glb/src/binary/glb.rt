@@ -3,7 +3,7 @@ ghost use Rattle.std.specs.Prelude.{◌≡◌, ◌≤◌, ◌+◌, length, take,
 ghost use Rattle.std.specs.Prelude.{OnErr, Ok, vec_capacity};
 ghost use Rattle.std.specs.Cow.{cow_slice_items, IsBorrowedSlice};
 ghost use Rattle.gltf_glb.specs.Glb.{items_of, IsReadFrom, Refuses, IsCopy, IsWritten, HasRoom};
-ghost use Rattle.gltf_glb.specs.Glb.{RefusesToWrite, IsTakenFrom, RefusesOrRunsOut};
+ghost use Rattle.gltf_glb.specs.Glb.{RefusesToWrite, IsTakenFrom, RefusesOrRunsOut, StaysLent};
 ghost use Rattle.gltf_glb.specs.Reading.{IsReadingOf};
 ghost use Rattle.gltf_glb.specs.Steps.{IsHeader, bytes_of_blob, StandsIn};
 ghost use Rattle.gltf_glb.specs.Reader.{ReadsContainer};
@@ -145,7 +145,8 @@ impl<'a> Glb<'a> {
 
     /// The same parts again: what is lent stays lent, what is owned is copied.
     pub fn clone(&self, alloc: Global) -> Result<Glb<'a>, AllocError>
-        ensures { IfOk result (IsCopy self.now) }
+        ensures copy { IfOk result (IsCopy self.now) }
+        ensures lent { IfOk result (StaysLent self.now) }
     {
         let bin = match &self.bin {
             Some(bin) => Some(copy_of(alloc, bin)?),
@@ -194,7 +195,8 @@ fn lent(blob: Option<Blob<'_>>) -> Option<CowSlice<'_, u8>>
 }
 
 fn copy_of<'a>(alloc: Global, part: &CowSlice<'a, u8>) -> Result<CowSlice<'a, u8>, AllocError>
-    ensures { IfOk result (λ copy. cow_slice_items copy ≡ cow_slice_items part.now) }
+    ensures items { IfOk result (λ copy. cow_slice_items copy ≡ cow_slice_items part.now) }
+    ensures lent { IfOk result (λ copy. IsBorrowedSlice part.now → IsBorrowedSlice copy) }
 {
     match part {
         CowSlice::Borrowed(part) => Ok(CowSlice::Borrowed(*part)),
