@@ -57,7 +57,8 @@ module _ {M : Type 1} {𝓤 : Ura M} {𝓛 : Logic 𝓤} {K : Type 0} {Γ : List
         → Seq K 𝓛 (‵ (handle.the_row.own_val d vs) ∷ Γ) G
     handle_out t d vs next =
         fsplit t $ fpick t (λ vss. fsplit t $ feq_l t (λ whole. fsplit t $ feq_l t (λ field.
-        drop t $ next (subst (λ (ps : List Val). vs ≡ vstruct (of_list (ps ++ [])) ∷ []) field whole))))
+        drop t $ next (subst (λ (ps : List Val). vs ≡ vstruct (of_list (ps ++ [])) ∷ []) field
+        whole))))
 
     -- by what is there: nothing at null, or the value at a pointer that may be compared with null
     pub by_value : K → (p : Ptr) (v : Option File)

@@ -9,7 +9,7 @@ use Rattle.gltf.specs.Import.{Accepts, RefusesImport, IsOnlyImport, IsNotAccepte
 use Rattle.gltf.specs.Shown.{bytes_of_each}
 use Rattle.gltf_c.specs.Given.{IsGiven, IsGivenText}
 use Rattle.gltf_c.specs.Info.{count_of}
-use Rattle.gltf_c.specs.Message.{terminated, Tells}
+use Rattle.gltf_c.specs.Message.{text_in_room, Tells}
 use Rattle.gltf_c.specs.Read.{IsRead, IsCopied, buffer_of}
 use Rattle.gltf_c.specs.Status.{code, status_of}
 use Rattle.gltf_c.specs.declared.file.File.{File}
@@ -37,7 +37,7 @@ pub record IsRefused (bytes : List ℕ) (status : ℕ) (old new : List ℕ) : Ty
 abbrev pub IsOpened : List ℕ → ℕ → Option File → List ℕ → List ℕ → Type 0
 IsOpened bytes status None old new = IsRefused bytes status old new
 IsOpened bytes status (Some file) old new =
-    (status ≡ code Success) × Holds bytes file × (new ≡ terminated [] old)
+    (status ≡ code Success) × Holds bytes file × (new ≡ text_in_room [] old)
 
 -- the number of records of a kind; of a closed file it is 0
 abbrev pub HasCount : Option File → ℕ → ℕ → Type 0

@@ -1,6 +1,6 @@
 -- What a call writes of what it is asked for.
 use Rattle.std.specs.Prelude.{◌≡◌, ℕ, List, Option, Some, None, length}
-use Rattle.gltf_c.specs.Message.{terminated}
+use Rattle.gltf_c.specs.Message.{text_in_room}
 use Rattle.gltf_c.specs.declared.status.Status.{Status}
 use Rattle.gltf_c.specs.declared.status.Status.TheVariants.{Success, NoSuchIndex}
 
@@ -14,4 +14,4 @@ abbrev pub IsGivenText : Option (List ℕ) → Status → List ℕ → List ℕ 
 IsGivenText None status old new old_length new_length =
     (status ≡ NoSuchIndex) × (new ≡ old) × (new_length ≡ old_length)
 IsGivenText (Some text) status old new old_length new_length =
-    (status ≡ Success) × (new ≡ terminated text old) × (new_length ≡ length text)
+    (status ≡ Success) × (new ≡ text_in_room text old) × (new_length ≡ length text)

@@ -1,4 +1,5 @@
--- What a file has, as C sees it.
+-- What a file has, as C sees it: how many records of each kind (glTF 2.0, section 5.17), and what
+-- an accessor is (section 5.1).
 use Rattle.std.specs.Prelude.{ℕ, Bool, true, false, List, [], ◌∷◌, length, slice_get, Option}
 use Rattle.std.specs.Prelude.{is_some, unwrap_or, option_map}
 use Rattle.gltf_json.specs.declared.root.Root.{Root}
@@ -24,20 +25,20 @@ abbrev pub kind_of : ℕ → Option Kind
 kind_of number = slice_get kinds number
 
 -- how many records of a kind a document has
-abbrev pub counted : Kind → Root → ℕ
-counted Buffers r = length r.buffers.items
-counted BufferViews r = length r.buffer_views.items
-counted Accessors r = length r.accessors.items
-counted Meshes r = length r.meshes.items
-counted Nodes r = length r.nodes.items
-counted Materials r = length r.materials.items
-counted Scenes r = length r.scenes.items
-counted Skins r = length r.skins.items
-counted Animations r = length r.animations.items
-counted Images r = length r.images.items
-counted Textures r = length r.textures.items
-counted Samplers r = length r.samplers.items
-counted Cameras r = length r.cameras.items
+abbrev pub record_count : Kind → Root → ℕ
+record_count Buffers r = length r.buffers.items
+record_count BufferViews r = length r.buffer_views.items
+record_count Accessors r = length r.accessors.items
+record_count Meshes r = length r.meshes.items
+record_count Nodes r = length r.nodes.items
+record_count Materials r = length r.materials.items
+record_count Scenes r = length r.scenes.items
+record_count Skins r = length r.skins.items
+record_count Animations r = length r.animations.items
+record_count Images r = length r.images.items
+record_count Textures r = length r.textures.items
+record_count Samplers r = length r.samplers.items
+record_count Cameras r = length r.cameras.items
 
 -- the number of a component type (glTF 2.0, section 3.6.2.2)
 abbrev pub component_number : DataType → ℕ
@@ -69,4 +70,4 @@ accessor_of index file = option_map description (accessor_at file.document index
 
 -- how many records there are of the kind of a number; none where the number has no kind
 abbrev pub count_of : ℕ → Root → ℕ
-count_of number r = unwrap_or (option_map (λ kind. counted kind r) (kind_of number)) 0
+count_of number r = unwrap_or (option_map (λ kind. record_count kind r) (kind_of number)) 0

@@ -10,9 +10,9 @@ shown_length text room = min (length text) (length room - 1)
 
 -- the room with the text at its front, cut to it, and a zero byte behind the text; what is behind
 -- that stays
-abbrev pub terminated : List ℕ → List ℕ → List ℕ
-terminated text [] = []
-terminated text (x ∷ room) =
+abbrev pub text_in_room : List ℕ → List ℕ → List ℕ
+text_in_room text [] = []
+text_in_room text (x ∷ room) =
     take (shown_length text (x ∷ room)) text
     ++ (0 ∷ drop (suc (shown_length text (x ∷ room))) (x ∷ room))
 
@@ -23,4 +23,4 @@ no_memory_for_text = codes "there is no memory for the message"
 pub record Tells (e : Error) (old new : List ℕ) : Type 0 where
   pub text : List ℕ
   pub is_text : IfSome (error_text e) (λ known. text ≡ known) ⊎ (text ≡ no_memory_for_text)
-  pub written : new ≡ terminated text old
+  pub written : new ≡ text_in_room text old

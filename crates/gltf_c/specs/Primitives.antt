@@ -54,7 +54,7 @@ primitive_shown p = record {
 abbrev pub shown_primitive_of : ℕ → ℕ → File → Option GltfPrimitive
 shown_primitive_of mesh index file = option_map primitive_shown (primitive_of mesh index file)
 
--- the attribute of each number from 0 on, with the number of its set
+-- the attribute of each number from 0 on, with the number of its set (section 3.7.2.1)
 abbrev pub semantics : ℕ → List Semantic
 semantics set = Positions ∷ Normals ∷ Tangents ∷ Colors set ∷ TexCoords set ∷ Joints set
     ∷ Weights set ∷ []

@@ -1,4 +1,5 @@
--- The bytes that C reads.
+-- The bytes that C reads: those of buffers (glTF 2.0, section 3.6.1), and the items of accessors
+-- (section 3.6.2).
 use Rattle.std.specs.Prelude.{◌≡◌, ℕ, ◌+◌, ◌*◌, ◌++◌, List, Option, Some, None, length, take, drop}
 use Rattle.std.specs.Prelude.{replicate, slice_get, nat_le, option_map, MatchBool}
 use Rattle.std.specs.List.{concat}

@@ -2,7 +2,7 @@
 
 ghost use Rattle.std.specs.Prelude.{◌≡◌};
 ghost use Rattle.gltf_handles.specs.Accessors.{accessor_handle};
-ghost use Rattle.gltf_c.specs.Info.{kind_of, counted, description, accessor_of};
+ghost use Rattle.gltf_c.specs.Info.{kind_of, record_count, description, accessor_of};
 ghost use Rattle.gltf_c.specs.Info.{component_number};
 
 use crate::file::File;
@@ -84,7 +84,7 @@ pub struct GltfAccessor {
 
 /// How many records of a kind there are.
 pub(crate) fn count(file: &File, kind: Kind) -> usize
-    ensures { result ≡ counted kind file.now.document }
+    ensures { result ≡ record_count kind file.now.document }
 {
     let root = file.document.as_json();
     match kind {

@@ -1,7 +1,7 @@
 //! Text that C reads: bytes with a zero byte behind them.
 
 ghost use Rattle.std.specs.Prelude.{◌≡◌};
-ghost use Rattle.gltf_c.specs.Message.{terminated, Tells};
+ghost use Rattle.gltf_c.specs.Message.{text_in_room, Tells};
 
 use gltf::Error;
 use std::alloc::Global;
@@ -20,7 +20,7 @@ pub(crate) fn tell(alloc: Global, error: &Error, room: &mut [u8])
 /// Writes text to the front of `room`, as much of it as there is room for, and a zero byte behind
 /// it. Where there is no room at all, it writes nothing.
 pub(crate) fn put(text: &[u8], room: &mut [u8])
-    ensures { room.new ≡ terminated text.now room.old }
+    ensures { room.new ≡ text_in_room text.now room.old }
 {
     if room.is_empty() {
         return;
