@@ -51,7 +51,8 @@ impl<'a> Glb<'a> {
     /// The same of bytes that are given up: both parts are owned. The binary buffer is handed on in
     /// the room that the bytes had; memory is taken for the JSON alone.
     ///
-    /// Answers [`Error::Binary`] with the one fault that the bytes have, or [`Error::Memory`].
+    /// Answers [`Error::Binary`] with the one fault that the bytes have, or [`Error::Memory`] where
+    /// they have none.
     pub fn from_vec(alloc: Global, bytes: Vec<u8>) -> Result<Glb<'static>>
         ensures parts { IfOk result (IsTakenFrom bytes.items) }
         ensures moved { IfOk result (λ glb. IfSome glb.bin (HasRoom (vec_capacity bytes))) }
