@@ -5,7 +5,6 @@ use gltf::{
     Document, Error, Gltf, Name, Result, Shelf, import, import_buffers, import_buffers_from,
 };
 use std::fs;
-use std::process::Abort;
 use std::rt::HostRuntime;
 use std::test::Fail;
 
@@ -69,19 +68,20 @@ fn files_are_found_beside_a_document(rt: HostRuntime) -> std::result::Result<(),
     fs::create_dir_all(&rt, "beside")?;
     fs::write(&rt, "beside/a.gltf", BESIDE.as_bytes())?;
     fs::write(&rt, "beside/b.bin", [0u8, 1, 2].as_slice())?;
-    compare_beside(&rt)?;
+    let is_found = is_found_beside(&rt)?;
+    assert!(rt; is_found);
     fs::remove_file(&rt, "beside/a.gltf")?;
     fs::remove_file(&rt, "beside/b.bin")?;
     fs::remove_dir(&rt, "beside")?;
     Ok(())
 }
 
-/// The buffer of the document in that folder, by its path, and by the folder alone.
-fn compare_beside(rt: &HostRuntime) -> std::result::Result<(), Fail> {
+/// Whether the buffer of the document in that folder is found by the document's path and by the
+/// folder, and by no other folder.
+fn is_found_beside(rt: &HostRuntime) -> Result<bool> {
     let (document, by_path) = import(rt, rt.alloc(), "beside/a.gltf")?;
     let by_folder = import_buffers(rt, rt.alloc(), &document, Some("beside/"), None)?;
-    assert!(rt; is_one(&by_path) && is_one(&by_folder));
     let elsewhere = import_buffers(rt, rt.alloc(), &document, Some(""), None);
-    assert!(rt; matches!(elsewhere, Err(Error::Io(_))));
-    Ok(())
+    let is_missing = matches!(elsewhere, Err(Error::Io(_)));
+    Ok(is_one(&by_path) && is_one(&by_folder) && is_missing)
 }
