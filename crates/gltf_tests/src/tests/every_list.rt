@@ -55,19 +55,23 @@ fn compare(rt: &impl Abort, indices: &[u8]) {
         };
         assert_eq!(rt; after(indices, position).last(), last, "{indices:?}");
         for n in 0..7usize {
-            let mut jumped = after(indices, position);
-            assert_eq!(rt;
-                jumped.nth(n),
-                expected(indices, position + n),
-                "{indices:?} from {position} by {n}"
-            );
-            assert_eq!(rt;
-                jumped.next(),
-                expected(indices, position + n + 1),
-                "{indices:?} from {position} behind {n}"
-            );
+            compare_jump(rt, indices, position, n);
         }
     }
+}
+
+/// Compares a jump from a position, and the step behind it.
+fn compare_jump(rt: &impl Abort, indices: &[u8], position: usize, n: usize) {
+    let mut jumped = after(indices, position);
+    let (item, next) = (jumped.nth(n), jumped.next());
+    let place = position.saturating_add(n);
+    assert_eq!(rt;
+        item,
+        expected(indices, place),
+        "{indices:?} from {position} by {n}"
+    );
+    let behind = expected(indices, place.saturating_add(1));
+    assert_eq!(rt; next, behind, "{indices:?} from {position} behind {n}");
 }
 
 #[test]

@@ -1,7 +1,7 @@
 //! Containers and documents out of readers, and containers into writers, where these are slow or
 //! fail. A failure is not passed over: no call that failed is tried again.
 use crate::tests::devices::{Sink, Source};
-use crate::tests::texts::{ONE_BUFFER, TWO_NODES, container};
+use crate::tests::texts::{ONE_BUFFER, TWO_NODES, container, printed};
 use gltf::{Error, Glb, Gltf, binary};
 use std::alloc::Global;
 use std::borrow::CowSlice;
@@ -31,14 +31,25 @@ fn a_reader_gives_a_container_at_any_pace(rt: HostRuntime) -> Result<(), Fail> {
         let mut source = Source::of(&file, most);
         let glb = Glb::from_reader(rt.alloc(), &mut source)?;
         assert_eq!(rt; source.given, 40);
-        assert_eq!(rt; glb.header.length, 40);
-        assert_eq!(rt; glb.json.as_slice(), b"{}  ".as_slice());
-        let bin = glb.bin.as_deref().ok_or("a binary buffer")?;
-        assert_eq!(rt; bin, b"\x01\x02\x03\x04\x05\0\0\0".as_slice());
-        let mut sink = Sink::of(rt.alloc(), most);
-        glb.to_writer(&mut sink)?;
-        assert_eq!(rt; sink.taken.as_slice(), WHOLE);
+        compare_parts(&rt, &glb);
+        compare_written(&rt, rt.alloc(), &glb, most)?;
     }
+    Ok(())
+}
+
+/// The parts of that container.
+fn compare_parts(rt: &impl Abort, glb: &Glb<'_>) {
+    assert_eq!(rt; glb.header.length, 40);
+    assert_eq!(rt; glb.json.as_slice(), b"{}  ".as_slice());
+    let expected = b"\x01\x02\x03\x04\x05\0\0\0".as_slice();
+    assert_eq!(rt; glb.bin.as_deref(), Some(expected));
+}
+
+/// What is written of it, at so many bytes a call.
+fn compare_written(rt: &impl Abort, alloc: Global, glb: &Glb<'_>, most: usize) -> Result<(), Fail> {
+    let mut sink = Sink::of(alloc, most);
+    glb.to_writer(&mut sink)?;
+    assert_eq!(rt; sink.taken.as_slice(), WHOLE);
     Ok(())
 }
 
@@ -64,33 +75,44 @@ fn a_container_is_cut_off_where_its_reader_fails_or_ends(rt: HostRuntime) {
     }
 }
 
+/// What a container out of a reader is refused for, as it prints.
+fn refusal(alloc: Global, source: &mut Source<'_>) -> Result<String, Fail> {
+    match &Glb::from_reader(alloc, source) {
+        Ok(_) => Err("a refusal".into()),
+        Err(Error::Binary(fault)) => printed(alloc, fault),
+        Err(error) => printed(alloc, error),
+    }
+}
+
 #[test]
-fn a_header_that_is_refused_ends_the_reading(rt: HostRuntime) {
-    let mut source = Source::of(b"glTG\x02\0\0\0\x0C\0\0\0", 1);
-    let answer = Glb::from_reader(rt.alloc(), &mut source);
-    assert!(rt; matches!(answer, Err(Error::Binary(binary::Error::Magic(_)))));
-    assert_eq!(rt; source.given, 4);
+fn a_header_that_is_refused_ends_the_reading(rt: HostRuntime) -> Result<(), Fail> {
+    let rows: [(&[u8], usize, &str); 3] = [
+        (b"glTG\x02\0\0\0\x0C\0\0\0", 4, "Magic([103, 108, 84, 71])"),
+        (b"glTF\x01\0\0\0\x0B\0\0\0\0\0\0\0", 12, "Version(1)"),
+        (
+            b"glTF\x02\0\0\0\x0B\0\0\0\0\0\0\0",
+            12,
+            "Length { length: 11, length_read: 12 }",
+        ),
+    ];
+    for (bytes, given, expected) in rows {
+        for most in [1, 100] {
+            let mut source = Source::of(bytes, most);
+            assert_eq!(rt; refusal(rt.alloc(), &mut source)?.as_str(), expected);
+            assert_eq!(rt; source.given, given);
+        }
+    }
+    Ok(())
+}
+
+#[test]
+fn a_header_is_refused_before_its_reader_fails(rt: HostRuntime) -> Result<(), Fail> {
     let mut source = Source::failing(b"glTGlTF", 5, io::ErrorKind::Other);
-    let answer = Glb::from_reader(rt.alloc(), &mut source);
-    assert!(rt; matches!(answer, Err(Error::Binary(binary::Error::Magic(_)))));
-    let mut source = Source::of(b"glTF\x01\0\0\0\x0B\0\0\0\0\0\0\0", 100);
-    let answer = Glb::from_reader(rt.alloc(), &mut source);
-    assert!(rt; matches!(answer, Err(Error::Binary(binary::Error::Version(1)))));
-    assert_eq!(rt; source.given, 12);
-    let mut source = Source::of(b"glTF\x02\0\0\0\x0B\0\0\0\0\0\0\0", 100);
-    let answer = Glb::from_reader(rt.alloc(), &mut source);
-    assert!(rt;
-        matches!(
-            answer,
-            Err(Error::Binary(binary::Error::Length {
-                length: 11,
-                length_read: 12,
-            }))
-        )
-    );
-    assert_eq!(rt; source.given, 12);
+    let told = refusal(rt.alloc(), &mut source)?;
+    assert_eq!(rt; told.as_str(), "Magic([103, 108, 84, 71])");
     let mut source = Source::of(b"glTF\x02\0\0\0\xFF\xFF\xFF\xFF", 100);
     assert!(rt; is_cut_off(&Glb::from_reader(rt.alloc(), &mut source)));
+    Ok(())
 }
 
 #[test]
@@ -112,25 +134,34 @@ fn a_writer_holds_a_beginning_where_it_failed(rt: HostRuntime) -> Result<(), Fai
     Ok(())
 }
 
-#[test]
-fn a_reader_gives_a_document_and_its_blob(rt: HostRuntime) -> Result<(), Fail> {
+/// The blob of a document that a reader gives, at so many bytes a call, as it prints.
+fn blob_read(alloc: Global, bytes: &[u8], most: usize) -> Result<String, Fail> {
+    let file = Gltf::from_reader(alloc, &mut Source::of(bytes, most))?;
+    printed(alloc, &file.blob)
+}
+
+/// The same of a document whose rules nobody checks.
+fn blob_read_without_rules(alloc: Global, bytes: &[u8], most: usize) -> Result<String, Fail> {
+    let file = Gltf::from_reader_without_validation(alloc, &mut Source::of(bytes, most))?;
+    printed(alloc, &file.blob)
+}
+
+/// Compares the blob that each of these calls reads.
+fn compare_blob(rt: &impl Abort, alloc: Global, bytes: &[u8], expected: &str) -> Result<(), Fail> {
     for most in [1, 3, 100] {
-        let mut source = Source::of(ONE_BUFFER.as_bytes(), most);
-        let file = Gltf::from_reader(rt.alloc(), &mut source)?;
-        assert!(rt; file.buffers().len() == 1 && file.blob.is_none());
-        let mut source = Source::of(ONE_BUFFER.as_bytes(), most);
-        let raw = Gltf::from_reader_without_validation(rt.alloc(), &mut source)?;
-        assert!(rt; raw.document.as_json().buffers.len() == 1 && raw.blob.is_none());
-        let bytes = container(rt.alloc(), TWO_NODES)?;
-        let mut source = Source::of(&bytes, most);
-        let file = Gltf::from_reader(rt.alloc(), &mut source)?;
-        let blob = file.blob.as_deref().ok_or("a blob")?;
-        assert_eq!(rt; blob, [1u8, 2, 3, 4].as_slice());
-        let mut source = Source::of(&bytes, most);
-        let raw = Gltf::from_reader_without_validation(rt.alloc(), &mut source)?;
-        assert!(rt; raw.document.as_json().nodes.len() == 2 && raw.blob.is_some());
+        let blob = blob_read(alloc, bytes, most)?;
+        assert_eq!(rt; blob.as_str(), expected);
+        let blob = blob_read_without_rules(alloc, bytes, most)?;
+        assert_eq!(rt; blob.as_str(), expected);
     }
     Ok(())
+}
+
+#[test]
+fn a_reader_gives_a_document_and_its_blob(rt: HostRuntime) -> Result<(), Fail> {
+    compare_blob(&rt, rt.alloc(), ONE_BUFFER.as_bytes(), "None")?;
+    let bytes = container(rt.alloc(), TWO_NODES)?;
+    compare_blob(&rt, rt.alloc(), &bytes, "Some([1, 2, 3, 4])")
 }
 
 /// The answer has to be a failure of the reader.
