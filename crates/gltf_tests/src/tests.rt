@@ -14,4 +14,5 @@ mod names;
 mod own;
 mod records;
 mod streams;
+mod targets;
 mod texts;
