@@ -1,7 +1,6 @@
-//! Tests of what code alone can try of the loader, with callers of their own. All else is tried by
-//! the cases of `gltf_cases`.
+//! Tests of what code alone can try of the loader, with readers, writers and sources of their own.
+//! All else is tried by the cases of `gltf_cases`.
 #![tactic(auto)]
 
-pub mod laws;
 #[cfg(test)]
 mod tests;

@@ -1,8 +1,8 @@
 //! Iterators that cast, in code.
 
-use gltf::accessor::{F32, ItemIter, Iter, SparseIndicesIter, SparseIter};
 use gltf_casting::animation::util::Rotations;
 use gltf_casting::mesh::util::{ReadColors, ReadIndices, ReadTexCoords, indices};
+use gltf_data::accessor::{F32, ItemIter, Iter, SparseIndicesIter, SparseIter};
 use std::test::Fail;
 
 /// The indices 10, 7, 30 and 9 of two bytes, of which two stand in place of others.

@@ -2,7 +2,7 @@
 
 ghost use Rattle.std.specs.Prelude.{◌^◌, ◌-◌, slice_index};
 ghost use Rattle.std.proofs.Common.{arith};
-ghost use Rattle.gltf_tests.specs.Own.{pair, pair-reads_front};
+ghost use Rattle.gltf_items_tests.specs.Own.{pair, pair-reads_front};
 
 use gltf_items::Item;
 
@@ -58,7 +58,7 @@ impl Item for Huge {
 
     ghost positive = { Prim.omega arith };
 
-    ghost use Rattle.gltf_tests.specs.Own.{first-reads_front};
+    ghost use Rattle.gltf_items_tests.specs.Own.{first-reads_front};
 
     ghost reads_front = { λ _. first-reads_front (λ a. record { first = a }) };
 

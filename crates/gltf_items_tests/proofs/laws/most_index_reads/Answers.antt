@@ -1,6 +1,6 @@
 use Rattle.std.proofs.Common.{refl}
 use Rattle.gltf_items.specs.Sparse.{digits}
-use Rattle.gltf_tests.proofs.laws.most_index_reads.Goals as goal
+use Rattle.gltf_items_tests.proofs.laws.most_index_reads.Goals as goal
 
 pub returns : goal.returns
 unfolding digits

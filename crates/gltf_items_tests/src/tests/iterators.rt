@@ -1,7 +1,7 @@
 //! Iterators over items, in code.
 ghost use Rattle.std.specs.Iterator.{IsFinite};
 
-use gltf::accessor::{F32, Item, ItemIter, Iter, SparseIndicesIter, SparseIter};
+use gltf_data::accessor::{F32, Item, ItemIter, Iter, SparseIndicesIter, SparseIter};
 
 /// Bytes with values in place of some of them.
 fn sparse<'s>(base: &'s [u8], indices: &'s [u8], values: &'s [u8]) -> SparseIter<'s, u8> {
