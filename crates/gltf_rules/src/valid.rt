@@ -1,16 +1,14 @@
 //! Documents that break no rule.
-ghost use Rattle.std.specs.Prelude.{◌≡◌, ◌<◌, [], length, slice_get, Some, IfOk, IfErr, OnOk};
+ghost use Rattle.std.specs.Prelude.{◌≡◌, [], IfOk, IfErr, OnOk};
 ghost use Rattle.gltf_validation.specs.Documents.{Faults, counts_of, root_rules};
-ghost use Rattle.gltf_validation.specs.Members.{list_rules};
 ghost use Rattle.gltf_validation.specs.Rules.{Hold};
 
-use crate::kind::Kind;
 use crate::laws::{no_rule_is_broken_where_all_hold, what_shows_the_same_breaks_the_same_rules};
 use gltf_json::path::Path;
 use gltf_json::root::Root;
 use gltf_validation::counts::Counts;
 use gltf_validation::error::Error;
-use gltf_validation::validate::{Validate, faults_of};
+use gltf_validation::validate::faults_of;
 use std::alloc::{AllocError, Global};
 use std::marker::Model;
 
@@ -109,26 +107,5 @@ impl Valid {
         no_rule_is_broken_where_all_hold();
         let Valid { root } = self;
         root
-    }
-
-    /// The record at an index of the list that `K` names.
-    pub fn get<K: Kind>(&self, index: usize) -> &K::Record
-        requires { index < length (K.list self.now) }
-        ensures at { slice_get (K.list self.now) index ≡ Some result.now }
-        ensures hold { Hold (K.record_rules (counts_of self.now) result.now) }
-    {
-        let root = self.as_root();
-        let list = K::list(root);
-        &list[index]
-    }
-
-    /// The element at an index of a list whose rules hold.
-    pub fn element<'l, T: Validate>(&self, list: &'l [T], index: usize) -> &'l T
-        requires within { index < length list.now }
-        requires hold { Hold (list_rules (T.rules (counts_of self.now)) list.now) }
-        ensures at { slice_get list.now index ≡ Some result.now }
-        ensures hold { Hold (T.rules (counts_of self.now) result.now) }
-    {
-        &list[index]
     }
 }

@@ -1,6 +1,6 @@
 use Rattle.gltf_validation.specs.Documents.{counts_of}
 use Rattle.gltf_rules.proofs.Elements.{element_holds}
-use Rattle.gltf_rules.proofs.valid.Valid.element.Goals as goal
+use Rattle.gltf_rules.proofs.records.ValidRecords.element.Goals as goal
 
 pub returns-clause-hold : goal.returns-clause-hold
 returns-clause-hold g c =

@@ -1,7 +1,7 @@
 use Rattle.std.proofs.Common.{◌≡◌, ◌∙◌, ap}
 use Rattle.gltf_validation.specs.Documents.{counts_of}
 use Rattle.gltf_rules.proofs.Elements.{element_holds}
-use Rattle.gltf_rules.proofs.valid.Valid.get.Goals as goal
+use Rattle.gltf_rules.proofs.records.ValidRecords.get.Goals as goal
 
 pub returns-clause-hold : goal.returns-clause-hold
 returns-clause-hold g c =
