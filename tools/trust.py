@@ -18,9 +18,9 @@ PAGE = TOP / "docs" / "TRUST.md"
 
 ROW = re.compile(r"(\| `([\w/]+\.antt)` \| ([^|]+) \| )(\d+|\?)( \|)")
 TOTAL = re.compile(r"(\*\*)([\d,]+|\?)( lines\*\*)")
-HEAD = re.compile(r"(?:(?:pub|abbrev|unfoldable|opaque|data|record) )*(\S+)")
+HEAD = re.compile(r"\s*(?:(?:pub|abbrev|unfoldable|opaque|data|record) )*(\S+)")
 IMPORT = re.compile(r"^(?:pub )?use [^{\n]*(?:\{[^}]*\})?.*$", re.MULTILINE)
-UNCOUNTED = re.compile(r"\s*--|pub mod |infix")
+UNCOUNTED = re.compile(r"\s*--|pub mod |module _ |infix")
 LAW = re.compile(r"  (?:pub )?(?:fits|needs|apart|either|alike) [=:] ")
 
 

@@ -2,47 +2,49 @@
 
 pub mod iter;
 
-ghost use Rattle.std.specs.Prelude.{◌≡◌, ◌<◌, length};
+ghost use Rattle.std.specs.Prelude.{◌≡◌, ◌<◌, length, ⊤};
 ghost use Rattle.std.specs.Option.{option_copied};
 ghost use Rattle.gltf_handles.specs.Members.{text, unknown_extensions, extension_named, IsCode};
-ghost use Rattle.gltf_validation.specs.Animations.{animation_rules, animation_sampler_rules};
+ghost use Rattle.gltf_validation.specs.Animations.{animation_sampler_rules};
 ghost use Rattle.gltf_validation.specs.Animations.{channel_rules, target_rules, within_animation};
 ghost use Rattle.gltf_validation.specs.Documents.{counts_of};
 ghost use Rattle.gltf_validation.specs.Rules.{Hold, Hold-prop};
 
 use crate::animation::iter::{Channels, ChannelsOf, Samplers, SamplersOf};
 use gltf_handles::accessor::Accessor;
+use gltf_handles::inner::Inner;
 use gltf_handles::list::List;
 use gltf_handles::member::{meaning, unknown_extensions};
 pub use gltf_json::animation::{Interpolation, Property};
 use gltf_json::{Map, Value, animation, kinds};
-use gltf_rules::{Valid, element};
+use gltf_rules::{Records, Valid, element};
 use gltf_scene::scene::Node;
+use std::alloc::AllocError;
 
 /// An animation of nodes (glTF 2.0, section 5.5, "Animation").
-#[derive(Clone, Copy, Debug)]
-pub struct Animation<'a> {
-    document: &'a Valid,
+#[derive_where(Clone, Copy)]
+#[derive_where(Debug; D)]
+pub struct Animation<'a, D: Records = Valid> {
     index: usize,
-    json: &'a animation::Animation,
-    ghost holds: { Hold (animation_rules (counts_of document.now) json.now) } by { Hold-prop
-        (animation_rules (counts_of document.now) json.now) },
+    inner: Inner<'a, animation::Animation, D>,
 }
 
-impl<'a> Animation<'a> {
+impl<'a, D: Records> Animation<'a, D> {
     ghost use Rattle.gltf_anim.specs.Animations.{animation_handle, IsAnimation};
     ghost use Rattle.gltf_anim.specs.Lists.{AreChannels, AreSamplers};
     ghost use Rattle.gltf_handles.specs.Lists.{position};
 
     /// The animation at an index below the number of animations.
-    pub fn new(document: &'a Valid, index: usize) -> Self
-        requires { index < length document.now.animations.items }
-        ensures { IsAnimation document.now index result }
+    pub fn new(document: &'a D, index: usize) -> Self
+        requires { index < length (D.root document.now).animations.items }
+        ensures { IsAnimation (D.root document.now) index result }
     {
         Animation {
-            document,
             index,
-            json: document.get::<kinds::Animation>(index),
+            inner: Inner {
+                document,
+                json: document.get::<kinds::Animation>(index),
+            },
         }
     }
 
@@ -57,18 +59,18 @@ impl<'a> Animation<'a> {
     pub fn name(&self) -> Option<&'a str>
         ensures { option_copied result ≡ text (animation_handle self.now).json.name }
     {
-        self.json.name.as_deref()
+        self.inner.json.name.as_deref()
     }
 
     /// What is animated, and by which samplers, in stored order: `channels`.
-    pub fn channels(&self) -> Channels<'a>
+    pub fn channels(&self) -> Channels<'a, D>
         ensures { AreChannels (animation_handle self.now) (position result) }
     {
         List::new(ChannelsOf { animation: *self })
     }
 
     /// The keyframes, in stored order: `samplers`.
-    pub fn samplers(&self) -> Samplers<'a>
+    pub fn samplers(&self) -> Samplers<'a, D>
         ensures { AreSamplers (animation_handle self.now) (position result) }
     {
         List::new(SamplersOf { animation: *self })
@@ -80,7 +82,7 @@ impl<'a> Animation<'a> {
         ensures { option_copied result
             ≡ unknown_extensions (animation_handle self.now).json.extensions }
     {
-        unknown_extensions(&self.json.extensions)
+        unknown_extensions(&self.inner.json.extensions)
     }
 
     /// The extension of this name.
@@ -95,47 +97,60 @@ impl<'a> Animation<'a> {
     pub fn extras(&self) -> Option<&'a Value>
         ensures { option_copied result ≡ (animation_handle self.now).json.extras }
     {
-        self.json.extras.as_ref()
+        self.inner.json.extras.as_ref()
     }
 }
 
 /// A sampler beside what it animates (glTF 2.0, section 5.6, "Animation Channel").
-#[derive(Clone, Copy, Debug)]
-pub struct Channel<'a> {
-    animation: Animation<'a>,
+#[derive_where(Debug; D)]
+pub struct Channel<'a, D: Records = Valid> {
+    animation: Animation<'a, D>,
     index: usize,
     json: &'a animation::Channel,
     ghost holds: { Hold (channel_rules
-        (within_animation (counts_of animation.document.now) animation.json.now)
-        json.now) } by { Hold-prop (channel_rules
-            (within_animation (counts_of animation.document.now) animation.json.now) json.now) },
+        (within_animation (counts_of (D.root animation.inner.document.now))
+        animation.inner.json.now) json.now) } by { Hold-prop (channel_rules
+            (within_animation (counts_of (D.root animation.inner.document.now))
+            animation.inner.json.now) json.now) },
 }
 
-impl<'a> Channel<'a> {
+impl<'a, D: Records> Copy for Channel<'a, D> {}
+
+impl<'a, D: Records> Clone for Channel<'a, D> {
+    ghost is_clone = { λ x y. y ≡ x };
+
+    ghost is_infallible = { λ _. ⊤ };
+
+    fn clone(&self) -> Result<Self, AllocError> {
+        Ok(*self)
+    }
+}
+
+impl<'a, D: Records> Channel<'a, D> {
     ghost use Rattle.gltf_anim.specs.Animations.{animation_handle, channel_handle, IsChannel};
     ghost use Rattle.gltf_anim.specs.Animations.{IsSampler, IsTarget};
 
     /// The channel at an index below the number of an animation's channels.
-    pub fn new(animation: Animation<'a>, index: usize) -> Self
+    pub fn new(animation: Animation<'a, D>, index: usize) -> Self
         requires { index < length (animation_handle animation).json.channels.items }
         ensures { IsChannel (animation_handle animation.entry) index result }
     {
         Channel {
             animation,
             index,
-            json: element(&animation.json.channels, index),
+            json: element(&animation.inner.json.channels, index),
         }
     }
 
     /// The animation that the channel is of.
-    pub fn animation(&self) -> Animation<'a>
+    pub fn animation(&self) -> Animation<'a, D>
         ensures { animation_handle result ≡ (channel_handle self.now).animation }
     {
         self.animation
     }
 
     /// The sampler, of the same animation: `sampler`.
-    pub fn sampler(&self) -> Sampler<'a>
+    pub fn sampler(&self) -> Sampler<'a, D>
         ensures { IsSampler (channel_handle self.now).animation
             (channel_handle self.now).json.sampler result }
     {
@@ -143,7 +158,7 @@ impl<'a> Channel<'a> {
     }
 
     /// What is animated: `target`.
-    pub fn target(&self) -> Target<'a>
+    pub fn target(&self) -> Target<'a, D>
         ensures { IsTarget (channel_handle self.now).animation
             (channel_handle self.now).json.target result }
     {
@@ -169,31 +184,44 @@ impl<'a> Channel<'a> {
 }
 
 /// What a channel animates (glTF 2.0, section 5.7, "Animation Channel Target").
-#[derive(Clone, Copy, Debug)]
-pub struct Target<'a> {
-    animation: Animation<'a>,
+#[derive_where(Debug; D)]
+pub struct Target<'a, D: Records = Valid> {
+    animation: Animation<'a, D>,
     json: &'a animation::Target,
-    ghost holds: { Hold (target_rules (counts_of animation.document.now) json.now) } by { Hold-prop
-        (target_rules (counts_of animation.document.now) json.now) },
+    ghost holds: { Hold
+        (target_rules (counts_of (D.root animation.inner.document.now)) json.now) } by { Hold-prop
+            (target_rules (counts_of (D.root animation.inner.document.now)) json.now) },
 }
 
-impl<'a> Target<'a> {
+impl<'a, D: Records> Copy for Target<'a, D> {}
+
+impl<'a, D: Records> Clone for Target<'a, D> {
+    ghost is_clone = { λ x y. y ≡ x };
+
+    ghost is_infallible = { λ _. ⊤ };
+
+    fn clone(&self) -> Result<Self, AllocError> {
+        Ok(*self)
+    }
+}
+
+impl<'a, D: Records> Target<'a, D> {
     ghost use Rattle.gltf_anim.specs.Animations.{animation_handle, target_handle};
     ghost use Rattle.gltf_scene.specs.Nodes.{IsNode};
 
     /// The animation that the target is of.
-    pub fn animation(&self) -> Animation<'a>
+    pub fn animation(&self) -> Animation<'a, D>
         ensures { animation_handle result ≡ (target_handle self.now).animation }
     {
         self.animation
     }
 
     /// The node: `node`.
-    pub fn node(&self) -> Node<'a>
+    pub fn node(&self) -> Node<'a, D>
         ensures { IsNode (target_handle self.now).animation.document
             (target_handle self.now).json.node result }
     {
-        Node::new(self.animation.document, self.json.node.value())
+        Node::new(self.animation.inner.document, self.json.node.value())
     }
 
     /// What of the node is animated: `path`.
@@ -213,22 +241,35 @@ impl<'a> Target<'a> {
 
 /// Keyframes, and how values between two of them are made (glTF 2.0, section 5.8, "Animation
 /// Sampler").
-#[derive(Clone, Copy, Debug)]
-pub struct Sampler<'a> {
-    animation: Animation<'a>,
+#[derive_where(Debug; D)]
+pub struct Sampler<'a, D: Records = Valid> {
+    animation: Animation<'a, D>,
     index: usize,
     json: &'a animation::Sampler,
-    ghost holds: { Hold
-        (animation_sampler_rules (counts_of animation.document.now) json.now) } by { Hold-prop
-            (animation_sampler_rules (counts_of animation.document.now) json.now) },
+    ghost holds: { Hold (animation_sampler_rules
+        (counts_of (D.root animation.inner.document.now)) json.now) } by { Hold-prop
+            (animation_sampler_rules
+            (counts_of (D.root animation.inner.document.now)) json.now) },
 }
 
-impl<'a> Sampler<'a> {
+impl<'a, D: Records> Copy for Sampler<'a, D> {}
+
+impl<'a, D: Records> Clone for Sampler<'a, D> {
+    ghost is_clone = { λ x y. y ≡ x };
+
+    ghost is_infallible = { λ _. ⊤ };
+
+    fn clone(&self) -> Result<Self, AllocError> {
+        Ok(*self)
+    }
+}
+
+impl<'a, D: Records> Sampler<'a, D> {
     ghost use Rattle.gltf_anim.specs.Animations.{animation_handle, sampler_handle, IsSampler};
     ghost use Rattle.gltf_handles.specs.Accessors.{IsAccessor};
 
     /// The sampler at an index below the number of an animation's samplers.
-    pub fn new(animation: Animation<'a>, index: usize) -> Self
+    pub fn new(animation: Animation<'a, D>, index: usize) -> Self
         requires { index < length (animation_handle animation).json.samplers.items }
         ensures { IsSampler (animation_handle animation.entry) index result }
     {
@@ -236,13 +277,14 @@ impl<'a> Sampler<'a> {
             animation,
             index,
             json: animation
+                .inner
                 .document
-                .element(animation.json.samplers.as_slice(), index),
+                .element(animation.inner.json.samplers.as_slice(), index),
         }
     }
 
     /// The animation that the sampler is of.
-    pub fn animation(&self) -> Animation<'a>
+    pub fn animation(&self) -> Animation<'a, D>
         ensures { animation_handle result ≡ (sampler_handle self.now).animation }
     {
         self.animation
@@ -257,11 +299,11 @@ impl<'a> Sampler<'a> {
 
     /// The accessor of the keyframes' times, in seconds from the animation's start: `input`, one
     /// number a keyframe.
-    pub fn input(&self) -> Accessor<'a>
+    pub fn input(&self) -> Accessor<'a, D>
         ensures { IsAccessor (sampler_handle self.now).animation.document
             (sampler_handle self.now).json.input result }
     {
-        Accessor::new(self.animation.document, self.json.input.value())
+        Accessor::new(self.animation.inner.document, self.json.input.value())
     }
 
     /// How values between two keyframes are made: `interpolation`, `Linear` where that is absent.
@@ -275,11 +317,11 @@ impl<'a> Sampler<'a> {
     /// a rotation a quaternion of four (x, y, z and w), a weight one number a morph target; where
     /// the interpolation is `CubicSpline`, each keyframe has an in-tangent, a value and an
     /// out-tangent.
-    pub fn output(&self) -> Accessor<'a>
+    pub fn output(&self) -> Accessor<'a, D>
         ensures { IsAccessor (sampler_handle self.now).animation.document
             (sampler_handle self.now).json.output result }
     {
-        Accessor::new(self.animation.document, self.json.output.value())
+        Accessor::new(self.animation.inner.document, self.json.output.value())
     }
 
     /// What the application stores here: `extras`.

@@ -10,6 +10,7 @@ use Rattle.gltf_json_geometry.specs.declared.accessor.Accessor.{Accessor}
 use Rattle.gltf_json_geometry.specs.declared.accessor.sparse.Sparse.{Sparse}
 use Rattle.gltf_items.specs.Sparse.{sparse}
 use Rattle.gltf_items.specs.declared.item.Item.{Ghosts}
+use Rattle.gltf_rules.specs.contracts.records.ValidRecords.TheImpl as valid
 use Rattle.gltf_handles.specs.declared.accessor.sparse.Sparse.{Sparse as SparseHandle}
 use Rattle.gltf_handles.specs.Accessors.{IsSparse}
 use Rattle.gltf_handles.specs.Members.{Follows}
@@ -209,11 +210,12 @@ plain_read t r a h = record {
       h.exactly;
 }
 
-pub no_sparse : (r : Root) (o : Option Sparse) → Follows (IsSparse r) o None → o ≡ None
+pub no_sparse : (r : Root) (o : Option Sparse) → Follows (IsSparse {G = valid.ghosts} r) o None
+    → o ≡ None
 no_sparse r None h = refl
 no_sparse r (Some s) h = absurd h
 
-pub sparse_is : (r : Root) (o : Option Sparse) (s : SparseHandle) → Follows (IsSparse r) o (Some s)
-    → o ≡ Some s.json.now
+pub sparse_is : (r : Root) (o : Option Sparse) (s : SparseHandle Root valid.ghosts)
+    → Follows (IsSparse r) o (Some s) → o ≡ Some s.inner.json.now
 sparse_is r None s h = absurd h
 sparse_is r (Some x) s h = ap Some (sym h.json)

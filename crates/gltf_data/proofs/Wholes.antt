@@ -6,6 +6,7 @@ use Rattle.gltf_json.specs.declared.root.Root.{Root}
 use Rattle.gltf_json_geometry.specs.declared.buffer.View.{View}
 use Rattle.gltf_json_geometry.specs.declared.accessor.Accessor.{Accessor}
 use Rattle.gltf_json_geometry.specs.declared.accessor.sparse.Sparse.{Sparse}
+use Rattle.gltf_rules.specs.contracts.records.ValidRecords.TheImpl as valid
 use Rattle.gltf_handles.specs.declared.buffer.View.{View as ViewHandle}
 use Rattle.byteorder.specs.Endian.{little_number}
 use Rattle.gltf_json_record.specs.declared.validation.Checked.{Checked}
@@ -68,15 +69,17 @@ pub index_part_is : (r : Root) (s : Sparse) (v : View) (offset count size : ℕ)
     → size ≡ stored_size s.indices → index_part r s ≡ Some (part_of v offset count size)
 index_part_is r s v offset count size at o n z = rw (at, o, n, z) refl
 
-view_is : (r : Root) (o : Option ℕ) (v : ViewHandle) → Follows (IsView r) o (Some v)
-    → (option_and_then (view_at r) o ≡ Some v.json.now) × (v.document.now ≡ r)
+view_is : (r : Root) (o : Option ℕ) (v : ViewHandle Root valid.ghosts)
+    → Follows (IsView r) o (Some v)
+    → (option_and_then (view_at r) o ≡ Some v.inner.json.now) × (v.inner.document.now ≡ r)
 view_is r None v h = absurd h
 view_is r (Some i) v h = (h.json, h.document)
 
-pub base_part_is : (size : ℕ) (r : Root) (a : Accessor) (v : ViewHandle) (offset count : ℕ)
+pub base_part_is : (size : ℕ) (r : Root) (a : Accessor) (v : ViewHandle Root valid.ghosts)
+    (offset count : ℕ)
     → Follows (IsView r) a.buffer_view (Some v) → offset ≡ unwrap_or a.byte_offset 0
-    → count ≡ a.count → (base_part size r a ≡ Some (part_of v.json.now offset count size))
-    × (v.document.now ≡ r)
+    → count ≡ a.count → (base_part size r a ≡ Some (part_of v.inner.json.now offset count size))
+    × (v.inner.document.now ≡ r)
 base_part_is size r a v offset count follows o n =
     let view = view_is r a.buffer_view v follows in
     (rw (view.0, o, n) refl, view.1)

@@ -5,6 +5,7 @@ use Rattle.std.specs.Borrow.{Bor}
 use Rattle.gltf_json.specs.declared.root.Root.{Root}
 use Rattle.gltf_json_geometry.specs.declared.accessor.Accessor.{Accessor}
 use Rattle.gltf_json_geometry.specs.declared.accessor.sparse.Sparse.{Sparse}
+use Rattle.gltf_rules.specs.contracts.records.ValidRecords.TheImpl as valid
 use Rattle.gltf_handles.specs.declared.buffer.Buffer.{Buffer}
 use Rattle.gltf_handles.specs.Buffers.{IsBuffer}
 use Rattle.gltf_handles.specs.Sizes.{item_size}
@@ -15,11 +16,11 @@ use Rattle.gltf_data.specs.Parts.{items_with, items}
 
 -- what a closure may answer for a handle of a buffer
 abbrev pub Results : Type 1
-Results = Buffer → Option (Bor (List ℕ)) → Type 0
+Results = Buffer Root valid.ghosts → Option (Bor (List ℕ)) → Type 0
 
 -- it answered that for buffer i
 pub record IsAnswered (Gives : Results) (r : Root) (i : ℕ) (answer : Option (List ℕ)) : Type 0 where
-  pub buffer : Buffer
+  pub buffer : Buffer Root valid.ghosts
   pub is_buffer : IsBuffer r i buffer
   pub given : Option (Bor (List ℕ))
   pub result : Gives buffer given
@@ -84,8 +85,8 @@ pub record Reads {X : Type 0} (Gives : Results) (t : Ghosts X) (r : Root) (a : A
 -- that is what it answers for the buffer of each number
 abbrev pub AlwaysAnswers : Results → Root → (ℕ → Option (List ℕ)) → Type 0
 AlwaysAnswers Gives r answer =
-    (b : Buffer) (given : Option (Bor (List ℕ))) (i : ℕ) → IsBuffer r i b → Gives b given
-    → option_copied given ≡ answer i
+    (b : Buffer Root valid.ghosts) (given : Option (Bor (List ℕ))) (i : ℕ)
+    → IsBuffer r i b → Gives b given → option_copied given ≡ answer i
 
 abbrev pub answer_for : (ℕ → Option (List ℕ)) → Option Part → Option (List ℕ)
 answer_for answer None = None

@@ -1,4 +1,5 @@
 pub mod Handle
+pub mod Inner
 pub mod Members
 pub mod Buffers
 pub mod Sizes

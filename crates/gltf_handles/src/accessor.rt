@@ -5,16 +5,14 @@ pub mod sparse;
 ghost use Rattle.std.specs.Prelude.{◌≡◌, ◌<◌, ◌≤◌, length, unwrap_or};
 ghost use Rattle.std.specs.Option.{option_copied};
 ghost use Rattle.gltf_handles.specs.Members.{text, unknown_extensions, extension_named, Follows};
-ghost use Rattle.gltf_validation.specs.Accessors.{accessor_rules};
-ghost use Rattle.gltf_validation.specs.Documents.{counts_of};
-ghost use Rattle.gltf_validation.specs.Rules.{Hold, Hold-prop};
 
 use crate::accessor::sparse::Sparse;
 use crate::buffer::View;
+use crate::inner::Inner;
 use crate::member::{meaning, unknown_extensions};
 use gltf_json::accessor::{ComponentType, Type};
 use gltf_json::{Map, Value, accessor, kinds};
-use gltf_rules::Valid;
+use gltf_rules::{Records, Valid};
 
 /// The type of each component of an item (glTF 2.0, section 3.6.2.2, "Accessor Data Types").
 #[derive(Clone, Copy, Debug, PartialEq, Eq)]
@@ -123,29 +121,29 @@ impl From<Type> for Dimensions {
 }
 
 /// Typed items in the bytes of a view (glTF 2.0, section 5.1, "Accessor").
-#[derive(Clone, Copy, Debug)]
-pub struct Accessor<'a> {
-    document: &'a Valid,
+#[derive_where(Clone, Copy)]
+#[derive_where(Debug; D)]
+pub struct Accessor<'a, D: Records = Valid> {
     index: usize,
-    json: &'a accessor::Accessor,
-    ghost holds: { Hold (accessor_rules (counts_of document.now) json.now) } by { Hold-prop
-        (accessor_rules (counts_of document.now) json.now) },
+    inner: Inner<'a, accessor::Accessor, D>,
 }
 
-impl<'a> Accessor<'a> {
+impl<'a, D: Records> Accessor<'a, D> {
     ghost use Rattle.gltf_handles.specs.Buffers.{IsView};
     ghost use Rattle.gltf_handles.specs.Sizes.{data_type, dimensions, item_size, Means};
     ghost use Rattle.gltf_handles.specs.Accessors.{accessor_handle, IsAccessor, IsSparse};
 
     /// The accessor at an index below the number of accessors.
-    pub fn new(document: &'a Valid, index: usize) -> Self
-        requires { index < length document.now.accessors.items }
-        ensures { IsAccessor document.now index result }
+    pub fn new(document: &'a D, index: usize) -> Self
+        requires { index < length (D.root document.now).accessors.items }
+        ensures { IsAccessor (D.root document.now) index result }
     {
         Accessor {
-            document,
             index,
-            json: document.get::<kinds::Accessor>(index),
+            inner: Inner {
+                document,
+                json: document.get::<kinds::Accessor>(index),
+            },
         }
     }
 
@@ -166,12 +164,12 @@ impl<'a> Accessor<'a> {
     }
 
     /// The view that the items stand in. A sparse accessor may have none: then they are zeros.
-    pub fn view(&self) -> Option<View<'a>>
+    pub fn view(&self) -> Option<View<'a, D>>
         ensures { Follows (IsView (accessor_handle self.now).document)
             (accessor_handle self.now).json.buffer_view result }
     {
-        let index = self.json.buffer_view?;
-        Some(View::new(self.document, index.value()))
+        let index = self.inner.json.buffer_view?;
+        Some(View::new(self.inner.document, index.value()))
     }
 
     /// The distance in bytes from the start of the view to the first item: `byteOffset`, 0 where
@@ -179,7 +177,7 @@ impl<'a> Accessor<'a> {
     pub fn offset(&self) -> usize
         ensures { result ≡ unwrap_or (accessor_handle self.now).json.byte_offset 0 }
     {
-        self.json.byte_offset.unwrap_or(0) as usize
+        self.inner.json.byte_offset.unwrap_or(0) as usize
     }
 
     /// The number of items. Of a sparse accessor without a view it may be up to 2^64 - 1, whatever
@@ -187,58 +185,58 @@ impl<'a> Accessor<'a> {
     pub fn count(&self) -> usize
         ensures { result ≡ (accessor_handle self.now).json.count }
     {
-        self.json.count as usize
+        self.inner.json.count as usize
     }
 
     /// The type of each component: `componentType`.
     pub fn data_type(&self) -> DataType
         ensures { Means data_type (accessor_handle self.now).json.component_type result }
     {
-        DataType::from(meaning(self.json.component_type))
+        DataType::from(meaning(self.inner.json.component_type))
     }
 
     /// The components of an item: `type`.
     pub fn dimensions(&self) -> Dimensions
         ensures { Means dimensions (accessor_handle self.now).json.type_ result }
     {
-        Dimensions::from(meaning(self.json.type_))
+        Dimensions::from(meaning(self.inner.json.type_))
     }
 
     /// The least value of each component, as it stands: `min`.
     pub fn min(&self) -> Option<&'a Value>
         ensures { option_copied result ≡ (accessor_handle self.now).json.min }
     {
-        self.json.min.as_ref()
+        self.inner.json.min.as_ref()
     }
 
     /// The greatest value of each component, as it stands: `max`.
     pub fn max(&self) -> Option<&'a Value>
         ensures { option_copied result ≡ (accessor_handle self.now).json.max }
     {
-        self.json.max.as_ref()
+        self.inner.json.max.as_ref()
     }
 
     /// The name given by the user.
     pub fn name(&self) -> Option<&'a str>
         ensures { option_copied result ≡ text (accessor_handle self.now).json.name }
     {
-        self.json.name.as_deref()
+        self.inner.json.name.as_deref()
     }
 
     /// Whether whole numbers stand for fractions: `normalized`, false where that is absent.
     pub fn normalized(&self) -> bool
         ensures { result ≡ (accessor_handle self.now).json.normalized }
     {
-        self.json.normalized
+        self.inner.json.normalized
     }
 
     /// The items that differ from those of the view.
-    pub fn sparse(&self) -> Option<Sparse<'a>>
+    pub fn sparse(&self) -> Option<Sparse<'a, D>>
         ensures { Follows (IsSparse (accessor_handle self.now).document)
             (accessor_handle self.now).json.sparse result }
     {
-        let json = self.json.sparse.as_ref()?;
-        Some(Sparse::new(self.document, json))
+        let json = self.inner.json.sparse.as_ref()?;
+        Some(Sparse::new(self.inner.document, json))
     }
 
     /// The extensions, none of which is known at an accessor; None where there is no member
@@ -247,7 +245,7 @@ impl<'a> Accessor<'a> {
         ensures { option_copied result ≡ unknown_extensions
             (accessor_handle self.now).json.extensions }
     {
-        unknown_extensions(&self.json.extensions)
+        unknown_extensions(&self.inner.json.extensions)
     }
 
     /// The extension of this name.
@@ -263,6 +261,6 @@ impl<'a> Accessor<'a> {
     pub fn extras(&self) -> Option<&'a Value>
         ensures { option_copied result ≡ (accessor_handle self.now).json.extras }
     {
-        self.json.extras.as_ref()
+        self.inner.json.extras.as_ref()
     }
 }

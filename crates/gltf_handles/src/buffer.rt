@@ -4,21 +4,19 @@ ghost use Rattle.std.specs.Prelude.{◌≡◌, ◌<◌, length, unwrap_or};
 ghost use Rattle.std.specs.Option.{option_copied};
 ghost use Rattle.gltf_handles.specs.Members.{text, unknown_extensions, extension_named};
 ghost use Rattle.gltf_handles.specs.Members.{Follows, IsCode, above_zero};
-ghost use Rattle.gltf_validation.specs.Buffers.{view_rules};
-ghost use Rattle.gltf_validation.specs.Documents.{counts_of};
-ghost use Rattle.gltf_validation.specs.Rules.{Hold, Hold-prop};
 
+use crate::inner::Inner;
 use crate::member::{meaning, unknown_extensions};
 pub use gltf_json::buffer::Target;
 use gltf_json::{Map, Value, buffer, kinds};
-use gltf_rules::Valid;
+use gltf_rules::{Records, Valid};
 
 /// A block of bytes (glTF 2.0, section 5.10, "Buffer").
-#[derive(Clone, Copy, Debug)]
-pub struct Buffer<'a> {
-    document: &'a Valid,
+#[derive_where(Clone, Copy)]
+#[derive_where(Debug; D)]
+pub struct Buffer<'a, D: Records = Valid> {
     index: usize,
-    json: &'a buffer::Buffer,
+    inner: Inner<'a, buffer::Buffer, D>,
 }
 
 /// Where the bytes of a buffer come from (glTF 2.0, section 3.6.1).
@@ -30,18 +28,20 @@ pub enum Source<'a> {
     Uri(&'a str),
 }
 
-impl<'a> Buffer<'a> {
+impl<'a, D: Records> Buffer<'a, D> {
     ghost use Rattle.gltf_handles.specs.Buffers.{buffer_handle, IsBuffer, uri_of};
 
     /// The buffer at an index below the number of buffers.
-    pub fn new(document: &'a Valid, index: usize) -> Self
-        requires { index < length document.now.buffers.items }
-        ensures { IsBuffer document.now index result }
+    pub fn new(document: &'a D, index: usize) -> Self
+        requires { index < length (D.root document.now).buffers.items }
+        ensures { IsBuffer (D.root document.now) index result }
     {
         Buffer {
-            document,
             index,
-            json: document.get::<kinds::Buffer>(index),
+            inner: Inner {
+                document,
+                json: document.get::<kinds::Buffer>(index),
+            },
         }
     }
 
@@ -56,7 +56,7 @@ impl<'a> Buffer<'a> {
     pub fn source(&self) -> Source<'a>
         ensures { uri_of result ≡ text (buffer_handle self.now).json.uri }
     {
-        match self.json.uri.as_deref() {
+        match self.inner.json.uri.as_deref() {
             Some(uri) => Source::Uri(uri),
             None => Source::Bin,
         }
@@ -66,14 +66,14 @@ impl<'a> Buffer<'a> {
     pub fn length(&self) -> usize
         ensures { result ≡ (buffer_handle self.now).json.byte_length }
     {
-        self.json.byte_length as usize
+        self.inner.json.byte_length as usize
     }
 
     /// The name given by the user.
     pub fn name(&self) -> Option<&'a str>
         ensures { option_copied result ≡ text (buffer_handle self.now).json.name }
     {
-        self.json.name.as_deref()
+        self.inner.json.name.as_deref()
     }
 
     /// The extensions, none of which is known at a buffer; None where there is no member
@@ -82,7 +82,7 @@ impl<'a> Buffer<'a> {
         ensures { option_copied result ≡ unknown_extensions
             (buffer_handle self.now).json.extensions }
     {
-        unknown_extensions(&self.json.extensions)
+        unknown_extensions(&self.inner.json.extensions)
     }
 
     /// The extension of this name.
@@ -98,32 +98,32 @@ impl<'a> Buffer<'a> {
     pub fn extras(&self) -> Option<&'a Value>
         ensures { option_copied result ≡ (buffer_handle self.now).json.extras }
     {
-        self.json.extras.as_ref()
+        self.inner.json.extras.as_ref()
     }
 }
 
 /// A slice of a buffer (glTF 2.0, section 5.11, "Buffer View").
-#[derive(Clone, Copy, Debug)]
-pub struct View<'a> {
-    document: &'a Valid,
+#[derive_where(Clone, Copy)]
+#[derive_where(Debug; D)]
+pub struct View<'a, D: Records = Valid> {
     index: usize,
-    json: &'a buffer::View,
-    ghost holds: { Hold (view_rules (counts_of document.now) json.now) } by { Hold-prop
-        (view_rules (counts_of document.now) json.now) },
+    inner: Inner<'a, buffer::View, D>,
 }
 
-impl<'a> View<'a> {
+impl<'a, D: Records> View<'a, D> {
     ghost use Rattle.gltf_handles.specs.Buffers.{view_handle, IsBuffer, IsView};
 
     /// The view at an index below the number of views.
-    pub fn new(document: &'a Valid, index: usize) -> Self
-        requires { index < length document.now.buffer_views.items }
-        ensures { IsView document.now index result }
+    pub fn new(document: &'a D, index: usize) -> Self
+        requires { index < length (D.root document.now).buffer_views.items }
+        ensures { IsView (D.root document.now) index result }
     {
         View {
-            document,
             index,
-            json: document.get::<kinds::View>(index),
+            inner: Inner {
+                document,
+                json: document.get::<kinds::View>(index),
+            },
         }
     }
 
@@ -135,25 +135,25 @@ impl<'a> View<'a> {
     }
 
     /// The buffer that it is a slice of.
-    pub fn buffer(&self) -> Buffer<'a>
+    pub fn buffer(&self) -> Buffer<'a, D>
         ensures { IsBuffer (view_handle self.now).document
             (view_handle self.now).json.buffer result }
     {
-        Buffer::new(self.document, self.json.buffer.value())
+        Buffer::new(self.inner.document, self.inner.json.buffer.value())
     }
 
     /// The length in bytes: `byteLength`.
     pub fn length(&self) -> usize
         ensures { result ≡ (view_handle self.now).json.byte_length }
     {
-        self.json.byte_length as usize
+        self.inner.json.byte_length as usize
     }
 
     /// The distance in bytes from the start of the buffer: `byteOffset`, 0 where that is absent.
     pub fn offset(&self) -> usize
         ensures { result ≡ unwrap_or (view_handle self.now).json.byte_offset 0 }
     {
-        self.json.byte_offset.unwrap_or(0) as usize
+        self.inner.json.byte_offset.unwrap_or(0) as usize
     }
 
     /// The distance in bytes from item to item: `byteStride`. None where that is absent or 0: items
@@ -161,7 +161,7 @@ impl<'a> View<'a> {
     pub fn stride(&self) -> Option<usize>
         ensures { result ≡ above_zero (view_handle self.now).json.byte_stride }
     {
-        match self.json.byte_stride {
+        match self.inner.json.byte_stride {
             None | Some(0) => None,
             Some(stride) => Some(stride as usize),
         }
@@ -171,14 +171,14 @@ impl<'a> View<'a> {
     pub fn name(&self) -> Option<&'a str>
         ensures { option_copied result ≡ text (view_handle self.now).json.name }
     {
-        self.json.name.as_deref()
+        self.inner.json.name.as_deref()
     }
 
     /// What the bytes are for: `target`.
     pub fn target(&self) -> Option<Target>
         ensures { Follows IsCode (view_handle self.now).json.target result }
     {
-        Some(meaning(self.json.target?))
+        Some(meaning(self.inner.json.target?))
     }
 
     /// The extensions, none of which is known at a view; None where there is no member
@@ -187,7 +187,7 @@ impl<'a> View<'a> {
         ensures { option_copied result
             ≡ unknown_extensions (view_handle self.now).json.extensions }
     {
-        unknown_extensions(&self.json.extensions)
+        unknown_extensions(&self.inner.json.extensions)
     }
 
     /// The extension of this name.
@@ -203,6 +203,6 @@ impl<'a> View<'a> {
     pub fn extras(&self) -> Option<&'a Value>
         ensures { option_copied result ≡ (view_handle self.now).json.extras }
     {
-        self.json.extras.as_ref()
+        self.inner.json.extras.as_ref()
     }
 }

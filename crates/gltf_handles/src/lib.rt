@@ -4,6 +4,7 @@
 
 pub mod accessor;
 pub mod buffer;
+pub mod inner;
 pub mod iter;
 pub mod laws;
 pub mod list;

@@ -1,7 +1,7 @@
 //! Lists of handles. Each is a source and a position in it; this module says once how such a list
 //! is walked.
 
-ghost use Rattle.std.specs.Prelude.{◌≡◌, ◌≤◌, ◌<◌, Some, IfSome, length, ⊤};
+ghost use Rattle.std.specs.Prelude.{◌≡◌, ◌≤◌, ◌<◌, Some, IfSome, ⊤};
 ghost use Rattle.std.specs.Iterator.{at_most, UpTo};
 ghost use Rattle.std.specs.Iterator.SizeHint.{IsWithinCount};
 ghost use Rattle.gltf_handles.specs.Positions.{IsWhole, Last, Nth, left};

@@ -5,7 +5,9 @@ use Rattle.gltf_json_scene.specs.declared.camera.Camera.{Camera as CameraRecord}
 use Rattle.gltf_json_scene.specs.declared.camera.Orthographic.{Orthographic as OrthographicRecord}
 use Rattle.gltf_json_scene.specs.declared.camera.Perspective.{Perspective as PerspectiveRecord}
 use Rattle.gltf_json_scene.specs.declared.camera.«Type».TheVariants as types
+use Rattle.gltf_rules.specs.declared.records.Records.{Ghosts}
 use Rattle.gltf_handles.specs.Handle.{Handle, IsAt}
+use Rattle.gltf_handles.specs.Inner.{handle_at}
 use Rattle.gltf_handles.specs.Members.{IsCode}
 use Rattle.gltf_look.specs.declared.camera.Camera.{Camera}
 use Rattle.gltf_look.specs.declared.camera.Orthographic.{Orthographic as OrthographicHandle}
@@ -13,19 +15,21 @@ use Rattle.gltf_look.specs.declared.camera.Perspective.{Perspective as Perspecti
 use Rattle.gltf_look.specs.declared.camera.Projection.{Projection}
 use Rattle.gltf_look.specs.declared.camera.Projection.TheVariants.{Orthographic, Perspective}
 
--- what they show
-abbrev pub camera_handle : Camera → Handle CameraRecord
-camera_handle c = record { document = c.document.now; index = c.index; json = c.json.now }
+module _ {D : Type 0} {G : Ghosts D} where
+  -- what they show
+  abbrev pub camera_handle : Camera D G → Handle CameraRecord
+  camera_handle c = handle_at c.inner c.index
 
+  -- the handle of camera i of a document
+  abbrev pub IsCamera : Root → ℕ → Camera D G → Type 0
+  IsCamera r i c = IsAt r.cameras.items r i (camera_handle c)
+
+-- what projections show
 abbrev pub orthographic_record : OrthographicHandle → OrthographicRecord
 orthographic_record o = o.json.now
 
 abbrev pub perspective_record : PerspectiveHandle → PerspectiveRecord
 perspective_record p = p.json.now
-
--- the handle of camera i of a document
-abbrev pub IsCamera : Root → ℕ → Camera → Type 0
-IsCamera r i c = IsAt r.cameras.items r i (camera_handle c)
 
 -- the projection that the camera's type names (glTF 2.0, section 5.12.3)
 abbrev pub IsProjection : CameraRecord → Projection → Type 0

@@ -3,23 +3,19 @@
 ghost use Rattle.std.specs.Prelude.{◌≡◌, ◌<◌, length};
 ghost use Rattle.std.specs.Option.{option_copied};
 ghost use Rattle.gltf_handles.specs.Members.{text, unknown_extensions, extension_named};
-ghost use Rattle.gltf_validation.specs.Cameras.{camera_rules};
-ghost use Rattle.gltf_validation.specs.Documents.{counts_of};
-ghost use Rattle.gltf_validation.specs.Rules.{Hold, Hold-prop};
 
+use gltf_handles::inner::Inner;
 use gltf_handles::member::{meaning, unknown_extensions};
 use gltf_json::camera::{self, Type};
 use gltf_json::{Map, Value, kinds};
-use gltf_rules::Valid;
+use gltf_rules::{Records, Valid};
 
 /// A camera (glTF 2.0, section 5.12, "Camera").
-#[derive(Clone, Copy, Debug)]
-pub struct Camera<'a> {
-    document: &'a Valid,
+#[derive_where(Clone, Copy)]
+#[derive_where(Debug; D)]
+pub struct Camera<'a, D: Records = Valid> {
     index: usize,
-    json: &'a camera::Camera,
-    ghost holds: { Hold (camera_rules (counts_of document.now) json.now) } by { Hold-prop
-        (camera_rules (counts_of document.now) json.now) },
+    inner: Inner<'a, camera::Camera, D>,
 }
 
 /// How a camera projects (glTF 2.0, section 3.10.3, "Projection Matrices").
@@ -31,18 +27,20 @@ pub enum Projection<'a> {
     Perspective(Perspective<'a>),
 }
 
-impl<'a> Camera<'a> {
+impl<'a, D: Records> Camera<'a, D> {
     ghost use Rattle.gltf_look.specs.Cameras.{camera_handle, IsCamera, IsProjection};
 
     /// The camera at an index below the number of cameras.
-    pub fn new(document: &'a Valid, index: usize) -> Self
-        requires { index < length document.now.cameras.items }
-        ensures { IsCamera document.now index result }
+    pub fn new(document: &'a D, index: usize) -> Self
+        requires { index < length (D.root document.now).cameras.items }
+        ensures { IsCamera (D.root document.now) index result }
     {
         Camera {
-            document,
             index,
-            json: document.get::<kinds::Camera>(index),
+            inner: Inner {
+                document,
+                json: document.get::<kinds::Camera>(index),
+            },
         }
     }
 
@@ -57,19 +55,19 @@ impl<'a> Camera<'a> {
     pub fn name(&self) -> Option<&'a str>
         ensures { option_copied result ≡ text (camera_handle self.now).json.name }
     {
-        self.json.name.as_deref()
+        self.inner.json.name.as_deref()
     }
 
     /// How the camera projects: by the record that its `type` names.
     pub fn projection(&self) -> Projection<'a>
         ensures { IsProjection (camera_handle self.now).json result }
     {
-        match meaning(self.json.type_) {
+        match meaning(self.inner.json.type_) {
             Type::Orthographic => Projection::Orthographic(Orthographic {
-                json: self.json.orthographic.as_ref().unwrap(),
+                json: self.inner.json.orthographic.as_ref().unwrap(),
             }),
             Type::Perspective => Projection::Perspective(Perspective {
-                json: self.json.perspective.as_ref().unwrap(),
+                json: self.inner.json.perspective.as_ref().unwrap(),
             }),
         }
     }
@@ -80,7 +78,7 @@ impl<'a> Camera<'a> {
         ensures { option_copied result
             ≡ unknown_extensions (camera_handle self.now).json.extensions }
     {
-        unknown_extensions(&self.json.extensions)
+        unknown_extensions(&self.inner.json.extensions)
     }
 
     /// The extension of this name.
@@ -95,7 +93,7 @@ impl<'a> Camera<'a> {
     pub fn extras(&self) -> Option<&'a Value>
         ensures { option_copied result ≡ (camera_handle self.now).json.extras }
     {
-        self.json.extras.as_ref()
+        self.inner.json.extras.as_ref()
     }
 }
 

@@ -3,32 +3,29 @@
 ghost use Rattle.std.specs.Prelude.{◌≡◌, ◌<◌, length};
 ghost use Rattle.std.specs.Option.{option_copied};
 ghost use Rattle.gltf_handles.specs.Members.{text, unknown_extensions, extension_named};
-ghost use Rattle.gltf_validation.specs.Documents.{counts_of};
-ghost use Rattle.gltf_validation.specs.Images.{image_rules};
-ghost use Rattle.gltf_validation.specs.Rules.{Hold, Hold-prop};
 
 use gltf_handles::buffer::View;
+use gltf_handles::inner::Inner;
 use gltf_handles::member::unknown_extensions;
 use gltf_json::{Map, Value, image, kinds};
-use gltf_rules::Valid;
+use gltf_rules::{Records, Valid};
 
 /// An image (glTF 2.0, section 5.18, "Image").
-#[derive(Clone, Copy, Debug)]
-pub struct Image<'a> {
-    document: &'a Valid,
+#[derive_where(Clone, Copy)]
+#[derive_where(Debug; D)]
+pub struct Image<'a, D: Records = Valid> {
     index: usize,
-    json: &'a image::Image,
-    ghost holds: { Hold (image_rules (counts_of document.now) json.now) } by { Hold-prop
-        (image_rules (counts_of document.now) json.now) },
+    inner: Inner<'a, image::Image, D>,
 }
 
 /// Where the bytes of an image are (glTF 2.0, section 3.8.3).
-#[derive(Clone, Copy, Debug)]
-pub enum Source<'a> {
+#[derive_where(Clone, Copy)]
+#[derive_where(Debug; D)]
+pub enum Source<'a, D: Records = Valid> {
     /// In a view.
     View {
         /// The view that holds the bytes: `bufferView`.
-        view: View<'a>,
+        view: View<'a, D>,
         /// The media type of the bytes: `mimeType`.
         mime_type: &'a str,
     },
@@ -41,18 +38,20 @@ pub enum Source<'a> {
     },
 }
 
-impl<'a> Image<'a> {
+impl<'a, D: Records> Image<'a, D> {
     ghost use Rattle.gltf_look.specs.Images.{image_handle, IsImage, IsSource};
 
     /// The image at an index below the number of images.
-    pub fn new(document: &'a Valid, index: usize) -> Self
-        requires { index < length document.now.images.items }
-        ensures { IsImage document.now index result }
+    pub fn new(document: &'a D, index: usize) -> Self
+        requires { index < length (D.root document.now).images.items }
+        ensures { IsImage (D.root document.now) index result }
     {
         Image {
-            document,
             index,
-            json: document.get::<kinds::Image>(index),
+            inner: Inner {
+                document,
+                json: document.get::<kinds::Image>(index),
+            },
         }
     }
 
@@ -67,21 +66,21 @@ impl<'a> Image<'a> {
     pub fn name(&self) -> Option<&'a str>
         ensures { option_copied result ≡ text (image_handle self.now).json.name }
     {
-        self.json.name.as_deref()
+        self.inner.json.name.as_deref()
     }
 
     /// Where the bytes are: in a view where `bufferView` is there, else where `uri` leads.
-    pub fn source(&self) -> Source<'a>
+    pub fn source(&self) -> Source<'a, D>
         ensures { IsSource (image_handle self.now) result }
     {
-        let mime_type = self.json.mime_type.as_deref();
-        match self.json.buffer_view {
+        let mime_type = self.inner.json.mime_type.as_deref();
+        match self.inner.json.buffer_view {
             Some(index) => Source::View {
-                view: View::new(self.document, index.value()),
+                view: View::new(self.inner.document, index.value()),
                 mime_type: mime_type.unwrap(),
             },
             None => Source::Uri {
-                uri: self.json.uri.as_deref().unwrap(),
+                uri: self.inner.json.uri.as_deref().unwrap(),
                 mime_type,
             },
         }
@@ -93,7 +92,7 @@ impl<'a> Image<'a> {
         ensures { option_copied result
             ≡ unknown_extensions (image_handle self.now).json.extensions }
     {
-        unknown_extensions(&self.json.extensions)
+        unknown_extensions(&self.inner.json.extensions)
     }
 
     /// The extension of this name.
@@ -108,6 +107,6 @@ impl<'a> Image<'a> {
     pub fn extras(&self) -> Option<&'a Value>
         ensures { option_copied result ≡ (image_handle self.now).json.extras }
     {
-        self.json.extras.as_ref()
+        self.inner.json.extras.as_ref()
     }
 }

@@ -4,24 +4,20 @@ ghost use Rattle.std.specs.Prelude.{◌≡◌, ◌<◌, length};
 ghost use Rattle.std.specs.Option.{option_copied};
 ghost use Rattle.gltf_handles.specs.Members.{text};
 ghost use Rattle.gltf_validation.specs.Lights.{lights_of};
-ghost use Rattle.gltf_validation.specs.Documents.{counts_of};
-ghost use Rattle.gltf_validation.specs.Lights.{light_rules};
-ghost use Rattle.gltf_validation.specs.Rules.{Hold, Hold-prop};
 
+use gltf_handles::inner::Inner;
 use gltf_handles::member::meaning;
 use gltf_json::extensions::scene::khr_lights_punctual::{self, Type};
 use gltf_json::{Value, kinds};
-use gltf_rules::Valid;
+use gltf_rules::{Records, Valid};
 
 /// A light (`KHR_lights_punctual`, "Light Shared Properties"). Its numbers are lent as they stand,
 /// of any kind.
-#[derive(Clone, Copy, Debug)]
-pub struct Light<'a> {
-    document: &'a Valid,
+#[derive_where(Clone, Copy)]
+#[derive_where(Debug; D)]
+pub struct Light<'a, D: Records = Valid> {
     index: usize,
-    json: &'a khr_lights_punctual::Light,
-    ghost holds: { Hold (light_rules (counts_of document.now) json.now) } by { Hold-prop
-        (light_rules (counts_of document.now) json.now) },
+    inner: Inner<'a, khr_lights_punctual::Light, D>,
 }
 
 /// How a light shines (`KHR_lights_punctual`, "Light Types").
@@ -41,18 +37,20 @@ pub enum Kind<'a> {
     },
 }
 
-impl<'a> Light<'a> {
+impl<'a, D: Records> Light<'a, D> {
     ghost use Rattle.gltf_look.specs.Lights.{light_handle, IsLight, IsKind};
 
     /// The light at an index below the number of lights.
-    pub fn new(document: &'a Valid, index: usize) -> Self
-        requires { index < length (lights_of document.now.extensions) }
-        ensures { IsLight document.now index result }
+    pub fn new(document: &'a D, index: usize) -> Self
+        requires { index < length (lights_of (D.root document.now).extensions) }
+        ensures { IsLight (D.root document.now) index result }
     {
         Light {
-            document,
             index,
-            json: document.get::<kinds::Light>(index),
+            inner: Inner {
+                document,
+                json: document.get::<kinds::Light>(index),
+            },
         }
     }
 
@@ -60,7 +58,7 @@ impl<'a> Light<'a> {
     pub fn color(&self) -> Option<&'a Value>
         ensures { option_copied result ≡ (light_handle self.now).json.color }
     {
-        self.json.color.as_ref()
+        self.inner.json.color.as_ref()
     }
 
     /// The position among the lights of the document.
@@ -74,14 +72,14 @@ impl<'a> Light<'a> {
     pub fn name(&self) -> Option<&'a str>
         ensures { option_copied result ≡ text (light_handle self.now).json.name }
     {
-        self.json.name.as_deref()
+        self.inner.json.name.as_deref()
     }
 
     /// What the application stores here: `extras`.
     pub fn extras(&self) -> Option<&'a Value>
         ensures { option_copied result ≡ (light_handle self.now).json.extras }
     {
-        self.json.extras.as_ref()
+        self.inner.json.extras.as_ref()
     }
 
     /// The brightness, in candela for point and spot lights and in lux for directional ones:
@@ -89,25 +87,25 @@ impl<'a> Light<'a> {
     pub fn intensity(&self) -> Option<&'a Value>
         ensures { option_copied result ≡ (light_handle self.now).json.intensity }
     {
-        self.json.intensity.as_ref()
+        self.inner.json.intensity.as_ref()
     }
 
     /// The distance in metres at which the light ends: `range`.
     pub fn range(&self) -> Option<&'a Value>
         ensures { option_copied result ≡ (light_handle self.now).json.range }
     {
-        self.json.range.as_ref()
+        self.inner.json.range.as_ref()
     }
 
     /// How the light shines: `type`, and of a spot its cone.
     pub fn kind(&self) -> Kind<'a>
         ensures { IsKind (light_handle self.now).json result }
     {
-        match meaning(self.json.type_) {
+        match meaning(self.inner.json.type_) {
             Type::Directional => Kind::Directional,
             Type::Point => Kind::Point,
             Type::Spot => {
-                let spot = self.json.spot.as_ref().unwrap();
+                let spot = self.inner.json.spot.as_ref().unwrap();
                 Kind::Spot {
                     inner_cone_angle: spot.inner_cone_angle.as_ref(),
                     outer_cone_angle: spot.outer_cone_angle.as_ref(),

@@ -1,40 +1,54 @@
 //! Textures, and how they are sampled (glTF 2.0, section 3.8, "Texture Data").
 
-ghost use Rattle.std.specs.Prelude.{◌≡◌, ◌<◌, length, unwrap_or};
+ghost use Rattle.std.specs.Prelude.{◌≡◌, ◌<◌, length, unwrap_or, ⊤};
 ghost use Rattle.std.specs.Option.{option_copied};
 ghost use Rattle.gltf_handles.specs.Members.{text, unknown_extensions, extension_named};
 ghost use Rattle.gltf_handles.specs.Members.{Follows, FollowsOr, IsCode};
 ghost use Rattle.gltf_look.specs.Defaults.{default_sampler};
 ghost use Rattle.gltf_validation.specs.Documents.{counts_of};
 ghost use Rattle.gltf_validation.specs.Rules.{Hold, Hold-prop};
-ghost use Rattle.gltf_validation.specs.Textures.{sampler_rules, texture_rules};
+ghost use Rattle.gltf_validation.specs.Textures.{sampler_rules};
 
 use crate::image::Image;
+use gltf_handles::inner::Inner;
 use gltf_handles::member::{meaning, unknown_extensions};
 pub use gltf_json::texture::{MagFilter, MinFilter, WrappingMode};
 use gltf_json::{Map, Value, kinds, texture};
-use gltf_rules::Valid;
+use gltf_rules::{Records, Valid};
+use std::alloc::AllocError;
 
 /// How a texture is sampled (glTF 2.0, section 5.26, "Sampler"). That of a texture which names none
 /// has no record.
-#[derive(Clone, Copy, Debug)]
-pub struct Sampler<'a> {
-    document: &'a Valid,
+#[derive_where(Debug; D)]
+pub struct Sampler<'a, D: Records = Valid> {
+    document: &'a D,
     index: Option<usize>,
     json: Option<&'a texture::Sampler>,
-    ghost holds: { Hold (sampler_rules (counts_of document.now)
+    ghost holds: { Hold (sampler_rules (counts_of (D.root document.now))
         (unwrap_or (option_copied json) default_sampler)) } by { Hold-prop
-            (sampler_rules (counts_of document.now)
+            (sampler_rules (counts_of (D.root document.now))
             (unwrap_or (option_copied json) default_sampler)) },
 }
 
-impl<'a> Sampler<'a> {
+impl<'a, D: Records> Copy for Sampler<'a, D> {}
+
+impl<'a, D: Records> Clone for Sampler<'a, D> {
+    ghost is_clone = { λ x y. y ≡ x };
+
+    ghost is_infallible = { λ _. ⊤ };
+
+    fn clone(&self) -> Result<Self, AllocError> {
+        Ok(*self)
+    }
+}
+
+impl<'a, D: Records> Sampler<'a, D> {
     ghost use Rattle.gltf_look.specs.Textures.{sampler_handle, IsSampler, IsDefaultSampler};
 
     /// The sampler at an index below the number of samplers.
-    pub fn new(document: &'a Valid, index: usize) -> Self
-        requires { index < length document.now.samplers.items }
-        ensures { IsSampler document.now index result }
+    pub fn new(document: &'a D, index: usize) -> Self
+        requires { index < length (D.root document.now).samplers.items }
+        ensures { IsSampler (D.root document.now) index result }
     {
         let json = document.get::<kinds::Sampler>(index);
         Sampler {
@@ -45,8 +59,8 @@ impl<'a> Sampler<'a> {
     }
 
     /// That of a texture which names none: it has no record.
-    pub fn default(document: &'a Valid) -> Self
-        ensures { IsDefaultSampler document.now result }
+    pub fn default(document: &'a D) -> Self
+        ensures { IsDefaultSampler (D.root document.now) result }
     {
         Sampler {
             document,
@@ -129,29 +143,29 @@ impl<'a> Sampler<'a> {
 }
 
 /// An image, and how it is sampled (glTF 2.0, section 5.29, "Texture").
-#[derive(Clone, Copy, Debug)]
-pub struct Texture<'a> {
-    document: &'a Valid,
+#[derive_where(Clone, Copy)]
+#[derive_where(Debug; D)]
+pub struct Texture<'a, D: Records = Valid> {
     index: usize,
-    json: &'a texture::Texture,
-    ghost holds: { Hold (texture_rules (counts_of document.now) json.now) } by { Hold-prop
-        (texture_rules (counts_of document.now) json.now) },
+    inner: Inner<'a, texture::Texture, D>,
 }
 
-impl<'a> Texture<'a> {
+impl<'a, D: Records> Texture<'a, D> {
     ghost use Rattle.gltf_look.specs.Images.{IsImage};
     ghost use Rattle.gltf_look.specs.Textures.{texture_handle, IsTexture};
     ghost use Rattle.gltf_look.specs.Textures.{IsSampler, IsDefaultSampler};
 
     /// The texture at an index below the number of textures.
-    pub fn new(document: &'a Valid, index: usize) -> Self
-        requires { index < length document.now.textures.items }
-        ensures { IsTexture document.now index result }
+    pub fn new(document: &'a D, index: usize) -> Self
+        requires { index < length (D.root document.now).textures.items }
+        ensures { IsTexture (D.root document.now) index result }
     {
         Texture {
-            document,
             index,
-            json: document.get::<kinds::Texture>(index),
+            inner: Inner {
+                document,
+                json: document.get::<kinds::Texture>(index),
+            },
         }
     }
 
@@ -166,28 +180,28 @@ impl<'a> Texture<'a> {
     pub fn name(&self) -> Option<&'a str>
         ensures { option_copied result ≡ text (texture_handle self.now).json.name }
     {
-        self.json.name.as_deref()
+        self.inner.json.name.as_deref()
     }
 
     /// How the texture is sampled: by the sampler that it names, or by one with no record, which
     /// repeats in both directions.
-    pub fn sampler(&self) -> Sampler<'a>
+    pub fn sampler(&self) -> Sampler<'a, D>
         ensures { FollowsOr (IsDefaultSampler (texture_handle self.now).document)
             (IsSampler (texture_handle self.now).document)
             (texture_handle self.now).json.sampler result }
     {
-        match self.json.sampler {
-            Some(index) => Sampler::new(self.document, index.value()),
-            None => Sampler::default(self.document),
+        match self.inner.json.sampler {
+            Some(index) => Sampler::new(self.inner.document, index.value()),
+            None => Sampler::default(self.inner.document),
         }
     }
 
     /// The image.
-    pub fn source(&self) -> Image<'a>
+    pub fn source(&self) -> Image<'a, D>
         ensures { IsImage (texture_handle self.now).document
             (texture_handle self.now).json.source result }
     {
-        Image::new(self.document, self.json.source.value())
+        Image::new(self.inner.document, self.inner.json.source.value())
     }
 
     /// The extensions, none of which is known at a texture; None where there is no member
@@ -196,7 +210,7 @@ impl<'a> Texture<'a> {
         ensures { option_copied result
             ≡ unknown_extensions (texture_handle self.now).json.extensions }
     {
-        unknown_extensions(&self.json.extensions)
+        unknown_extensions(&self.inner.json.extensions)
     }
 
     /// The extension of this name.
@@ -211,6 +225,6 @@ impl<'a> Texture<'a> {
     pub fn extras(&self) -> Option<&'a Value>
         ensures { option_copied result ≡ (texture_handle self.now).json.extras }
     {
-        self.json.extras.as_ref()
+        self.inner.json.extras.as_ref()
     }
 }

@@ -4,7 +4,7 @@ mod extended;
 mod maps;
 mod pbr;
 
-ghost use Rattle.std.specs.Prelude.{◌≡◌, ◌<◌, length, unwrap_or, is_some};
+ghost use Rattle.std.specs.Prelude.{◌≡◌, ◌<◌, length, unwrap_or, is_some, ⊤};
 ghost use Rattle.std.specs.Option.{option_copied, option_and_then, option_map};
 ghost use Rattle.gltf_handles.specs.Members.{text, extension_named, Follows, IsCode};
 ghost use Rattle.gltf_material.specs.Defaults.{default_material};
@@ -18,34 +18,48 @@ ghost use Rattle.gltf_validation.specs.Rules.{Hold, Hold-prop};
 
 use crate::texture::Info;
 pub use extended::{Specular, Transmission, Volume};
+use gltf_handles::inner::Inner;
 use gltf_handles::member::meaning;
 pub use gltf_json::material::AlphaMode;
 use gltf_json::{Map, Value, extensions, kinds, material};
-use gltf_rules::Valid;
+use gltf_rules::{Records, Valid};
 pub use maps::{NormalTexture, OcclusionTexture};
 pub use pbr::{PbrMetallicRoughness, PbrSpecularGlossiness};
+use std::alloc::AllocError;
 
 /// How a surface looks (glTF 2.0, section 5.19, "Material"). The default material, of a primitive
 /// that names none, has no record: its getters give what they give where a member is absent.
-#[derive(Clone, Copy, Debug)]
-pub struct Material<'a> {
-    document: &'a Valid,
+#[derive_where(Debug; D)]
+pub struct Material<'a, D: Records = Valid> {
+    document: &'a D,
     index: Option<usize>,
     json: Option<&'a material::Material>,
-    ghost holds: { Hold (material_rules (counts_of document.now)
+    ghost holds: { Hold (material_rules (counts_of (D.root document.now))
         (unwrap_or (option_copied json) default_material)) } by { Hold-prop
-            (material_rules (counts_of document.now)
+            (material_rules (counts_of (D.root document.now))
             (unwrap_or (option_copied json) default_material)) },
 }
 
-impl<'a> Material<'a> {
+impl<'a, D: Records> Copy for Material<'a, D> {}
+
+impl<'a, D: Records> Clone for Material<'a, D> {
+    ghost is_clone = { λ x y. y ≡ x };
+
+    ghost is_infallible = { λ _. ⊤ };
+
+    fn clone(&self) -> Result<Self, AllocError> {
+        Ok(*self)
+    }
+}
+
+impl<'a, D: Records> Material<'a, D> {
     ghost use Rattle.gltf_material.specs.Materials.{material_handle, extension};
     ghost use Rattle.gltf_material.specs.Materials.{IsMaterial, IsDefaultMaterial};
 
     /// The material at an index below the number of materials.
-    pub fn new(document: &'a Valid, index: usize) -> Self
-        requires { index < length document.now.materials.items }
-        ensures { IsMaterial document.now index result }
+    pub fn new(document: &'a D, index: usize) -> Self
+        requires { index < length (D.root document.now).materials.items }
+        ensures { IsMaterial (D.root document.now) index result }
     {
         let json = document.get::<kinds::Material>(index);
         Material {
@@ -56,8 +70,8 @@ impl<'a> Material<'a> {
     }
 
     /// The default material (glTF 2.0, section 3.9.6, "Default Material").
-    pub fn default(document: &'a Valid) -> Self
-        ensures { IsDefaultMaterial document.now result }
+    pub fn default(document: &'a D) -> Self
+        ensures { IsDefaultMaterial (D.root document.now) result }
     {
         Material {
             document,
@@ -110,7 +124,7 @@ impl<'a> Material<'a> {
 
     /// The base colour, metalness and roughness: `pbrMetallicRoughness`, with no record where that
     /// is absent.
-    pub fn pbr_metallic_roughness(&self) -> PbrMetallicRoughness<'a>
+    pub fn pbr_metallic_roughness(&self) -> PbrMetallicRoughness<'a, D>
         ensures { IsPbr (material_handle self.now).document
             (material_handle self.now).json.pbr_metallic_roughness result }
     {
@@ -143,26 +157,30 @@ impl<'a> Material<'a> {
 
     /// The diffuse and specular colours and the glossiness: the extension
     /// `KHR_materials_pbrSpecularGlossiness`.
-    pub fn pbr_specular_glossiness(&self) -> Option<PbrSpecularGlossiness<'a>>
+    pub fn pbr_specular_glossiness(&self) -> Option<PbrSpecularGlossiness<'a, D>>
         ensures { Follows (IsGlossiness (material_handle self.now).document)
             (extension (λ e. e.pbr_specular_glossiness) (material_handle self.now).json) result }
     {
         let json = self.known()?.pbr_specular_glossiness.as_ref()?;
         Some(PbrSpecularGlossiness {
-            document: self.document,
-            json,
+            inner: Inner {
+                document: self.document,
+                json,
+            },
         })
     }
 
     /// How much light goes through the surface: the extension `KHR_materials_transmission`.
-    pub fn transmission(&self) -> Option<Transmission<'a>>
+    pub fn transmission(&self) -> Option<Transmission<'a, D>>
         ensures { Follows (IsTransmission (material_handle self.now).document)
             (extension (λ e. e.transmission) (material_handle self.now).json) result }
     {
         let json = self.known()?.transmission.as_ref()?;
         Some(Transmission {
-            document: self.document,
-            json,
+            inner: Inner {
+                document: self.document,
+                json,
+            },
         })
     }
 
@@ -191,55 +209,63 @@ impl<'a> Material<'a> {
     }
 
     /// The volume below the surface: the extension `KHR_materials_volume`.
-    pub fn volume(&self) -> Option<Volume<'a>>
+    pub fn volume(&self) -> Option<Volume<'a, D>>
         ensures { Follows (IsVolume (material_handle self.now).document)
             (extension (λ e. e.volume) (material_handle self.now).json) result }
     {
         let json = self.known()?.volume.as_ref()?;
         Some(Volume {
-            document: self.document,
-            json,
+            inner: Inner {
+                document: self.document,
+                json,
+            },
         })
     }
 
     /// The strength and colour of the reflections: the extension `KHR_materials_specular`.
-    pub fn specular(&self) -> Option<Specular<'a>>
+    pub fn specular(&self) -> Option<Specular<'a, D>>
         ensures { Follows (IsSpecular (material_handle self.now).document)
             (extension (λ e. e.specular) (material_handle self.now).json) result }
     {
         let json = self.known()?.specular.as_ref()?;
         Some(Specular {
-            document: self.document,
-            json,
+            inner: Inner {
+                document: self.document,
+                json,
+            },
         })
     }
 
     /// The texture of the normals: `normalTexture`.
-    pub fn normal_texture(&self) -> Option<NormalTexture<'a>>
+    pub fn normal_texture(&self) -> Option<NormalTexture<'a, D>>
         ensures { Follows (IsNormal (material_handle self.now).document)
             (material_handle self.now).json.normal_texture result }
     {
         let json = self.json?.normal_texture.as_ref()?;
         Some(NormalTexture {
-            document: self.document,
-            json,
+            inner: Inner {
+                document: self.document,
+                json,
+            },
         })
     }
 
     /// The texture of the occlusion: `occlusionTexture`.
-    pub fn occlusion_texture(&self) -> Option<OcclusionTexture<'a>>
+    pub fn occlusion_texture(&self) -> Option<OcclusionTexture<'a, D>>
         ensures { Follows (IsOcclusion (material_handle self.now).document)
             (material_handle self.now).json.occlusion_texture result }
     {
         let json = self.json?.occlusion_texture.as_ref()?;
         Some(OcclusionTexture {
-            document: self.document,
-            json,
+            inner: Inner {
+                document: self.document,
+                json,
+            },
         })
     }
 
     /// The texture of the light that the surface gives off: `emissiveTexture`.
-    pub fn emissive_texture(&self) -> Option<Info<'a>>
+    pub fn emissive_texture(&self) -> Option<Info<'a, D>>
         ensures { Follows (IsInfo (material_handle self.now).document)
             (material_handle self.now).json.emissive_texture result }
     {

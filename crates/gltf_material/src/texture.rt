@@ -6,33 +6,34 @@ ghost use Rattle.gltf_handles.specs.Members.{extension_named, Follows};
 ghost use Rattle.gltf_look.specs.Textures.{IsTexture};
 ghost use Rattle.gltf_validation.specs.Documents.{counts_of};
 ghost use Rattle.gltf_validation.specs.Members.{optional_rules};
-ghost use Rattle.gltf_validation.specs.Rules.{Hold, Hold-prop};
+ghost use Rattle.gltf_validation.specs.Rules.{Hold};
 ghost use Rattle.gltf_validation.specs.Textures.{info_rules};
 
+use gltf_handles::inner::Inner;
 use gltf_json::extensions::texture as extended;
 use gltf_json::{Map, Value, texture};
 use gltf_look::texture::Texture;
-use gltf_rules::Valid;
+use gltf_rules::{Records, Valid};
 
 /// The use of a texture (glTF 2.0, section 5.30, "Texture Info").
-#[derive(Clone, Copy, Debug)]
-pub struct Info<'a> {
-    document: &'a Valid,
-    json: &'a texture::Info,
-    ghost holds: { Hold (info_rules (counts_of document.now) json.now) } by { Hold-prop
-        (info_rules (counts_of document.now) json.now) },
+#[derive_where(Clone, Copy)]
+#[derive_where(Debug; D)]
+pub struct Info<'a, D: Records = Valid> {
+    inner: Inner<'a, texture::Info, D>,
 }
 
-impl<'a> Info<'a> {
+impl<'a, D: Records> Info<'a, D> {
     ghost use Rattle.gltf_material.specs.Textures.{info_handle, transform_record, IsInfo};
 
     /// That of a member whose rules hold, where it is there.
-    pub(crate) fn of(document: &'a Valid, member: &'a Option<texture::Info>) -> Option<Self>
-        requires { Hold (optional_rules (info_rules (counts_of document.now)) member.now) }
-        ensures { Follows (IsInfo document.now) member.now result }
+    pub(crate) fn of(document: &'a D, member: &'a Option<texture::Info>) -> Option<Self>
+        requires { Hold (optional_rules (info_rules (counts_of (D.root document.now))) member.now) }
+        ensures { Follows (IsInfo (D.root document.now)) member.now result }
     {
         let json = member.as_ref()?;
-        Some(Info { document, json })
+        Some(Info {
+            inner: Inner { document, json },
+        })
     }
 
     /// The set of texture coordinates, as in the attribute `TEXCOORD_n`: `texCoord`, 0 where that
@@ -40,15 +41,15 @@ impl<'a> Info<'a> {
     pub fn tex_coord(&self) -> u32
         ensures { result ≡ (info_handle self.now).json.tex_coord }
     {
-        self.json.tex_coord
+        self.inner.json.tex_coord
     }
 
     /// The texture: `index`.
-    pub fn texture(&self) -> Texture<'a>
+    pub fn texture(&self) -> Texture<'a, D>
         ensures { IsTexture (info_handle self.now).document
             (info_handle self.now).json.index result }
     {
-        Texture::new(self.document, self.json.index.value())
+        Texture::new(self.inner.document, self.inner.json.index.value())
     }
 
     /// How the texture coordinates are scaled, turned and moved: the extension
@@ -57,7 +58,13 @@ impl<'a> Info<'a> {
         ensures { option_map transform_record result
             ≡ option_and_then (λ e. e.texture_transform) (info_handle self.now).json.extensions }
     {
-        let json = self.json.extensions.as_ref()?.texture_transform.as_ref()?;
+        let json = self
+            .inner
+            .json
+            .extensions
+            .as_ref()?
+            .texture_transform
+            .as_ref()?;
         Some(TextureTransform { json })
     }
 
@@ -67,7 +74,7 @@ impl<'a> Info<'a> {
         ensures { option_copied result
             ≡ option_map (λ e. e.others) (info_handle self.now).json.extensions }
     {
-        Some(&self.json.extensions.as_ref()?.others)
+        Some(&self.inner.json.extensions.as_ref()?.others)
     }
 
     /// The extension of this name, where it is not known at the use of a texture.
@@ -83,7 +90,7 @@ impl<'a> Info<'a> {
     pub fn extras(&self) -> Option<&'a Value>
         ensures { option_copied result ≡ (info_handle self.now).json.extras }
     {
-        self.json.extras.as_ref()
+        self.inner.json.extras.as_ref()
     }
 }
 

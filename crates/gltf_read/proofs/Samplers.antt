@@ -1,10 +1,12 @@
 -- From the accessors that a sampler gives to the indices that the channel's record leads to.
 use Rattle.std.proofs.Common.{◌≡◌, ℕ, sym, ap, subst, ◌∙◌}
 use Rattle.std.specs.Prelude.{Option, Some, option_map}
+use Rattle.gltf_json.specs.declared.root.Root.{Root}
 use Rattle.gltf_json_animation.specs.declared.animation.Animation.{Animation as AnimationRecord}
 use Rattle.gltf_json_animation.specs.declared.animation.Channel.{Channel as ChannelRecord}
 use Rattle.gltf_json_animation.specs.declared.animation.Property.{Property}
 use Rattle.gltf_json_animation.specs.declared.animation.Sampler.{Sampler as SamplerRecord}
+use Rattle.gltf_rules.specs.contracts.records.ValidRecords.TheImpl as valid
 use Rattle.gltf_handles.specs.Accessors.{IsAccessor, accessor_handle}
 use Rattle.gltf_handles.specs.Handle.{Handle}
 use Rattle.gltf_handles.specs.Members.{Follows, IsCode}
@@ -21,8 +23,8 @@ use Rattle.gltf_read.proofs.Members.{of_member}
 
 -- of the sampler's index for times, or of that for values
 pub sampler_read : {E : Type 0} (index : SamplerRecord → ℕ) (Are : Table E) (Gives : Results)
-    (a : Handle AnimationRecord) (c : ChannelRecord) (sampler : Sampler) (accessor : Accessor)
-    (result : Option E)
+    (a : Handle AnimationRecord) (c : ChannelRecord) (sampler : Sampler Root valid.ghosts)
+    (accessor : Accessor Root valid.ghosts) (result : Option E)
     → IsSampler a c.sampler sampler
     → IsAccessor (sampler_handle sampler).animation.document (index (sampler_handle sampler).json)
     accessor
@@ -40,8 +42,8 @@ sampler_read index Are Gives a c sampler accessor result is at reads =
     followed reads
 
 pub outputs_read : (Gives : Results) (a : Handle AnimationRecord) (c : ChannelRecord)
-    (target : Target) (property : Property) (sampler : Sampler) (accessor : Accessor)
-    (result : Option ReadOutputs)
+    (target : Target Root valid.ghosts) (property : Property) (sampler : Sampler Root valid.ghosts)
+    (accessor : Accessor Root valid.ghosts) (result : Option ReadOutputs)
     → IsTarget a c.target target → IsCode (target_handle target).json.path property
     → IsSampler a c.sampler sampler
     → IsAccessor (sampler_handle sampler).animation.document (sampler_handle sampler).json.output

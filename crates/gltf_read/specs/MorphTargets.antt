@@ -2,6 +2,7 @@
 use Rattle.std.specs.Prelude.{◌≡◌, ℕ, Option, Some, slice_get}
 use Rattle.gltf_json_geometry.specs.declared.mesh.MorphTarget.{MorphTarget as MorphTargetRecord}
 use Rattle.gltf_json.specs.declared.root.Root.{Root}
+use Rattle.gltf_rules.specs.contracts.records.ValidRecords.TheImpl as valid
 use Rattle.gltf_handles.specs.Lists.{position}
 use Rattle.gltf_handles.specs.Positions.{Position}
 use Rattle.gltf_items.specs.declared.item.Item.{Ghosts}
@@ -13,7 +14,8 @@ use Rattle.gltf_read.specs.Reading.{AreItems, ReadsMember}
 use Rattle.gltf_read.specs.declared.morph_targets.ReadMorphTargets.{ReadMorphTargets}
 
 -- the morph targets that are left
-abbrev pub targets_left : {F : Type 0} → ReadMorphTargets F → Position MorphTargetsOf
+abbrev pub targets_left : {F : Type 0} → ReadMorphTargets F
+    → Position (MorphTargetsOf Root valid.ghosts)
 targets_left t = position t.targets
 
 -- the closure that gives the bytes of buffers
@@ -29,7 +31,8 @@ pub record IsTargetRead {X : Type 0} {t : Ghosts X} (Gives : Results) (r : Root)
   pub tangents : ReadsMember AreItems Gives r target.tangents x.2
 
 -- the same of target i of a primitive
-abbrev pub GivesTarget : {X : Type 0} → {t : Ghosts X} → Results → MorphTargetsOf → ℕ
+abbrev pub GivesTarget : {X : Type 0} → {t : Ghosts X} → Results
+    → MorphTargetsOf Root valid.ghosts → ℕ
     → Option (Iter X t) × Option (Iter X t) × Option (Iter X t) → Type 0
 GivesTarget Gives source i x =
     (target : MorphTargetRecord)

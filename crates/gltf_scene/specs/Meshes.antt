@@ -4,29 +4,32 @@ use Rattle.gltf_json.specs.declared.root.Root.{Root}
 use Rattle.gltf_json_geometry.specs.declared.mesh.Mesh.{Mesh as MeshRecord}
 use Rattle.gltf_json_geometry.specs.declared.mesh.Primitive.{Primitive as PrimitiveRecord}
 use Rattle.gltf_json_geometry.specs.declared.mesh.MorphTarget.{MorphTarget as MorphTargetRecord}
+use Rattle.gltf_rules.specs.declared.records.Records.{Ghosts}
 use Rattle.gltf_handles.specs.Handle.{Handle, IsAt}
+use Rattle.gltf_handles.specs.Inner.{handle_at}
 use Rattle.gltf_scene.specs.declared.mesh.Mesh.{Mesh}
 use Rattle.gltf_scene.specs.declared.mesh.Primitive.{Primitive}
 use Rattle.gltf_scene.specs.declared.mesh.MorphTarget.{MorphTarget}
 
--- what they show
-abbrev pub mesh_handle : Mesh → Handle MeshRecord
-mesh_handle m = record { document = m.document.now; index = m.index; json = m.json.now }
+module _ {D : Type 0} {G : Ghosts D} where
+  -- what they show
+  abbrev pub mesh_handle : Mesh D G → Handle MeshRecord
+  mesh_handle m = handle_at m.inner m.index
 
-abbrev pub primitive_handle : Primitive → Handle PrimitiveRecord
-primitive_handle p = record { document = p.document.now; index = p.index; json = p.json.now }
+  abbrev pub primitive_handle : Primitive D G → Handle PrimitiveRecord
+  primitive_handle p = handle_at p.inner p.index
 
-abbrev pub morph_target_handle : MorphTarget → Handle MorphTargetRecord
-morph_target_handle t = record { document = t.document.now; index = t.index; json = t.json.now }
+  abbrev pub morph_target_handle : MorphTarget D G → Handle MorphTargetRecord
+  morph_target_handle t = handle_at t.inner t.index
 
--- the handle of mesh i of a document
-abbrev pub IsMesh : Root → ℕ → Mesh → Type 0
-IsMesh r i m = IsAt r.meshes.items r i (mesh_handle m)
+  -- the handle of mesh i of a document
+  abbrev pub IsMesh : Root → ℕ → Mesh D G → Type 0
+  IsMesh r i m = IsAt r.meshes.items r i (mesh_handle m)
 
--- the handle of primitive i of a mesh
-abbrev pub IsPrimitive : Handle MeshRecord → ℕ → Primitive → Type 0
-IsPrimitive m i p = IsAt m.json.primitives.items m.document i (primitive_handle p)
+  -- the handle of primitive i of a mesh
+  abbrev pub IsPrimitive : Handle MeshRecord → ℕ → Primitive D G → Type 0
+  IsPrimitive m i p = IsAt m.json.primitives.items m.document i (primitive_handle p)
 
--- the handle of morph target i of a primitive
-abbrev pub IsMorphTarget : Handle PrimitiveRecord → ℕ → MorphTarget → Type 0
-IsMorphTarget p i t = IsAt p.json.targets.items p.document i (morph_target_handle t)
+  -- the handle of morph target i of a primitive
+  abbrev pub IsMorphTarget : Handle PrimitiveRecord → ℕ → MorphTarget D G → Type 0
+  IsMorphTarget p i t = IsAt p.json.targets.items p.document i (morph_target_handle t)

@@ -8,6 +8,7 @@ use Rattle.gltf_json_geometry.specs.declared.extensions.mesh.Primitive as extend
 use Rattle.gltf_json_geometry.specs.declared.extensions.mesh.KhrMaterialsVariants.{
   KhrMaterialsVariants,
 }
+use Rattle.gltf_rules.specs.declared.records.Records.{Ghosts}
 use Rattle.gltf_handles.specs.Handle.{Handle}
 use Rattle.gltf_handles.specs.Positions.{Position, IsWhole}
 use Rattle.gltf_scene.specs.Meshes.{mesh_handle, primitive_handle}
@@ -24,15 +25,16 @@ abbrev pub mappings_of : Option extended.Primitive → List MappingRecord
 mappings_of extensions =
     mappings_within (option_and_then (λ e. e.khr_materials_variants) extensions)
 
--- the primitives of a mesh, all of them
-abbrev pub ArePrimitives : Handle MeshRecord → Position PrimitivesOf → Type 0
-ArePrimitives m p = IsWhole (λ s. mesh_handle s.mesh ≡ m) (length m.json.primitives.items) p
+module _ {D : Type 0} {G : Ghosts D} where
+  -- the primitives of a mesh, all of them
+  abbrev pub ArePrimitives : Handle MeshRecord → Position (PrimitivesOf D G) → Type 0
+  ArePrimitives m p = IsWhole (λ s. mesh_handle s.mesh ≡ m) (length m.json.primitives.items) p
 
--- the morph targets and the mappings of a primitive, all of them
-abbrev pub AreMorphTargets : Handle PrimitiveRecord → Position MorphTargetsOf → Type 0
-AreMorphTargets q p =
-    IsWhole (λ s. primitive_handle s.primitive ≡ q) (length q.json.targets.items) p
+  -- the morph targets and the mappings of a primitive, all of them
+  abbrev pub AreMorphTargets : Handle PrimitiveRecord → Position (MorphTargetsOf D G) → Type 0
+  AreMorphTargets q p =
+      IsWhole (λ s. primitive_handle s.primitive ≡ q) (length q.json.targets.items) p
 
-abbrev pub AreMappings : Handle PrimitiveRecord → Position MappingsOf → Type 0
-AreMappings q p =
-    IsWhole (λ s. primitive_handle s.primitive ≡ q) (length (mappings_of q.json.extensions)) p
+  abbrev pub AreMappings : Handle PrimitiveRecord → Position (MappingsOf D G) → Type 0
+  AreMappings q p =
+      IsWhole (λ s. primitive_handle s.primitive ≡ q) (length (mappings_of q.json.extensions)) p

@@ -5,16 +5,13 @@ pub mod iter;
 
 ghost use Rattle.std.specs.Prelude.{◌≡◌, ◌<◌, length};
 ghost use Rattle.std.specs.BTreeMap.{get_by};
-ghost use Rattle.std.specs.Option.{option_copied, option_and_then, option_map};
+ghost use Rattle.std.specs.Option.{option_copied, option_map};
 ghost use Rattle.gltf_handles.specs.Accessors.{IsAccessor};
 ghost use Rattle.gltf_handles.specs.Lists.{position};
 ghost use Rattle.gltf_handles.specs.Members.{text, unknown_extensions, extension_named};
 ghost use Rattle.gltf_handles.specs.Members.{Follows, FollowsOr, IsCode};
 ghost use Rattle.gltf_json_geometry.specs.Semantics.{semantic_cmp};
 ghost use Rattle.gltf_material.specs.Materials.{IsMaterial, IsDefaultMaterial};
-ghost use Rattle.gltf_validation.specs.Documents.{counts_of};
-ghost use Rattle.gltf_validation.specs.Meshes.{mesh_rules, primitive_rules, morph_target_rules};
-ghost use Rattle.gltf_validation.specs.Rules.{Hold, Hold-prop};
 
 use crate::mesh::bounds::three_numbers;
 pub use crate::mesh::bounds::{BoundingBox, Bounds};
@@ -22,40 +19,41 @@ use crate::mesh::iter::{
     Attributes, Mappings, MappingsOf, MorphTargets, MorphTargetsOf, Primitives, PrimitivesOf,
 };
 use gltf_handles::accessor::Accessor;
+use gltf_handles::inner::Inner;
 use gltf_handles::list::List;
 use gltf_handles::member::{meaning, unknown_extensions};
 pub use gltf_json::mesh::{Mode, Semantic};
 use gltf_json::{Map, Value, kinds, mesh};
 use gltf_json_geometry::laws::order_is_the_stated_one;
 use gltf_material::material::Material;
-use gltf_rules::Valid;
+use gltf_rules::{Records, Valid};
 
 /// An attribute of a primitive: what it means, and its accessor.
-pub type Attribute<'a> = (&'a Semantic, Accessor<'a>);
+pub type Attribute<'a, D = Valid> = (&'a Semantic, Accessor<'a, D>);
 
 /// A set of primitives (glTF 2.0, section 5.23, "Mesh").
-#[derive(Clone, Copy, Debug)]
-pub struct Mesh<'a> {
-    document: &'a Valid,
+#[derive_where(Clone, Copy)]
+#[derive_where(Debug; D)]
+pub struct Mesh<'a, D: Records = Valid> {
     index: usize,
-    json: &'a mesh::Mesh,
-    ghost holds: { Hold (mesh_rules (counts_of document.now) json.now) } by { Hold-prop
-        (mesh_rules (counts_of document.now) json.now) },
+    inner: Inner<'a, mesh::Mesh, D>,
 }
 
-impl<'a> Mesh<'a> {
+impl<'a, D: Records> Mesh<'a, D> {
     ghost use Rattle.gltf_scene.specs.Meshes.{mesh_handle, IsMesh};
     ghost use Rattle.gltf_scene.specs.Primitives.{ArePrimitives};
 
     /// The mesh at an index below the number of meshes.
-    pub fn new(document: &'a Valid, index: usize) -> Self
-        requires { index < length document.now.meshes.items }
-        ensures { IsMesh document.now index result }
+    pub fn new(document: &'a D, index: usize) -> Self
+        requires { index < length (D.root document.now).meshes.items }
+        ensures { IsMesh (D.root document.now) index result }
     {
         Mesh {
-            document,
             index,
-            json: document.get::<kinds::Mesh>(index),
+            inner: Inner {
+                document,
+                json: document.get::<kinds::Mesh>(index),
+            },
         }
     }
 
@@ -70,11 +68,11 @@ impl<'a> Mesh<'a> {
     pub fn name(&self) -> Option<&'a str>
         ensures { option_copied result ≡ text (mesh_handle self.now).json.name }
     {
-        self.json.name.as_deref()
+        self.inner.json.name.as_deref()
     }
 
     /// The primitives, in stored order.
-    pub fn primitives(&self) -> Primitives<'a>
+    pub fn primitives(&self) -> Primitives<'a, D>
         ensures { ArePrimitives (mesh_handle self.now) (position result) }
     {
         List::new(PrimitivesOf { mesh: *self })
@@ -84,7 +82,7 @@ impl<'a> Mesh<'a> {
     pub fn weights(&self) -> Option<&'a Value>
         ensures { option_copied result ≡ (mesh_handle self.now).json.weights }
     {
-        self.json.weights.as_ref()
+        self.inner.json.weights.as_ref()
     }
 
     /// The extensions, none of which is known at a mesh; None where there is no member
@@ -93,7 +91,7 @@ impl<'a> Mesh<'a> {
         ensures { option_copied result
             ≡ unknown_extensions (mesh_handle self.now).json.extensions }
     {
-        unknown_extensions(&self.json.extensions)
+        unknown_extensions(&self.inner.json.extensions)
     }
 
     /// The extension of this name.
@@ -108,21 +106,19 @@ impl<'a> Mesh<'a> {
     pub fn extras(&self) -> Option<&'a Value>
         ensures { option_copied result ≡ (mesh_handle self.now).json.extras }
     {
-        self.json.extras.as_ref()
+        self.inner.json.extras.as_ref()
     }
 }
 
 /// Geometry to be drawn with one material (glTF 2.0, section 5.24, "Mesh Primitive").
-#[derive(Clone, Copy, Debug)]
-pub struct Primitive<'a> {
-    document: &'a Valid,
+#[derive_where(Clone, Copy)]
+#[derive_where(Debug; D)]
+pub struct Primitive<'a, D: Records = Valid> {
     index: usize,
-    json: &'a mesh::Primitive,
-    ghost holds: { Hold (primitive_rules (counts_of document.now) json.now) } by { Hold-prop
-        (primitive_rules (counts_of document.now) json.now) },
+    inner: Inner<'a, mesh::Primitive, D>,
 }
 
-impl<'a> Primitive<'a> {
+impl<'a, D: Records> Primitive<'a, D> {
     ghost use Rattle.gltf_scene.specs.Attributes.{attributes_left};
     ghost use Rattle.gltf_scene.specs.Bounds.{corners, stated_box};
     ghost use Rattle.gltf_scene.specs.Meshes.{primitive_handle};
@@ -136,47 +132,47 @@ impl<'a> Primitive<'a> {
     }
 
     /// The accessor of the attribute that means this.
-    pub fn get(&self, semantic: &Semantic) -> Option<Accessor<'a>>
+    pub fn get(&self, semantic: &Semantic) -> Option<Accessor<'a, D>>
         ensures { Follows (IsAccessor (primitive_handle self.now).document)
             (get_by (semantic_cmp semantic.now)
             (primitive_handle self.now).json.attributes) result }
     {
         order_is_the_stated_one();
-        let index = self.json.attributes.get(semantic)?;
-        Some(Accessor::new(self.document, index.value()))
+        let index = self.inner.json.attributes.get(semantic)?;
+        Some(Accessor::new(self.inner.document, index.value()))
     }
 
     /// The accessor of the vertex indices: `indices`.
-    pub fn indices(&self) -> Option<Accessor<'a>>
+    pub fn indices(&self) -> Option<Accessor<'a, D>>
         ensures { Follows (IsAccessor (primitive_handle self.now).document)
             (primitive_handle self.now).json.indices result }
     {
-        let index = self.json.indices?;
-        Some(Accessor::new(self.document, index.value()))
+        let index = self.inner.json.indices?;
+        Some(Accessor::new(self.inner.document, index.value()))
     }
 
     /// The attributes, each once, in the order of `Semantic`.
-    pub fn attributes(&self) -> Attributes<'a>
+    pub fn attributes(&self) -> Attributes<'a, D>
         ensures document { (attributes_left result).document
             ≡ (primitive_handle self.now).document }
         ensures entries { (attributes_left result).entries
             ≡ (primitive_handle self.now).json.attributes.entries }
     {
         Attributes {
-            document: self.document,
-            entries: self.json.attributes.iter(),
+            document: self.inner.document,
+            entries: self.inner.json.attributes.iter(),
         }
     }
 
     /// The material; the default material where the primitive names none.
-    pub fn material(&self) -> Material<'a>
+    pub fn material(&self) -> Material<'a, D>
         ensures { FollowsOr (IsDefaultMaterial (primitive_handle self.now).document)
             (IsMaterial (primitive_handle self.now).document)
             (primitive_handle self.now).json.material result }
     {
-        match self.json.material {
-            Some(index) => Material::new(self.document, index.value()),
-            None => Material::default(self.document),
+        match self.inner.json.material {
+            Some(index) => Material::new(self.inner.document, index.value()),
+            None => Material::default(self.inner.document),
         }
     }
 
@@ -184,11 +180,11 @@ impl<'a> Primitive<'a> {
     pub fn mode(&self) -> Mode
         ensures { IsCode (primitive_handle self.now).json.mode result }
     {
-        meaning(self.json.mode)
+        meaning(self.inner.json.mode)
     }
 
     /// The morph targets, in stored order.
-    pub fn morph_targets(&self) -> MorphTargets<'a>
+    pub fn morph_targets(&self) -> MorphTargets<'a, D>
         ensures { AreMorphTargets (primitive_handle self.now) (position result) }
     {
         List::new(MorphTargetsOf { primitive: *self })
@@ -196,7 +192,7 @@ impl<'a> Primitive<'a> {
 
     /// The materials that variants give (`KHR_materials_variants`), in stored order: none where the
     /// extension is absent.
-    pub fn mappings(&self) -> Mappings<'a>
+    pub fn mappings(&self) -> Mappings<'a, D>
         ensures { AreMappings (primitive_handle self.now) (position result) }
     {
         List::new(MappingsOf { primitive: *self })
@@ -223,7 +219,7 @@ impl<'a> Primitive<'a> {
         ensures { option_copied result
             ≡ option_map (λ e. e.others) (primitive_handle self.now).json.extensions }
     {
-        Some(&self.json.extensions.as_ref()?.others)
+        Some(&self.inner.json.extensions.as_ref()?.others)
     }
 
     /// The extension of this name, where it is not known at a primitive.
@@ -238,48 +234,46 @@ impl<'a> Primitive<'a> {
     pub fn extras(&self) -> Option<&'a Value>
         ensures { option_copied result ≡ (primitive_handle self.now).json.extras }
     {
-        self.json.extras.as_ref()
+        self.inner.json.extras.as_ref()
     }
 }
 
 /// What a morph target adds to the vertices of a primitive (glTF 2.0, section 3.7.2.2, "Morph
 /// Targets").
-#[derive(Clone, Copy, Debug)]
-pub struct MorphTarget<'a> {
-    document: &'a Valid,
+#[derive_where(Clone, Copy)]
+#[derive_where(Debug; D)]
+pub struct MorphTarget<'a, D: Records = Valid> {
     index: usize,
-    json: &'a mesh::MorphTarget,
-    ghost holds: { Hold (morph_target_rules (counts_of document.now) json.now) } by { Hold-prop
-        (morph_target_rules (counts_of document.now) json.now) },
+    inner: Inner<'a, mesh::MorphTarget, D>,
 }
 
-impl<'a> MorphTarget<'a> {
+impl<'a, D: Records> MorphTarget<'a, D> {
     ghost use Rattle.gltf_scene.specs.Meshes.{morph_target_handle};
 
     /// The accessor of what is added to positions: `POSITION`.
-    pub fn positions(&self) -> Option<Accessor<'a>>
+    pub fn positions(&self) -> Option<Accessor<'a, D>>
         ensures { Follows (IsAccessor (morph_target_handle self.now).document)
             (morph_target_handle self.now).json.positions result }
     {
-        let index = self.json.positions?;
-        Some(Accessor::new(self.document, index.value()))
+        let index = self.inner.json.positions?;
+        Some(Accessor::new(self.inner.document, index.value()))
     }
 
     /// The accessor of what is added to normals: `NORMAL`.
-    pub fn normals(&self) -> Option<Accessor<'a>>
+    pub fn normals(&self) -> Option<Accessor<'a, D>>
         ensures { Follows (IsAccessor (morph_target_handle self.now).document)
             (morph_target_handle self.now).json.normals result }
     {
-        let index = self.json.normals?;
-        Some(Accessor::new(self.document, index.value()))
+        let index = self.inner.json.normals?;
+        Some(Accessor::new(self.inner.document, index.value()))
     }
 
     /// The accessor of what is added to tangents: `TANGENT`.
-    pub fn tangents(&self) -> Option<Accessor<'a>>
+    pub fn tangents(&self) -> Option<Accessor<'a, D>>
         ensures { Follows (IsAccessor (morph_target_handle self.now).document)
             (morph_target_handle self.now).json.tangents result }
     {
-        let index = self.json.tangents?;
-        Some(Accessor::new(self.document, index.value()))
+        let index = self.inner.json.tangents?;
+        Some(Accessor::new(self.inner.document, index.value()))
     }
 }

@@ -6,28 +6,24 @@ ghost use Rattle.std.specs.Prelude.{◌≡◌, ◌<◌, length};
 ghost use Rattle.std.specs.Option.{option_copied, option_map};
 ghost use Rattle.gltf_handles.specs.Lists.{position};
 ghost use Rattle.gltf_handles.specs.Members.{text, unknown_extensions, extension_named, Follows};
-ghost use Rattle.gltf_validation.specs.Documents.{counts_of};
-ghost use Rattle.gltf_validation.specs.Rules.{Hold, Hold-prop};
-ghost use Rattle.gltf_validation.specs.Scenes.{node_rules, scene_rules};
 
 use crate::mesh::Mesh;
 use crate::scene::iter::{Children, NamedNodes, Nodes};
 use crate::skin::Skin;
+use gltf_handles::inner::Inner;
 use gltf_handles::list::List;
 use gltf_handles::member::unknown_extensions;
 use gltf_json::{Map, Value, kinds, scene};
 use gltf_look::camera::Camera;
 use gltf_look::khr_lights_punctual::Light;
-use gltf_rules::Valid;
+use gltf_rules::{Records, Valid};
 
 /// A node of the node hierarchy (glTF 2.0, section 5.25, "Node").
-#[derive(Clone, Copy, Debug)]
-pub struct Node<'a> {
-    document: &'a Valid,
+#[derive_where(Clone, Copy)]
+#[derive_where(Debug; D)]
+pub struct Node<'a, D: Records = Valid> {
     index: usize,
-    json: &'a scene::Node,
-    ghost holds: { Hold (node_rules (counts_of document.now) json.now) } by { Hold-prop
-        (node_rules (counts_of document.now) json.now) },
+    inner: Inner<'a, scene::Node, D>,
 }
 
 /// Where a node is in the space of its parent (glTF 2.0, section 3.5.3, "Transformations"). Numbers
@@ -52,7 +48,7 @@ pub enum Transform<'a> {
     },
 }
 
-impl<'a> Node<'a> {
+impl<'a, D: Records> Node<'a, D> {
     ghost use Rattle.gltf_look.specs.Cameras.{IsCamera};
     ghost use Rattle.gltf_look.specs.Lights.{IsLight};
     ghost use Rattle.gltf_scene.specs.Meshes.{IsMesh};
@@ -61,14 +57,16 @@ impl<'a> Node<'a> {
     ghost use Rattle.gltf_scene.specs.Skins.{IsSkin};
 
     /// The node at an index below the number of nodes.
-    pub fn new(document: &'a Valid, index: usize) -> Self
-        requires { index < length document.now.nodes.items }
-        ensures { IsNode document.now index result }
+    pub fn new(document: &'a D, index: usize) -> Self
+        requires { index < length (D.root document.now).nodes.items }
+        ensures { IsNode (D.root document.now) index result }
     {
         Node {
-            document,
             index,
-            json: document.get::<kinds::Node>(index),
+            inner: Inner {
+                document,
+                json: document.get::<kinds::Node>(index),
+            },
         }
     }
 
@@ -83,64 +81,70 @@ impl<'a> Node<'a> {
     pub fn name(&self) -> Option<&'a str>
         ensures { option_copied result ≡ text (node_handle self.now).json.name }
     {
-        self.json.name.as_deref()
+        self.inner.json.name.as_deref()
     }
 
     /// The camera at this node: `camera`.
-    pub fn camera(&self) -> Option<Camera<'a>>
+    pub fn camera(&self) -> Option<Camera<'a, D>>
         ensures { Follows (IsCamera (node_handle self.now).document)
             (node_handle self.now).json.camera result }
     {
-        let index = self.json.camera?;
-        Some(Camera::new(self.document, index.value()))
+        let index = self.inner.json.camera?;
+        Some(Camera::new(self.inner.document, index.value()))
     }
 
     /// The light at this node: the extension `KHR_lights_punctual`.
-    pub fn light(&self) -> Option<Light<'a>>
+    pub fn light(&self) -> Option<Light<'a, D>>
         ensures { Follows (IsLight (node_handle self.now).document)
             (light_index (node_handle self.now).json) result }
     {
-        let extension = self.json.extensions.as_ref()?.khr_lights_punctual.as_ref()?;
-        Some(Light::new(self.document, extension.light.value()))
+        let extension = self
+            .inner
+            .json
+            .extensions
+            .as_ref()?
+            .khr_lights_punctual
+            .as_ref()?;
+        Some(Light::new(self.inner.document, extension.light.value()))
     }
 
     /// The mesh at this node: `mesh`.
-    pub fn mesh(&self) -> Option<Mesh<'a>>
+    pub fn mesh(&self) -> Option<Mesh<'a, D>>
         ensures { Follows (IsMesh (node_handle self.now).document)
             (node_handle self.now).json.mesh result }
     {
-        let index = self.json.mesh?;
-        Some(Mesh::new(self.document, index.value()))
+        let index = self.inner.json.mesh?;
+        Some(Mesh::new(self.inner.document, index.value()))
     }
 
     /// The skin of the mesh at this node: `skin`.
-    pub fn skin(&self) -> Option<Skin<'a>>
+    pub fn skin(&self) -> Option<Skin<'a, D>>
         ensures { Follows (IsSkin (node_handle self.now).document)
             (node_handle self.now).json.skin result }
     {
-        let index = self.json.skin?;
-        Some(Skin::new(self.document, index.value()))
+        let index = self.inner.json.skin?;
+        Some(Skin::new(self.inner.document, index.value()))
     }
 
     /// The children, in stored order, each as often as it stands there. No rule says that nodes
     /// make up trees: a node may be its own child.
-    pub fn children(&self) -> Children<'a>
+    pub fn children(&self) -> Children<'a, D>
         ensures { AreNamed (node_handle self.now).document
             (node_handle self.now).json.children.items (position result) }
     {
-        List::new(NamedNodes::new(self.document, self.json.children.as_slice()))
+        List::new(NamedNodes::new(self.inner.document, self.inner.json.children.as_slice()))
     }
 
     /// Where the node is in the space of its parent: by `matrix` where that is there.
     pub fn transform(&self) -> Transform<'a>
         ensures { IsTransform (node_handle self.now).json result }
     {
-        match &self.json.matrix {
+        match &self.inner.json.matrix {
             Some(matrix) => Transform::Matrix { matrix },
             None => Transform::Decomposed {
-                translation: self.json.translation.as_ref(),
-                rotation: self.json.rotation.as_ref(),
-                scale: self.json.scale.as_ref(),
+                translation: self.inner.json.translation.as_ref(),
+                rotation: self.inner.json.rotation.as_ref(),
+                scale: self.inner.json.scale.as_ref(),
             },
         }
     }
@@ -149,7 +153,7 @@ impl<'a> Node<'a> {
     pub fn weights(&self) -> Option<&'a Value>
         ensures { option_copied result ≡ (node_handle self.now).json.weights }
     {
-        self.json.weights.as_ref()
+        self.inner.json.weights.as_ref()
     }
 
     /// The extensions that are not known at a node; None where there is no member `extensions`.
@@ -157,7 +161,7 @@ impl<'a> Node<'a> {
         ensures { option_copied result
             ≡ option_map (λ e. e.others) (node_handle self.now).json.extensions }
     {
-        Some(&self.json.extensions.as_ref()?.others)
+        Some(&self.inner.json.extensions.as_ref()?.others)
     }
 
     /// The extension of this name, where it is not known at a node.
@@ -172,33 +176,33 @@ impl<'a> Node<'a> {
     pub fn extras(&self) -> Option<&'a Value>
         ensures { option_copied result ≡ (node_handle self.now).json.extras }
     {
-        self.json.extras.as_ref()
+        self.inner.json.extras.as_ref()
     }
 }
 
 /// The nodes that are shown together (glTF 2.0, section 5.27, "Scene").
-#[derive(Clone, Copy, Debug)]
-pub struct Scene<'a> {
-    document: &'a Valid,
+#[derive_where(Clone, Copy)]
+#[derive_where(Debug; D)]
+pub struct Scene<'a, D: Records = Valid> {
     index: usize,
-    json: &'a scene::Scene,
-    ghost holds: { Hold (scene_rules (counts_of document.now) json.now) } by { Hold-prop
-        (scene_rules (counts_of document.now) json.now) },
+    inner: Inner<'a, scene::Scene, D>,
 }
 
-impl<'a> Scene<'a> {
+impl<'a, D: Records> Scene<'a, D> {
     ghost use Rattle.gltf_scene.specs.Nodes.{AreNamed};
     ghost use Rattle.gltf_scene.specs.Scenes.{scene_handle, IsScene};
 
     /// The scene at an index below the number of scenes.
-    pub fn new(document: &'a Valid, index: usize) -> Self
-        requires { index < length document.now.scenes.items }
-        ensures { IsScene document.now index result }
+    pub fn new(document: &'a D, index: usize) -> Self
+        requires { index < length (D.root document.now).scenes.items }
+        ensures { IsScene (D.root document.now) index result }
     {
         Scene {
-            document,
             index,
-            json: document.get::<kinds::Scene>(index),
+            inner: Inner {
+                document,
+                json: document.get::<kinds::Scene>(index),
+            },
         }
     }
 
@@ -213,15 +217,15 @@ impl<'a> Scene<'a> {
     pub fn name(&self) -> Option<&'a str>
         ensures { option_copied result ≡ text (scene_handle self.now).json.name }
     {
-        self.json.name.as_deref()
+        self.inner.json.name.as_deref()
     }
 
     /// The root nodes of the scene, in stored order.
-    pub fn nodes(&self) -> Nodes<'a>
+    pub fn nodes(&self) -> Nodes<'a, D>
         ensures { AreNamed (scene_handle self.now).document
             (scene_handle self.now).json.nodes.items (position result) }
     {
-        List::new(NamedNodes::new(self.document, self.json.nodes.as_slice()))
+        List::new(NamedNodes::new(self.inner.document, self.inner.json.nodes.as_slice()))
     }
 
     /// The extensions, none of which is known at a scene; None where there is no member
@@ -230,7 +234,7 @@ impl<'a> Scene<'a> {
         ensures { option_copied result
             ≡ unknown_extensions (scene_handle self.now).json.extensions }
     {
-        unknown_extensions(&self.json.extensions)
+        unknown_extensions(&self.inner.json.extensions)
     }
 
     /// The extension of this name.
@@ -245,6 +249,6 @@ impl<'a> Scene<'a> {
     pub fn extras(&self) -> Option<&'a Value>
         ensures { option_copied result ≡ (scene_handle self.now).json.extras }
     {
-        self.json.extras.as_ref()
+        self.inner.json.extras.as_ref()
     }
 }

@@ -7,42 +7,40 @@ ghost use Rattle.std.specs.Option.{option_copied};
 ghost use Rattle.gltf_handles.specs.Accessors.{IsAccessor};
 ghost use Rattle.gltf_handles.specs.Lists.{position};
 ghost use Rattle.gltf_handles.specs.Members.{text, unknown_extensions, extension_named, Follows};
-ghost use Rattle.gltf_validation.specs.Documents.{counts_of};
-ghost use Rattle.gltf_validation.specs.Rules.{Hold, Hold-prop};
-ghost use Rattle.gltf_validation.specs.Skins.{skin_rules};
 
 use crate::scene::Node;
 use crate::scene::iter::NamedNodes;
 use crate::skin::iter::Joints;
 use gltf_handles::accessor::Accessor;
+use gltf_handles::inner::Inner;
 use gltf_handles::list::List;
 use gltf_handles::member::unknown_extensions;
 use gltf_json::{Map, Value, kinds, skin};
-use gltf_rules::Valid;
+use gltf_rules::{Records, Valid};
 
 /// The joints that a mesh is bound to (glTF 2.0, section 5.28, "Skin").
-#[derive(Clone, Copy, Debug)]
-pub struct Skin<'a> {
-    document: &'a Valid,
+#[derive_where(Clone, Copy)]
+#[derive_where(Debug; D)]
+pub struct Skin<'a, D: Records = Valid> {
     index: usize,
-    json: &'a skin::Skin,
-    ghost holds: { Hold (skin_rules (counts_of document.now) json.now) } by { Hold-prop
-        (skin_rules (counts_of document.now) json.now) },
+    inner: Inner<'a, skin::Skin, D>,
 }
 
-impl<'a> Skin<'a> {
+impl<'a, D: Records> Skin<'a, D> {
     ghost use Rattle.gltf_scene.specs.Nodes.{IsNode, AreNamed};
     ghost use Rattle.gltf_scene.specs.Skins.{skin_handle, IsSkin};
 
     /// The skin at an index below the number of skins.
-    pub fn new(document: &'a Valid, index: usize) -> Self
-        requires { index < length document.now.skins.items }
-        ensures { IsSkin document.now index result }
+    pub fn new(document: &'a D, index: usize) -> Self
+        requires { index < length (D.root document.now).skins.items }
+        ensures { IsSkin (D.root document.now) index result }
     {
         Skin {
-            document,
             index,
-            json: document.get::<kinds::Skin>(index),
+            inner: Inner {
+                document,
+                json: document.get::<kinds::Skin>(index),
+            },
         }
     }
 
@@ -57,34 +55,34 @@ impl<'a> Skin<'a> {
     pub fn name(&self) -> Option<&'a str>
         ensures { option_copied result ≡ text (skin_handle self.now).json.name }
     {
-        self.json.name.as_deref()
+        self.inner.json.name.as_deref()
     }
 
     /// The accessor of the matrices, one a joint, that bring a vertex into the joint's space:
     /// `inverseBindMatrices`. Where it is absent, identities are meant.
-    pub fn inverse_bind_matrices(&self) -> Option<Accessor<'a>>
+    pub fn inverse_bind_matrices(&self) -> Option<Accessor<'a, D>>
         ensures { Follows (IsAccessor (skin_handle self.now).document)
             (skin_handle self.now).json.inverse_bind_matrices result }
     {
-        let index = self.json.inverse_bind_matrices?;
-        Some(Accessor::new(self.document, index.value()))
+        let index = self.inner.json.inverse_bind_matrices?;
+        Some(Accessor::new(self.inner.document, index.value()))
     }
 
     /// The joints, in the order in which vertices name them: `joints`.
-    pub fn joints(&self) -> Joints<'a>
+    pub fn joints(&self) -> Joints<'a, D>
         ensures { AreNamed (skin_handle self.now).document
             (skin_handle self.now).json.joints.items (position result) }
     {
-        List::new(NamedNodes::new(self.document, self.json.joints.as_slice()))
+        List::new(NamedNodes::new(self.inner.document, self.inner.json.joints.as_slice()))
     }
 
     /// The node that is the root of the skeleton: `skeleton`.
-    pub fn skeleton(&self) -> Option<Node<'a>>
+    pub fn skeleton(&self) -> Option<Node<'a, D>>
         ensures { Follows (IsNode (skin_handle self.now).document)
             (skin_handle self.now).json.skeleton result }
     {
-        let index = self.json.skeleton?;
-        Some(Node::new(self.document, index.value()))
+        let index = self.inner.json.skeleton?;
+        Some(Node::new(self.inner.document, index.value()))
     }
 
     /// The extensions, none of which is known at a skin; None where there is no member
@@ -93,7 +91,7 @@ impl<'a> Skin<'a> {
         ensures { option_copied result
             ≡ unknown_extensions (skin_handle self.now).json.extensions }
     {
-        unknown_extensions(&self.json.extensions)
+        unknown_extensions(&self.inner.json.extensions)
     }
 
     /// The extension of this name.
@@ -108,6 +106,6 @@ impl<'a> Skin<'a> {
     pub fn extras(&self) -> Option<&'a Value>
         ensures { option_copied result ≡ (skin_handle self.now).json.extras }
     {
-        self.json.extras.as_ref()
+        self.inner.json.extras.as_ref()
     }
 }

@@ -5,55 +5,58 @@ ghost use Rattle.gltf_anim.specs.Animations.{animation_handle, IsChannel, IsSamp
 
 use crate::animation::{Animation, Channel, Sampler};
 use gltf_handles::list::{Indexed, List};
+use gltf_rules::{Records, Valid};
 
 /// The channels of an animation, in stored order.
-pub type Channels<'a> = List<ChannelsOf<'a>>;
+pub type Channels<'a, D = Valid> = List<ChannelsOf<'a, D>>;
 
 /// The samplers of an animation, in stored order.
-pub type Samplers<'a> = List<SamplersOf<'a>>;
+pub type Samplers<'a, D = Valid> = List<SamplersOf<'a, D>>;
 
 /// What `Channels` goes over.
-#[derive(Clone, Copy, Debug)]
-pub struct ChannelsOf<'a> {
+#[derive_where(Clone, Copy)]
+#[derive_where(Debug; D)]
+pub struct ChannelsOf<'a, D: Records = Valid> {
     /// The animation that the channels are of.
-    pub animation: Animation<'a>,
+    pub animation: Animation<'a, D>,
 }
 
-impl<'a> Indexed for ChannelsOf<'a> {
-    type Item = Channel<'a>;
+impl<'a, D: Records> Indexed for ChannelsOf<'a, D> {
+    type Item = Channel<'a, D>;
 
     ghost count = { λ s. length (animation_handle s.animation).json.channels.items };
 
     ghost gives = { λ s i c. IsChannel (animation_handle s.animation) i c };
 
     fn len(&self) -> usize {
-        self.animation.json.channels.len()
+        self.animation.inner.json.channels.len()
     }
 
-    fn get(&self, index: usize) -> Channel<'a> {
+    fn get(&self, index: usize) -> Channel<'a, D> {
         Channel::new(self.animation, index)
     }
 }
 
 /// What `Samplers` goes over.
-#[derive(Clone, Copy, Debug)]
-pub struct SamplersOf<'a> {
+#[derive_where(Clone, Copy)]
+#[derive_where(Debug; D)]
+pub struct SamplersOf<'a, D: Records = Valid> {
     /// The animation that the samplers are of.
-    pub animation: Animation<'a>,
+    pub animation: Animation<'a, D>,
 }
 
-impl<'a> Indexed for SamplersOf<'a> {
-    type Item = Sampler<'a>;
+impl<'a, D: Records> Indexed for SamplersOf<'a, D> {
+    type Item = Sampler<'a, D>;
 
     ghost count = { λ s. length (animation_handle s.animation).json.samplers.items };
 
     ghost gives = { λ s i p. IsSampler (animation_handle s.animation) i p };
 
     fn len(&self) -> usize {
-        self.animation.json.samplers.len()
+        self.animation.inner.json.samplers.len()
     }
 
-    fn get(&self, index: usize) -> Sampler<'a> {
+    fn get(&self, index: usize) -> Sampler<'a, D> {
         Sampler::new(self.animation, index)
     }
 }

@@ -3,15 +3,16 @@
 
 ghost use Rattle.std.specs.Prelude.{◌≡◌, ◌≤◌};
 ghost use Rattle.std.specs.Option.{option_copied};
-ghost use Rattle.gltf_validation.specs.Accessors.{sparse_rules, indices_rules, values_rules};
+ghost use Rattle.gltf_validation.specs.Accessors.{sparse_rules};
 ghost use Rattle.gltf_validation.specs.Documents.{counts_of};
-ghost use Rattle.gltf_validation.specs.Rules.{Hold, Hold-prop};
+ghost use Rattle.gltf_validation.specs.Rules.{Hold};
 
 use crate::buffer::View;
+use crate::inner::Inner;
 use gltf_json::Value;
 use gltf_json::accessor::{ComponentType, sparse};
 use gltf_json::validation::Checked;
-use gltf_rules::Valid;
+use gltf_rules::{Records, Valid};
 
 /// The type of stored indices (glTF 2.0, section 5.3.3, `accessor.sparse.indices.componentType`).
 #[derive(Clone, Copy, Debug, PartialEq, Eq)]
@@ -41,51 +42,55 @@ impl IndexType {
 }
 
 /// The items of an accessor that differ (glTF 2.0, section 5.2, "Accessor Sparse").
-#[derive(Clone, Copy, Debug)]
-pub struct Sparse<'a> {
-    document: &'a Valid,
-    json: &'a sparse::Sparse,
-    ghost holds: { Hold (sparse_rules (counts_of document.now) json.now) } by { Hold-prop
-        (sparse_rules (counts_of document.now) json.now) },
+#[derive_where(Clone, Copy)]
+#[derive_where(Debug; D)]
+pub struct Sparse<'a, D: Records = Valid> {
+    inner: Inner<'a, sparse::Sparse, D>,
 }
 
-impl<'a> Sparse<'a> {
+impl<'a, D: Records> Sparse<'a, D> {
     ghost use Rattle.gltf_handles.specs.Accessors.{sparse_handle, IsSparse, IsIndices, IsValues};
 
     /// That of an accessor.
-    pub(crate) fn new(document: &'a Valid, json: &'a sparse::Sparse) -> Self
-        requires { Hold (sparse_rules (counts_of document.now) json.now) }
-        ensures { IsSparse document.now json.now result }
+    pub(crate) fn new(document: &'a D, json: &'a sparse::Sparse) -> Self
+        requires { Hold (sparse_rules (counts_of (D.root document.now)) json.now) }
+        ensures { IsSparse (D.root document.now) json.now result }
     {
-        Sparse { document, json }
+        Sparse {
+            inner: Inner { document, json },
+        }
     }
 
     /// How many items are stored.
     pub fn count(&self) -> usize
         ensures { result ≡ (sparse_handle self.now).json.count }
     {
-        self.json.count as usize
+        self.inner.json.count as usize
     }
 
     /// Where the positions of the stored items are.
-    pub fn indices(&self) -> Indices<'a>
+    pub fn indices(&self) -> Indices<'a, D>
         ensures { IsIndices (sparse_handle self.now).document
             (sparse_handle self.now).json.indices result }
     {
         Indices {
-            document: self.document,
-            json: &self.json.indices,
+            inner: Inner {
+                document: self.inner.document,
+                json: &self.inner.json.indices,
+            },
         }
     }
 
     /// Where the stored items are.
-    pub fn values(&self) -> Values<'a>
+    pub fn values(&self) -> Values<'a, D>
         ensures { IsValues (sparse_handle self.now).document
             (sparse_handle self.now).json.values result }
     {
         Values {
-            document: self.document,
-            json: &self.json.values,
+            inner: Inner {
+                document: self.inner.document,
+                json: &self.inner.json.values,
+            },
         }
     }
 
@@ -93,30 +98,28 @@ impl<'a> Sparse<'a> {
     pub fn extras(&self) -> Option<&'a Value>
         ensures { option_copied result ≡ (sparse_handle self.now).json.extras }
     {
-        self.json.extras.as_ref()
+        self.inner.json.extras.as_ref()
     }
 }
 
 /// Where the positions of the stored items are (glTF 2.0, section 5.3, "Accessor Sparse Indices").
-#[derive(Clone, Copy, Debug)]
-pub struct Indices<'a> {
-    document: &'a Valid,
-    json: &'a sparse::Indices,
-    ghost holds: { Hold (indices_rules (counts_of document.now) json.now) } by { Hold-prop
-        (indices_rules (counts_of document.now) json.now) },
+#[derive_where(Clone, Copy)]
+#[derive_where(Debug; D)]
+pub struct Indices<'a, D: Records = Valid> {
+    inner: Inner<'a, sparse::Indices, D>,
 }
 
-impl<'a> Indices<'a> {
+impl<'a, D: Records> Indices<'a, D> {
     ghost use Rattle.gltf_handles.specs.Buffers.{IsView};
     ghost use Rattle.gltf_handles.specs.Sizes.{index_type, Means};
     ghost use Rattle.gltf_handles.specs.Accessors.{indices_handle};
 
     /// The view that holds them.
-    pub fn view(&self) -> View<'a>
+    pub fn view(&self) -> View<'a, D>
         ensures { IsView (indices_handle self.now).document
             (indices_handle self.now).json.buffer_view result }
     {
-        View::new(self.document, self.json.buffer_view.value())
+        View::new(self.inner.document, self.inner.json.buffer_view.value())
     }
 
     /// The distance in bytes from the start of the view to the first index: `byteOffset`, 0 where
@@ -124,14 +127,14 @@ impl<'a> Indices<'a> {
     pub fn offset(&self) -> usize
         ensures { result ≡ (indices_handle self.now).json.byte_offset }
     {
-        self.json.byte_offset as usize
+        self.inner.json.byte_offset as usize
     }
 
     /// The type of each index: `componentType`.
     pub fn index_type(&self) -> IndexType
         ensures { Means index_type (indices_handle self.now).json.component_type result }
     {
-        match self.json.component_type {
+        match self.inner.json.component_type {
             Checked::Valid(ComponentType::U8) => IndexType::U8,
             Checked::Valid(ComponentType::U16) => IndexType::U16,
             Checked::Valid(ComponentType::U32) => IndexType::U32,
@@ -143,29 +146,27 @@ impl<'a> Indices<'a> {
     pub fn extras(&self) -> Option<&'a Value>
         ensures { option_copied result ≡ (indices_handle self.now).json.extras }
     {
-        self.json.extras.as_ref()
+        self.inner.json.extras.as_ref()
     }
 }
 
 /// Where the stored items are (glTF 2.0, section 5.4, "Accessor Sparse Values").
-#[derive(Clone, Copy, Debug)]
-pub struct Values<'a> {
-    document: &'a Valid,
-    json: &'a sparse::Values,
-    ghost holds: { Hold (values_rules (counts_of document.now) json.now) } by { Hold-prop
-        (values_rules (counts_of document.now) json.now) },
+#[derive_where(Clone, Copy)]
+#[derive_where(Debug; D)]
+pub struct Values<'a, D: Records = Valid> {
+    inner: Inner<'a, sparse::Values, D>,
 }
 
-impl<'a> Values<'a> {
+impl<'a, D: Records> Values<'a, D> {
     ghost use Rattle.gltf_handles.specs.Buffers.{IsView};
     ghost use Rattle.gltf_handles.specs.Accessors.{values_handle};
 
     /// The view that holds them.
-    pub fn view(&self) -> View<'a>
+    pub fn view(&self) -> View<'a, D>
         ensures { IsView (values_handle self.now).document
             (values_handle self.now).json.buffer_view result }
     {
-        View::new(self.document, self.json.buffer_view.value())
+        View::new(self.inner.document, self.inner.json.buffer_view.value())
     }
 
     /// The distance in bytes from the start of the view to the first item: `byteOffset`, 0 where
@@ -173,13 +174,13 @@ impl<'a> Values<'a> {
     pub fn offset(&self) -> usize
         ensures { result ≡ (values_handle self.now).json.byte_offset }
     {
-        self.json.byte_offset as usize
+        self.inner.json.byte_offset as usize
     }
 
     /// What the application stores here: `extras`.
     pub fn extras(&self) -> Option<&'a Value>
         ensures { option_copied result ≡ (values_handle self.now).json.extras }
     {
-        self.json.extras.as_ref()
+        self.inner.json.extras.as_ref()
     }
 }

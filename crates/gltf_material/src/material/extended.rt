@@ -4,25 +4,21 @@ ghost use Rattle.std.specs.Prelude.{◌≡◌};
 ghost use Rattle.std.specs.Option.{option_copied};
 ghost use Rattle.gltf_handles.specs.Members.{Follows};
 ghost use Rattle.gltf_material.specs.Textures.{IsInfo};
-ghost use Rattle.gltf_validation.specs.Documents.{counts_of};
-ghost use Rattle.gltf_validation.specs.Materials.{transmission_rules, volume_rules, specular_rules};
-ghost use Rattle.gltf_validation.specs.Rules.{Hold, Hold-prop};
 
 use crate::texture::Info;
+use gltf_handles::inner::Inner;
 use gltf_json::Value;
 use gltf_json::extensions::material;
-use gltf_rules::Valid;
+use gltf_rules::{Records, Valid};
 
 /// How much light goes through a surface (the extension `KHR_materials_transmission`).
-#[derive(Clone, Copy, Debug)]
-pub struct Transmission<'a> {
-    pub(super) document: &'a Valid,
-    pub(super) json: &'a material::Transmission,
-    ghost holds: { Hold (transmission_rules (counts_of document.now) json.now) } by { Hold-prop
-        (transmission_rules (counts_of document.now) json.now) },
+#[derive_where(Clone, Copy)]
+#[derive_where(Debug; D)]
+pub struct Transmission<'a, D: Records = Valid> {
+    pub(super) inner: Inner<'a, material::Transmission, D>,
 }
 
-impl<'a> Transmission<'a> {
+impl<'a, D: Records> Transmission<'a, D> {
     ghost use Rattle.gltf_material.specs.Parts.{transmission_handle};
 
     /// The part of the light that goes through, as it stands: `transmissionFactor`, a number. Where
@@ -30,35 +26,33 @@ impl<'a> Transmission<'a> {
     pub fn transmission_factor(&self) -> Option<&'a Value>
         ensures { option_copied result ≡ (transmission_handle self.now).json.transmission_factor }
     {
-        self.json.transmission_factor.as_ref()
+        self.inner.json.transmission_factor.as_ref()
     }
 
     /// The texture of that part (in red): `transmissionTexture`.
-    pub fn transmission_texture(&self) -> Option<Info<'a>>
+    pub fn transmission_texture(&self) -> Option<Info<'a, D>>
         ensures { Follows (IsInfo (transmission_handle self.now).document)
             (transmission_handle self.now).json.transmission_texture result }
     {
-        Info::of(self.document, &self.json.transmission_texture)
+        Info::of(self.inner.document, &self.inner.json.transmission_texture)
     }
 
     /// What the application stores here: `extras`.
     pub fn extras(&self) -> Option<&'a Value>
         ensures { option_copied result ≡ (transmission_handle self.now).json.extras }
     {
-        self.json.extras.as_ref()
+        self.inner.json.extras.as_ref()
     }
 }
 
 /// The volume below a surface (the extension `KHR_materials_volume`).
-#[derive(Clone, Copy, Debug)]
-pub struct Volume<'a> {
-    pub(super) document: &'a Valid,
-    pub(super) json: &'a material::Volume,
-    ghost holds: { Hold (volume_rules (counts_of document.now) json.now) } by { Hold-prop
-        (volume_rules (counts_of document.now) json.now) },
+#[derive_where(Clone, Copy)]
+#[derive_where(Debug; D)]
+pub struct Volume<'a, D: Records = Valid> {
+    pub(super) inner: Inner<'a, material::Volume, D>,
 }
 
-impl<'a> Volume<'a> {
+impl<'a, D: Records> Volume<'a, D> {
     ghost use Rattle.gltf_material.specs.Parts.{volume_handle};
 
     /// The thickness of the volume, in the units of the mesh, as it stands: `thicknessFactor`, a
@@ -66,15 +60,15 @@ impl<'a> Volume<'a> {
     pub fn thickness_factor(&self) -> Option<&'a Value>
         ensures { option_copied result ≡ (volume_handle self.now).json.thickness_factor }
     {
-        self.json.thickness_factor.as_ref()
+        self.inner.json.thickness_factor.as_ref()
     }
 
     /// The texture of the thickness (in green): `thicknessTexture`.
-    pub fn thickness_texture(&self) -> Option<Info<'a>>
+    pub fn thickness_texture(&self) -> Option<Info<'a, D>>
         ensures { Follows (IsInfo (volume_handle self.now).document)
             (volume_handle self.now).json.thickness_texture result }
     {
-        Info::of(self.document, &self.json.thickness_texture)
+        Info::of(self.inner.document, &self.inner.json.thickness_texture)
     }
 
     /// How far light goes in the volume on average before it meets a particle, in the units of the
@@ -82,7 +76,7 @@ impl<'a> Volume<'a> {
     pub fn attenuation_distance(&self) -> Option<&'a Value>
         ensures { option_copied result ≡ (volume_handle self.now).json.attenuation_distance }
     {
-        self.json.attenuation_distance.as_ref()
+        self.inner.json.attenuation_distance.as_ref()
     }
 
     /// The colour that white light has at that distance, as it stands: `attenuationColor`, three
@@ -90,27 +84,25 @@ impl<'a> Volume<'a> {
     pub fn attenuation_color(&self) -> Option<&'a Value>
         ensures { option_copied result ≡ (volume_handle self.now).json.attenuation_color }
     {
-        self.json.attenuation_color.as_ref()
+        self.inner.json.attenuation_color.as_ref()
     }
 
     /// What the application stores here: `extras`.
     pub fn extras(&self) -> Option<&'a Value>
         ensures { option_copied result ≡ (volume_handle self.now).json.extras }
     {
-        self.json.extras.as_ref()
+        self.inner.json.extras.as_ref()
     }
 }
 
 /// The strength and colour of a surface's reflections (the extension `KHR_materials_specular`).
-#[derive(Clone, Copy, Debug)]
-pub struct Specular<'a> {
-    pub(super) document: &'a Valid,
-    pub(super) json: &'a material::Specular,
-    ghost holds: { Hold (specular_rules (counts_of document.now) json.now) } by { Hold-prop
-        (specular_rules (counts_of document.now) json.now) },
+#[derive_where(Clone, Copy)]
+#[derive_where(Debug; D)]
+pub struct Specular<'a, D: Records = Valid> {
+    pub(super) inner: Inner<'a, material::Specular, D>,
 }
 
-impl<'a> Specular<'a> {
+impl<'a, D: Records> Specular<'a, D> {
     ghost use Rattle.gltf_material.specs.Parts.{specular_handle};
 
     /// The strength of the reflections, as it stands: `specularFactor`, a number. Where it is
@@ -118,15 +110,15 @@ impl<'a> Specular<'a> {
     pub fn specular_factor(&self) -> Option<&'a Value>
         ensures { option_copied result ≡ (specular_handle self.now).json.specular_factor }
     {
-        self.json.specular_factor.as_ref()
+        self.inner.json.specular_factor.as_ref()
     }
 
     /// The texture of the strength (in alpha): `specularTexture`.
-    pub fn specular_texture(&self) -> Option<Info<'a>>
+    pub fn specular_texture(&self) -> Option<Info<'a, D>>
         ensures { Follows (IsInfo (specular_handle self.now).document)
             (specular_handle self.now).json.specular_texture result }
     {
-        Info::of(self.document, &self.json.specular_texture)
+        Info::of(self.inner.document, &self.inner.json.specular_texture)
     }
 
     /// The factors of the colour of the reflections, as they stand: `specularColorFactor`, three
@@ -134,21 +126,21 @@ impl<'a> Specular<'a> {
     pub fn specular_color_factor(&self) -> Option<&'a Value>
         ensures { option_copied result ≡ (specular_handle self.now).json.specular_color_factor }
     {
-        self.json.specular_color_factor.as_ref()
+        self.inner.json.specular_color_factor.as_ref()
     }
 
     /// The texture of the colour (in red, green and blue): `specularColorTexture`.
-    pub fn specular_color_texture(&self) -> Option<Info<'a>>
+    pub fn specular_color_texture(&self) -> Option<Info<'a, D>>
         ensures { Follows (IsInfo (specular_handle self.now).document)
             (specular_handle self.now).json.specular_color_texture result }
     {
-        Info::of(self.document, &self.json.specular_color_texture)
+        Info::of(self.inner.document, &self.inner.json.specular_color_texture)
     }
 
     /// What the application stores here: `extras`.
     pub fn extras(&self) -> Option<&'a Value>
         ensures { option_copied result ≡ (specular_handle self.now).json.extras }
     {
-        self.json.extras.as_ref()
+        self.inner.json.extras.as_ref()
     }
 }

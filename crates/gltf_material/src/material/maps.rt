@@ -4,25 +4,21 @@ ghost use Rattle.std.specs.Prelude.{◌≡◌};
 ghost use Rattle.std.specs.Option.{option_copied};
 ghost use Rattle.gltf_handles.specs.Members.{unknown_extensions, extension_named};
 ghost use Rattle.gltf_look.specs.Textures.{IsTexture};
-ghost use Rattle.gltf_validation.specs.Documents.{counts_of};
-ghost use Rattle.gltf_validation.specs.Materials.{normal_texture_rules, occlusion_texture_rules};
-ghost use Rattle.gltf_validation.specs.Rules.{Hold, Hold-prop};
 
+use gltf_handles::inner::Inner;
 use gltf_handles::member::unknown_extensions;
 use gltf_json::{Map, Value, material};
 use gltf_look::texture::Texture;
-use gltf_rules::Valid;
+use gltf_rules::{Records, Valid};
 
 /// The use of a normal texture (glTF 2.0, section 5.20, "Material Normal Texture Info").
-#[derive(Clone, Copy, Debug)]
-pub struct NormalTexture<'a> {
-    pub(super) document: &'a Valid,
-    pub(super) json: &'a material::NormalTexture,
-    ghost holds: { Hold (normal_texture_rules (counts_of document.now) json.now) } by { Hold-prop
-        (normal_texture_rules (counts_of document.now) json.now) },
+#[derive_where(Clone, Copy)]
+#[derive_where(Debug; D)]
+pub struct NormalTexture<'a, D: Records = Valid> {
+    pub(super) inner: Inner<'a, material::NormalTexture, D>,
 }
 
-impl<'a> NormalTexture<'a> {
+impl<'a, D: Records> NormalTexture<'a, D> {
     ghost use Rattle.gltf_material.specs.Parts.{normal_handle};
 
     /// The factor of each normal's x and y, as it stands: `scale`, a number. Where it is absent, 1
@@ -30,7 +26,7 @@ impl<'a> NormalTexture<'a> {
     pub fn scale(&self) -> Option<&'a Value>
         ensures { option_copied result ≡ (normal_handle self.now).json.scale }
     {
-        self.json.scale.as_ref()
+        self.inner.json.scale.as_ref()
     }
 
     /// The set of texture coordinates, as in the attribute `TEXCOORD_n`: `texCoord`, 0 where that
@@ -38,15 +34,15 @@ impl<'a> NormalTexture<'a> {
     pub fn tex_coord(&self) -> u32
         ensures { result ≡ (normal_handle self.now).json.tex_coord }
     {
-        self.json.tex_coord
+        self.inner.json.tex_coord
     }
 
     /// The texture: `index`.
-    pub fn texture(&self) -> Texture<'a>
+    pub fn texture(&self) -> Texture<'a, D>
         ensures { IsTexture (normal_handle self.now).document
             (normal_handle self.now).json.index result }
     {
-        Texture::new(self.document, self.json.index.value())
+        Texture::new(self.inner.document, self.inner.json.index.value())
     }
 
     /// The extensions, none of which is known here; None where there is no member `extensions`.
@@ -54,7 +50,7 @@ impl<'a> NormalTexture<'a> {
         ensures { option_copied result
             ≡ unknown_extensions (normal_handle self.now).json.extensions }
     {
-        unknown_extensions(&self.json.extensions)
+        unknown_extensions(&self.inner.json.extensions)
     }
 
     /// The extension of this name.
@@ -70,20 +66,18 @@ impl<'a> NormalTexture<'a> {
     pub fn extras(&self) -> Option<&'a Value>
         ensures { option_copied result ≡ (normal_handle self.now).json.extras }
     {
-        self.json.extras.as_ref()
+        self.inner.json.extras.as_ref()
     }
 }
 
 /// The use of an occlusion texture (glTF 2.0, section 5.21, "Material Occlusion Texture Info").
-#[derive(Clone, Copy, Debug)]
-pub struct OcclusionTexture<'a> {
-    pub(super) document: &'a Valid,
-    pub(super) json: &'a material::OcclusionTexture,
-    ghost holds: { Hold (occlusion_texture_rules (counts_of document.now) json.now) } by { Hold-prop
-        (occlusion_texture_rules (counts_of document.now) json.now) },
+#[derive_where(Clone, Copy)]
+#[derive_where(Debug; D)]
+pub struct OcclusionTexture<'a, D: Records = Valid> {
+    pub(super) inner: Inner<'a, material::OcclusionTexture, D>,
 }
 
-impl<'a> OcclusionTexture<'a> {
+impl<'a, D: Records> OcclusionTexture<'a, D> {
     ghost use Rattle.gltf_material.specs.Parts.{occlusion_handle};
 
     /// How much of the occlusion is applied, as it stands: `strength`, a number. Where it is
@@ -91,7 +85,7 @@ impl<'a> OcclusionTexture<'a> {
     pub fn strength(&self) -> Option<&'a Value>
         ensures { option_copied result ≡ (occlusion_handle self.now).json.strength }
     {
-        self.json.strength.as_ref()
+        self.inner.json.strength.as_ref()
     }
 
     /// The set of texture coordinates, as in the attribute `TEXCOORD_n`: `texCoord`, 0 where that
@@ -99,15 +93,15 @@ impl<'a> OcclusionTexture<'a> {
     pub fn tex_coord(&self) -> u32
         ensures { result ≡ (occlusion_handle self.now).json.tex_coord }
     {
-        self.json.tex_coord
+        self.inner.json.tex_coord
     }
 
     /// The texture: `index`.
-    pub fn texture(&self) -> Texture<'a>
+    pub fn texture(&self) -> Texture<'a, D>
         ensures { IsTexture (occlusion_handle self.now).document
             (occlusion_handle self.now).json.index result }
     {
-        Texture::new(self.document, self.json.index.value())
+        Texture::new(self.inner.document, self.inner.json.index.value())
     }
 
     /// The extensions, none of which is known here; None where there is no member `extensions`.
@@ -115,7 +109,7 @@ impl<'a> OcclusionTexture<'a> {
         ensures { option_copied result
             ≡ unknown_extensions (occlusion_handle self.now).json.extensions }
     {
-        unknown_extensions(&self.json.extensions)
+        unknown_extensions(&self.inner.json.extensions)
     }
 
     /// The extension of this name.
@@ -131,6 +125,6 @@ impl<'a> OcclusionTexture<'a> {
     pub fn extras(&self) -> Option<&'a Value>
         ensures { option_copied result ≡ (occlusion_handle self.now).json.extras }
     {
-        self.json.extras.as_ref()
+        self.inner.json.extras.as_ref()
     }
 }

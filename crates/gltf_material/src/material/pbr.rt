@@ -1,36 +1,49 @@
 //! The models of a surface's colour: metalness and roughness (glTF 2.0, section 3.9.2,
 //! "Metallic-Roughness Material"), or reflections and glossiness.
 
-ghost use Rattle.std.specs.Prelude.{◌≡◌, unwrap_or};
+ghost use Rattle.std.specs.Prelude.{◌≡◌, unwrap_or, ⊤};
 ghost use Rattle.std.specs.Option.{option_copied};
 ghost use Rattle.gltf_handles.specs.Members.{unknown_extensions, extension_named, Follows};
 ghost use Rattle.gltf_material.specs.Defaults.{default_pbr_metallic_roughness};
 ghost use Rattle.gltf_material.specs.Textures.{IsInfo};
 ghost use Rattle.gltf_validation.specs.Documents.{counts_of};
 ghost use Rattle.gltf_validation.specs.Materials.{pbr_metallic_roughness_rules};
-ghost use Rattle.gltf_validation.specs.Materials.{pbr_specular_glossiness_rules};
 ghost use Rattle.gltf_validation.specs.Rules.{Hold, Hold-prop};
 
 use crate::texture::Info;
+use gltf_handles::inner::Inner;
 use gltf_handles::member::unknown_extensions;
 use gltf_json::extensions::material as extended;
 use gltf_json::{Map, Value, material};
-use gltf_rules::Valid;
+use gltf_rules::{Records, Valid};
+use std::alloc::AllocError;
 
 /// The base colour, metalness and roughness of a material (glTF 2.0, section 5.22, "Material PBR
 /// Metallic Roughness"). That of a material without one has no record: its getters give what they
 /// give where a member is absent.
-#[derive(Clone, Copy, Debug)]
-pub struct PbrMetallicRoughness<'a> {
-    pub(super) document: &'a Valid,
+#[derive_where(Debug; D)]
+pub struct PbrMetallicRoughness<'a, D: Records = Valid> {
+    pub(super) document: &'a D,
     pub(super) json: Option<&'a material::PbrMetallicRoughness>,
-    ghost holds: { Hold (pbr_metallic_roughness_rules (counts_of document.now)
+    ghost holds: { Hold (pbr_metallic_roughness_rules (counts_of (D.root document.now))
         (unwrap_or (option_copied json) default_pbr_metallic_roughness)) } by { Hold-prop
-            (pbr_metallic_roughness_rules (counts_of document.now)
+            (pbr_metallic_roughness_rules (counts_of (D.root document.now))
             (unwrap_or (option_copied json) default_pbr_metallic_roughness)) },
 }
 
-impl<'a> PbrMetallicRoughness<'a> {
+impl<'a, D: Records> Copy for PbrMetallicRoughness<'a, D> {}
+
+impl<'a, D: Records> Clone for PbrMetallicRoughness<'a, D> {
+    ghost is_clone = { λ x y. y ≡ x };
+
+    ghost is_infallible = { λ _. ⊤ };
+
+    fn clone(&self) -> Result<Self, AllocError> {
+        Ok(*self)
+    }
+}
+
+impl<'a, D: Records> PbrMetallicRoughness<'a, D> {
     ghost use Rattle.gltf_material.specs.Parts.{pbr_handle};
 
     /// The factors of the base colour, as they stand: `baseColorFactor`, four numbers for red,
@@ -42,7 +55,7 @@ impl<'a> PbrMetallicRoughness<'a> {
     }
 
     /// The texture of the base colour: `baseColorTexture`.
-    pub fn base_color_texture(&self) -> Option<Info<'a>>
+    pub fn base_color_texture(&self) -> Option<Info<'a, D>>
         ensures { Follows (IsInfo (pbr_handle self.now).document)
             (pbr_handle self.now).json.base_color_texture result }
     {
@@ -66,7 +79,7 @@ impl<'a> PbrMetallicRoughness<'a> {
     }
 
     /// The texture of metalness (in blue) and roughness (in green): `metallicRoughnessTexture`.
-    pub fn metallic_roughness_texture(&self) -> Option<Info<'a>>
+    pub fn metallic_roughness_texture(&self) -> Option<Info<'a, D>>
         ensures { Follows (IsInfo (pbr_handle self.now).document)
             (pbr_handle self.now).json.metallic_roughness_texture result }
     {
@@ -100,16 +113,13 @@ impl<'a> PbrMetallicRoughness<'a> {
 
 /// The diffuse and specular colours and the glossiness of a material (the extension
 /// `KHR_materials_pbrSpecularGlossiness`).
-#[derive(Clone, Copy, Debug)]
-pub struct PbrSpecularGlossiness<'a> {
-    pub(super) document: &'a Valid,
-    pub(super) json: &'a extended::PbrSpecularGlossiness,
-    ghost holds: { Hold
-        (pbr_specular_glossiness_rules (counts_of document.now) json.now) } by { Hold-prop
-            (pbr_specular_glossiness_rules (counts_of document.now) json.now) },
+#[derive_where(Clone, Copy)]
+#[derive_where(Debug; D)]
+pub struct PbrSpecularGlossiness<'a, D: Records = Valid> {
+    pub(super) inner: Inner<'a, extended::PbrSpecularGlossiness, D>,
 }
 
-impl<'a> PbrSpecularGlossiness<'a> {
+impl<'a, D: Records> PbrSpecularGlossiness<'a, D> {
     ghost use Rattle.gltf_material.specs.Parts.{glossiness_handle};
 
     /// The factors of the diffuse colour, as they stand: `diffuseFactor`, four numbers for red,
@@ -117,15 +127,15 @@ impl<'a> PbrSpecularGlossiness<'a> {
     pub fn diffuse_factor(&self) -> Option<&'a Value>
         ensures { option_copied result ≡ (glossiness_handle self.now).json.diffuse_factor }
     {
-        self.json.diffuse_factor.as_ref()
+        self.inner.json.diffuse_factor.as_ref()
     }
 
     /// The texture of the diffuse colour: `diffuseTexture`.
-    pub fn diffuse_texture(&self) -> Option<Info<'a>>
+    pub fn diffuse_texture(&self) -> Option<Info<'a, D>>
         ensures { Follows (IsInfo (glossiness_handle self.now).document)
             (glossiness_handle self.now).json.diffuse_texture result }
     {
-        Info::of(self.document, &self.json.diffuse_texture)
+        Info::of(self.inner.document, &self.inner.json.diffuse_texture)
     }
 
     /// The factors of the specular colour, as they stand: `specularFactor`, three numbers for red,
@@ -133,7 +143,7 @@ impl<'a> PbrSpecularGlossiness<'a> {
     pub fn specular_factor(&self) -> Option<&'a Value>
         ensures { option_copied result ≡ (glossiness_handle self.now).json.specular_factor }
     {
-        self.json.specular_factor.as_ref()
+        self.inner.json.specular_factor.as_ref()
     }
 
     /// The factor of the glossiness, as it stands: `glossinessFactor`, a number. Where it is
@@ -141,22 +151,25 @@ impl<'a> PbrSpecularGlossiness<'a> {
     pub fn glossiness_factor(&self) -> Option<&'a Value>
         ensures { option_copied result ≡ (glossiness_handle self.now).json.glossiness_factor }
     {
-        self.json.glossiness_factor.as_ref()
+        self.inner.json.glossiness_factor.as_ref()
     }
 
     /// The texture of the specular colour (in red, green and blue) and the glossiness (in alpha):
     /// `specularGlossinessTexture`.
-    pub fn specular_glossiness_texture(&self) -> Option<Info<'a>>
+    pub fn specular_glossiness_texture(&self) -> Option<Info<'a, D>>
         ensures { Follows (IsInfo (glossiness_handle self.now).document)
             (glossiness_handle self.now).json.specular_glossiness_texture result }
     {
-        Info::of(self.document, &self.json.specular_glossiness_texture)
+        Info::of(
+            self.inner.document,
+            &self.inner.json.specular_glossiness_texture,
+        )
     }
 
     /// What the application stores here: `extras`.
     pub fn extras(&self) -> Option<&'a Value>
         ensures { option_copied result ≡ (glossiness_handle self.now).json.extras }
     {
-        self.json.extras.as_ref()
+        self.inner.json.extras.as_ref()
     }
 }

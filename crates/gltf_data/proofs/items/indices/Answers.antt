@@ -4,7 +4,8 @@ use Rattle.gltf_data.proofs.items.indices.Goals as goal
 
 pub returns : goal.returns
 returns g c =
-    indices_whole c.args.sparse.json.now c.view.result.json.now c.offset.result c.count.result
-    c.index_type.result (search rules) (search rules) (search rules) (search rules)
-    (in_document c.view.result.document.now c.args.sparse.document.now
-    (search rules) c.indices_at.ensures)
+    let s = c.args.sparse.inner in
+    let v = c.view.result.inner in
+    indices_whole s.json.now v.json.now c.offset.result c.count.result c.index_type.result
+    (search rules) (search rules) (search rules) (search rules)
+    (in_document v.document.now s.document.now (search rules) c.indices_at.ensures)

@@ -7,15 +7,15 @@ use Rattle.gltf_data.proofs.items.read.Goals as goal
 
 pub returns-then-size-clause-items : goal.returns-then-size-clause-items
 returns-then-size-clause-items g c =
-    other_size g.T.Item c.args.accessor.document.now c.args.accessor.json.now _ (search rules)
-    (search rules)
+    let a = c.args.accessor.inner in
+    other_size g.T.Item a.document.now a.json.now _ (search rules) (search rules)
 
 pub returns-in_err-standard-in-None-clause-items :
     goal.returns-in_err-standard-in-None-clause-items
 returns-in_err-standard-in-None-clause-items g c =
     let t = g.T.Item in
-    let r = c.args.accessor.document.now in
-    let a = c.args.accessor.json.now in
+    let r = c.args.accessor.inner.document.now in
+    let a = c.args.accessor.inner.json.now in
     right_size t r a _ {s = None} {out = option_map items_left c.standard.result} (search rules)
     (no_sparse r a.sparse (search rules)) (plain_read t r a c.standard.ensures) (search rules)
 
@@ -23,9 +23,9 @@ pub returns-in_err-sparse_items-in-Some-clause-items :
     goal.returns-in_err-sparse_items-in-Some-clause-items
 returns-in_err-sparse_items-in-Some-clause-items g c =
     let t = g.T.Item in
-    let r = c.args.accessor.document.now in
-    let a = c.args.accessor.json.now in
-    right_size t r a _ {s = Some c.in-Some.sparse.json.now}
+    let r = c.args.accessor.inner.document.now in
+    let a = c.args.accessor.inner.json.now in
+    right_size t r a _ {s = Some c.in-Some.sparse.inner.json.now}
     {out = option_map (λ it. it.items) c.sparse_items.result} (search rules)
     (sparse_is r a.sparse c.in-Some.sparse (search rules)) c.sparse_items.ensures.items
     (search rules)
@@ -33,8 +33,8 @@ returns-in_err-sparse_items-in-Some-clause-items g c =
 pub returns-in_ok-standard-in-None-clause-items : goal.returns-in_ok-standard-in-None-clause-items
 returns-in_ok-standard-in-None-clause-items g c =
     let t = g.T.Item in
-    let r = c.args.accessor.document.now in
-    let a = c.args.accessor.json.now in
+    let r = c.args.accessor.inner.document.now in
+    let a = c.args.accessor.inner.json.now in
     right_size t r a _ {s = None} {out = option_map items_left c.standard.result} (search rules)
     (no_sparse r a.sparse (search rules)) (plain_read t r a c.standard.ensures) (search rules)
 
@@ -42,9 +42,9 @@ pub returns-in_ok-sparse_items-in-Some-clause-items :
     goal.returns-in_ok-sparse_items-in-Some-clause-items
 returns-in_ok-sparse_items-in-Some-clause-items g c =
     let t = g.T.Item in
-    let r = c.args.accessor.document.now in
-    let a = c.args.accessor.json.now in
-    right_size t r a _ {s = Some c.in-Some.sparse.json.now}
+    let r = c.args.accessor.inner.document.now in
+    let a = c.args.accessor.inner.json.now in
+    right_size t r a _ {s = Some c.in-Some.sparse.inner.json.now}
     {out = option_map (λ it. it.items) c.sparse_items.result} (search rules)
     (sparse_is r a.sparse c.in-Some.sparse (search rules)) c.sparse_items.ensures.items
     (search rules)

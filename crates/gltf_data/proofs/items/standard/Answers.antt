@@ -5,8 +5,10 @@ use Rattle.gltf_data.proofs.items.standard.Goals as goal
 
 pub returns : goal.returns
 returns g c =
-    let at = base_part_is g.T.Item.size c.args.accessor.document.now c.args.accessor.json.now
+    let r = c.args.accessor.inner.document.now in
+    let a = c.args.accessor.inner.json.now in
+    let at = base_part_is g.T.Item.size r a
     c.in_ok-view.view c.offset.result c.count.result (search rules) (search rules)
     (search rules) in
-    whole (base_part g.T.Item.size c.args.accessor.document.now c.args.accessor.json.now) at.0
-    (in_document c.in_ok-view.view.document.now c.args.accessor.document.now at.1 c.items.ensures)
+    whole (base_part g.T.Item.size r a) at.0
+    (in_document c.in_ok-view.view.inner.document.now r at.1 c.items.ensures)

@@ -5,9 +5,9 @@ use Rattle.gltf_data.proofs.items.values.Goals as goal
 
 pub returns : goal.returns
 returns g c =
-    let r = c.args.sparse.document.now in
-    let s = c.args.sparse.json.now in
+    let r = c.args.sparse.inner.document.now in
+    let s = c.args.sparse.inner.json.now in
     whole (value_part g.T.Item.size r s)
-    (value_part_is g.T.Item.size r s c.view.result.json.now c.offset.result c.count.result
+    (value_part_is g.T.Item.size r s c.view.result.inner.json.now c.offset.result c.count.result
     (search rules) (search rules) (search rules))
-    (in_document c.view.result.document.now r (search rules) c.items.ensures)
+    (in_document c.view.result.inner.document.now r (search rules) c.items.ensures)

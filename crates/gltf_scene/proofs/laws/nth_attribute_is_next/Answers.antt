@@ -2,4 +2,4 @@ use Rattle.gltf_scene.proofs.Steps.{nth_next}
 use Rattle.gltf_scene.proofs.laws.nth_attribute_is_next.Goals as goal
 
 pub returns : goal.returns
-returns c = nth_next
+returns g c = nth_next

@@ -5,7 +5,7 @@ use Rattle.gltf_scene.proofs.Steps.{behind, none_behind}
 use Rattle.gltf_scene.proofs.mesh.iter.Attributes.nth.Goals as goal
 
 pub returns-in_err-next : goal.returns-in_err-next
-returns-in_err-next c =
+returns-in_err-next g c =
     let old = attributes_left c.args.self.now in
     let new = attributes_left c.next.new.self in
     let kept = c.loop-passed.invariant in
@@ -16,7 +16,7 @@ returns-in_err-next c =
     (none_behind old new (c.loop-passed.passed + 0) c.args.n below here)
 
 pub loop-passed-preserved : goal.loop-passed-preserved
-loop-passed-preserved c =
+loop-passed-preserved g c =
     let step = c.in_ok-next.ensures.steps in
     let kept = c.loop-passed.invariant in
     let below : c.loop-passed.passed + 1 ≤ c.args.n =
@@ -26,7 +26,7 @@ loop-passed-preserved c =
     (tt, tt, below, step.document ∙ kept.3, step.entries ∙ behind_one)
 
 pub returns : goal.returns
-returns c =
+returns g c =
     let old = attributes_left c.args.self.now in
     let new = attributes_left c.next-2.new.self in
     let kept = c.loop-passed.invariant in

@@ -2,7 +2,7 @@ use Rattle.std.proofs.Common.{refl}
 use Rattle.gltf_scene.proofs.mesh.iter.AttributesIterator.next.Goals as goal
 
 pub returns-clause-steps : goal.returns-clause-steps
-returns-clause-steps c =
+returns-clause-steps g c =
     let taken = c.in_ok-semantic.ensures.steps in
     let found = c.new.ensures in
     record {
