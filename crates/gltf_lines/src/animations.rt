@@ -1,8 +1,9 @@
 //! Animations, their channels, targets and samplers (glTF 2.0, section 3.11).
 use crate::shown::{Shown, Written, write_next, write_part, write_parts, write_rest};
 use gltf_anim::animation::{Animation, Channel, Sampler, Target};
+use gltf_rules::Records;
 
-impl Shown for Animation<'_> {
+impl<D: Records> Shown for Animation<'_, D> {
     fn show(&self, line: &mut String) -> Written {
         write!(line, "index {}", self.index())?;
         write_next("name", self.name(), line)?;
@@ -12,7 +13,7 @@ impl Shown for Animation<'_> {
     }
 }
 
-impl Shown for Channel<'_> {
+impl<D: Records> Shown for Channel<'_, D> {
     fn show(&self, line: &mut String) -> Written {
         write!(line, "index {}", self.index())?;
         write!(line, " of animation {}", self.animation().index())?;
@@ -22,7 +23,7 @@ impl Shown for Channel<'_> {
     }
 }
 
-impl Shown for Target<'_> {
+impl<D: Records> Shown for Target<'_, D> {
     fn show(&self, line: &mut String) -> Written {
         write!(
             line,
@@ -35,7 +36,7 @@ impl Shown for Target<'_> {
     }
 }
 
-impl Shown for Sampler<'_> {
+impl<D: Records> Shown for Sampler<'_, D> {
     fn show(&self, line: &mut String) -> Written {
         write!(line, "index {}", self.index())?;
         write!(line, " of animation {}", self.animation().index())?;

@@ -3,8 +3,9 @@ use crate::shown::{Numbered, Shown, Written, write_next, write_rest};
 use gltf_handles::accessor::Accessor;
 use gltf_handles::accessor::sparse::Sparse;
 use gltf_handles::buffer::{Buffer, View};
+use gltf_rules::Records;
 
-impl Shown for Buffer<'_> {
+impl<D: Records> Shown for Buffer<'_, D> {
     fn show(&self, line: &mut String) -> Written {
         write!(line, "buffer {}: length {}", self.index(), self.length())?;
         write!(line, ", {:?}", self.source())?;
@@ -13,7 +14,7 @@ impl Shown for Buffer<'_> {
     }
 }
 
-impl Shown for View<'_> {
+impl<D: Records> Shown for View<'_, D> {
     fn show(&self, line: &mut String) -> Written {
         write!(
             line,
@@ -29,7 +30,7 @@ impl Shown for View<'_> {
     }
 }
 
-impl Shown for Accessor<'_> {
+impl<D: Records> Shown for Accessor<'_, D> {
     fn show(&self, line: &mut String) -> Written {
         write_place(self, line)?;
         write_size(self, line)?;
@@ -46,7 +47,7 @@ impl Shown for Accessor<'_> {
 }
 
 /// Writes where the items of an accessor stand, and how many.
-fn write_place(accessor: &Accessor<'_>, line: &mut String) -> Written {
+fn write_place<D: Records>(accessor: &Accessor<'_, D>, line: &mut String) -> Written {
     write!(line, "accessor {} of ", accessor.index())?;
     match accessor.view() {
         Some(view) => write!(line, "view {}", view.index())?,
@@ -61,7 +62,7 @@ fn write_place(accessor: &Accessor<'_>, line: &mut String) -> Written {
 }
 
 /// Writes what an item of an accessor is made of, and its bytes.
-fn write_size(accessor: &Accessor<'_>, line: &mut String) -> Written {
+fn write_size<D: Records>(accessor: &Accessor<'_, D>, line: &mut String) -> Written {
     let data_type = accessor.data_type();
     let dimensions = accessor.dimensions();
     write!(line, ", {data_type:?} of {}", data_type.size())?;
@@ -70,7 +71,7 @@ fn write_size(accessor: &Accessor<'_>, line: &mut String) -> Written {
 }
 
 /// Writes the sparse part of an accessor.
-fn write_sparse(sparse: Sparse<'_>, line: &mut String) -> Written {
+fn write_sparse<D: Records>(sparse: Sparse<'_, D>, line: &mut String) -> Written {
     let (indices, values) = (sparse.indices(), sparse.values());
     let index_type = indices.index_type();
     write!(line, ", sparse of {}", sparse.count())?;
@@ -96,7 +97,7 @@ fn write_sparse(sparse: Sparse<'_>, line: &mut String) -> Written {
     write!(line, " {:?} {:?}", values.extras(), sparse.extras())
 }
 
-impl Numbered for Accessor<'_> {
+impl<D: Records> Numbered for Accessor<'_, D> {
     fn number(&self) -> usize {
         self.index()
     }

@@ -6,8 +6,9 @@ use gltf_look::image::{Image, Source};
 use gltf_look::khr_lights_punctual::Light;
 use gltf_look::khr_materials_variants::Variant;
 use gltf_look::texture::{Sampler, Texture};
+use gltf_rules::Records;
 
-impl Shown for Image<'_> {
+impl<D: Records> Shown for Image<'_, D> {
     fn show(&self, line: &mut String) -> Written {
         write!(line, "index {}", self.index())?;
         write_next("name", self.name(), line)?;
@@ -17,7 +18,7 @@ impl Shown for Image<'_> {
 }
 
 /// Writes where the bytes of an image are.
-fn write_source(source: Source<'_>, line: &mut String) -> Written {
+fn write_source<D: Records>(source: Source<'_, D>, line: &mut String) -> Written {
     match source {
         Source::View { view, mime_type } => {
             write!(line, ", source View {} of {mime_type:?}", view.index())
@@ -26,7 +27,7 @@ fn write_source(source: Source<'_>, line: &mut String) -> Written {
     }
 }
 
-impl Shown for Texture<'_> {
+impl<D: Records> Shown for Texture<'_, D> {
     fn show(&self, line: &mut String) -> Written {
         write!(line, "index {}", self.index())?;
         write_next("name", self.name(), line)?;
@@ -36,7 +37,7 @@ impl Shown for Texture<'_> {
     }
 }
 
-impl Shown for Sampler<'_> {
+impl<D: Records> Shown for Sampler<'_, D> {
     fn show(&self, line: &mut String) -> Written {
         write!(line, "index {:?}", self.index())?;
         write_next("mag_filter", self.mag_filter(), line)?;
@@ -48,7 +49,7 @@ impl Shown for Sampler<'_> {
     }
 }
 
-impl Shown for Camera<'_> {
+impl<D: Records> Shown for Camera<'_, D> {
     fn show(&self, line: &mut String) -> Written {
         write!(line, "index {}", self.index())?;
         write_next("name", self.name(), line)?;
@@ -80,7 +81,7 @@ impl Shown for Perspective<'_> {
     }
 }
 
-impl Shown for Light<'_> {
+impl<D: Records> Shown for Light<'_, D> {
     fn show(&self, line: &mut String) -> Written {
         write!(line, "index {}", self.index())?;
         write_next("name", self.name(), line)?;
@@ -98,13 +99,13 @@ impl Shown for Variant<'_> {
     }
 }
 
-impl Numbered for Camera<'_> {
+impl<D: Records> Numbered for Camera<'_, D> {
     fn number(&self) -> usize {
         self.index()
     }
 }
 
-impl Numbered for Light<'_> {
+impl<D: Records> Numbered for Light<'_, D> {
     fn number(&self) -> usize {
         self.index()
     }

@@ -5,8 +5,9 @@ use gltf_material::material::{
     Specular, Transmission, Volume,
 };
 use gltf_material::texture::{Info, TextureTransform};
+use gltf_rules::Records;
 
-impl Shown for Material<'_> {
+impl<D: Records> Shown for Material<'_, D> {
     /// One extension that is known at a material is looked up too: it is none of those that are
     /// left.
     fn show(&self, line: &mut String) -> Written {
@@ -26,7 +27,7 @@ impl Shown for Material<'_> {
 }
 
 /// Writes the models of a material's colour.
-fn write_models(material: &Material<'_>, line: &mut String) -> Written {
+fn write_models<D: Records>(material: &Material<'_, D>, line: &mut String) -> Written {
     write_part(
         "pbr_metallic_roughness",
         Some(material.pbr_metallic_roughness()),
@@ -40,7 +41,7 @@ fn write_models(material: &Material<'_>, line: &mut String) -> Written {
 }
 
 /// Writes what extensions add to a material.
-fn write_extended(material: &Material<'_>, line: &mut String) -> Written {
+fn write_extended<D: Records>(material: &Material<'_, D>, line: &mut String) -> Written {
     write_part("transmission", material.transmission(), line)?;
     write_part("volume", material.volume(), line)?;
     write_part("specular", material.specular(), line)?;
@@ -49,14 +50,14 @@ fn write_extended(material: &Material<'_>, line: &mut String) -> Written {
 }
 
 /// Writes the light that a material gives off, and the textures that are no colours.
-fn write_maps(material: &Material<'_>, line: &mut String) -> Written {
+fn write_maps<D: Records>(material: &Material<'_, D>, line: &mut String) -> Written {
     write_next("emissive_factor", material.emissive_factor(), line)?;
     write_part("normal_texture", material.normal_texture(), line)?;
     write_part("occlusion_texture", material.occlusion_texture(), line)?;
     write_part("emissive_texture", material.emissive_texture(), line)
 }
 
-impl Shown for PbrMetallicRoughness<'_> {
+impl<D: Records> Shown for PbrMetallicRoughness<'_, D> {
     fn show(&self, line: &mut String) -> Written {
         write!(line, "base_color_factor {:?}", self.base_color_factor())?;
         write_part("base_color_texture", self.base_color_texture(), line)?;
@@ -71,7 +72,7 @@ impl Shown for PbrMetallicRoughness<'_> {
     }
 }
 
-impl Shown for PbrSpecularGlossiness<'_> {
+impl<D: Records> Shown for PbrSpecularGlossiness<'_, D> {
     fn show(&self, line: &mut String) -> Written {
         write!(line, "diffuse_factor {:?}", self.diffuse_factor())?;
         write_part("diffuse_texture", self.diffuse_texture(), line)?;
@@ -86,7 +87,7 @@ impl Shown for PbrSpecularGlossiness<'_> {
     }
 }
 
-impl Shown for Transmission<'_> {
+impl<D: Records> Shown for Transmission<'_, D> {
     fn show(&self, line: &mut String) -> Written {
         write!(line, "transmission_factor {:?}", self.transmission_factor())?;
         write_part("transmission_texture", self.transmission_texture(), line)?;
@@ -94,7 +95,7 @@ impl Shown for Transmission<'_> {
     }
 }
 
-impl Shown for Volume<'_> {
+impl<D: Records> Shown for Volume<'_, D> {
     fn show(&self, line: &mut String) -> Written {
         write!(line, "thickness_factor {:?}", self.thickness_factor())?;
         write_part("thickness_texture", self.thickness_texture(), line)?;
@@ -104,7 +105,7 @@ impl Shown for Volume<'_> {
     }
 }
 
-impl Shown for Specular<'_> {
+impl<D: Records> Shown for Specular<'_, D> {
     fn show(&self, line: &mut String) -> Written {
         write!(line, "specular_factor {:?}", self.specular_factor())?;
         write_part("specular_texture", self.specular_texture(), line)?;
@@ -118,7 +119,7 @@ impl Shown for Specular<'_> {
     }
 }
 
-impl Shown for NormalTexture<'_> {
+impl<D: Records> Shown for NormalTexture<'_, D> {
     fn show(&self, line: &mut String) -> Written {
         write!(line, "texture {}", self.texture().index())?;
         write_next("scale", self.scale(), line)?;
@@ -127,7 +128,7 @@ impl Shown for NormalTexture<'_> {
     }
 }
 
-impl Shown for OcclusionTexture<'_> {
+impl<D: Records> Shown for OcclusionTexture<'_, D> {
     fn show(&self, line: &mut String) -> Written {
         write!(line, "texture {}", self.texture().index())?;
         write_next("strength", self.strength(), line)?;
@@ -136,7 +137,7 @@ impl Shown for OcclusionTexture<'_> {
     }
 }
 
-impl Shown for Info<'_> {
+impl<D: Records> Shown for Info<'_, D> {
     fn show(&self, line: &mut String) -> Written {
         write!(line, "texture {}", self.texture().index())?;
         write_next("tex_coord", self.tex_coord(), line)?;

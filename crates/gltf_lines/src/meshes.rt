@@ -3,10 +3,11 @@
 use crate::list::{Walked, write_steps};
 use crate::shown::{Numbered, Shown, Written, write_next, write_number, write_parts, write_rest};
 use gltf_material::khr_materials_variants::Mapping;
+use gltf_rules::Records;
 use gltf_scene::mesh::iter::Attributes;
 use gltf_scene::mesh::{Attribute, BoundingBox, Mesh, MorphTarget, Primitive, Semantic};
 
-impl Shown for Mesh<'_> {
+impl<D: Records> Shown for Mesh<'_, D> {
     fn show(&self, line: &mut String) -> Written {
         write!(line, "index {}", self.index())?;
         write_next("name", self.name(), line)?;
@@ -16,7 +17,7 @@ impl Shown for Mesh<'_> {
     }
 }
 
-impl Shown for Primitive<'_> {
+impl<D: Records> Shown for Primitive<'_, D> {
     /// Of attributes the accessor of `POSITION` is looked up.
     fn show(&self, line: &mut String) -> Written {
         write!(line, "index {}", self.index())?;
@@ -32,7 +33,7 @@ impl Shown for Primitive<'_> {
     }
 }
 
-impl Shown for MorphTarget<'_> {
+impl<D: Records> Shown for MorphTarget<'_, D> {
     fn show(&self, line: &mut String) -> Written {
         line.push_str("target")?;
         write_number("positions", self.positions(), line)?;
@@ -41,21 +42,21 @@ impl Shown for MorphTarget<'_> {
     }
 }
 
-impl Shown for Mapping<'_> {
+impl<D: Records> Shown for Mapping<'_, D> {
     fn show(&self, line: &mut String) -> Written {
         write!(line, "variants {:?}", self.variants())?;
         write_next("material", self.material().index(), line)
     }
 }
 
-impl Numbered for Mesh<'_> {
+impl<D: Records> Numbered for Mesh<'_, D> {
     fn number(&self) -> usize {
         self.index()
     }
 }
 
 /// Writes all attributes.
-fn write_attributes(attributes: Attributes<'_>, line: &mut String) -> Written {
+fn write_attributes<D: Records>(attributes: Attributes<'_, D>, line: &mut String) -> Written {
     line.push_str(", attributes [")?;
     for attribute in attributes {
         line.push_str("(")?;
@@ -66,7 +67,7 @@ fn write_attributes(attributes: Attributes<'_>, line: &mut String) -> Written {
 }
 
 /// Writes what an attribute means, and the index of its accessor.
-fn write_attribute(attribute: Option<Attribute<'_>>, line: &mut String) -> Written {
+fn write_attribute<D: Records>(attribute: Option<Attribute<'_, D>>, line: &mut String) -> Written {
     match attribute {
         Some((semantic, accessor)) => write!(line, "{semantic:?} {}", accessor.index()),
         None => line.push_str("none"),
@@ -83,15 +84,15 @@ fn write_box(bounds: Option<BoundingBox<'_>>, line: &mut String) -> Written {
 
 /// Writes what the steps over attributes give: `next`, `nth:NUMBER`, `len`, `hint`, `last` and
 /// `count`.
-pub fn write_attribute_steps(
-    mut attributes: Attributes<'_>,
+pub fn write_attribute_steps<D: Records>(
+    mut attributes: Attributes<'_, D>,
     words: &str,
     line: &mut String,
 ) -> Written {
     write_steps(&mut attributes, words, line)
 }
 
-impl Walked for Attributes<'_> {
+impl<D: Records> Walked for Attributes<'_, D> {
     fn write_next(&mut self, line: &mut String) -> Written {
         write_attribute(self.next(), line)
     }

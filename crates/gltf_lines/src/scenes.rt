@@ -1,9 +1,10 @@
 //! Nodes, scenes and skins (glTF 2.0, sections 3.5 and 3.7.3).
 use crate::shown::{Numbered, Shown, Written, write_next, write_number, write_numbers, write_rest};
+use gltf_rules::Records;
 use gltf_scene::scene::{Node, Scene};
 use gltf_scene::skin::Skin;
 
-impl Shown for Node<'_> {
+impl<D: Records> Shown for Node<'_, D> {
     /// What a node refers to is told by its index: a node may be its own child.
     fn show(&self, line: &mut String) -> Written {
         write!(line, "index {}", self.index())?;
@@ -19,7 +20,7 @@ impl Shown for Node<'_> {
     }
 }
 
-impl Shown for Scene<'_> {
+impl<D: Records> Shown for Scene<'_, D> {
     fn show(&self, line: &mut String) -> Written {
         write!(line, "index {}", self.index())?;
         write_next("name", self.name(), line)?;
@@ -28,7 +29,7 @@ impl Shown for Scene<'_> {
     }
 }
 
-impl Shown for Skin<'_> {
+impl<D: Records> Shown for Skin<'_, D> {
     fn show(&self, line: &mut String) -> Written {
         write!(line, "index {}", self.index())?;
         write_next("name", self.name(), line)?;
@@ -39,13 +40,13 @@ impl Shown for Skin<'_> {
     }
 }
 
-impl Numbered for Node<'_> {
+impl<D: Records> Numbered for Node<'_, D> {
     fn number(&self) -> usize {
         self.index()
     }
 }
 
-impl Numbered for Skin<'_> {
+impl<D: Records> Numbered for Skin<'_, D> {
     fn number(&self) -> usize {
         self.index()
     }
