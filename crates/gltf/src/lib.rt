@@ -26,7 +26,7 @@ pub use gltf_look::{camera, image, khr_lights_punctual};
 pub use gltf_material::material;
 pub use gltf_names::{Folder, Name, NamedBytes, NamedFault, Shelf};
 pub use gltf_read::{animation, mesh, skin};
-pub use gltf_rules::{Refused, Valid};
+pub use gltf_rules::{Records, Refused, Valid};
 pub use gltf_scene::scene;
 pub use image::Image;
 pub use imports::{
