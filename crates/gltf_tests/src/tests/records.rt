@@ -4,7 +4,7 @@ use gltf::json::accessor::ComponentType;
 use gltf::json::path::{Path, Step};
 use gltf::json::validation::Checked;
 use gltf::json::{Root, Value, deserialize, kinds};
-use gltf::{Document, RawDocument, Valid};
+use gltf::{Document, RawDocument, Records, Valid};
 use std::alloc::Global;
 use std::process::Abort;
 use std::test::Fail;
