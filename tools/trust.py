@@ -6,9 +6,9 @@ right.
     trust.py --write    writes the counts and the total
 
 A row of a table there has a file, the definitions of it that count (`all`, or their names), and how
-many lines they have. A line counts where it states something: no empty line, comment or import, and
-of a kind of JSON values neither the laws, which the prover checks, nor what it has for these alone
-(`fits`)."""
+many lines they have. A line counts where it states something: no empty line, comment, import or
+head of a block over parameters, and of a kind of JSON values neither the laws, which the prover
+checks, nor what it has for these alone (`fits`)."""
 import pathlib
 import re
 import sys
