@@ -72,6 +72,7 @@ impl Valid {
         ensures valid { OnOk result (Faults root ≡ []) }
         ensures refused { IfErr result (IsRefusal root) }
     {
+        // A law that the proof stands on; the call does nothing.
         no_rule_is_broken_where_all_hold();
         let faults = validate(alloc, &root)?;
         if faults.is_empty() {
@@ -85,6 +86,7 @@ impl Valid {
     pub fn clone(&self, alloc: Global) -> Result<Valid, AllocError>
         ensures { IfOk result (IsCopy root_kind self.now) }
     {
+        // Laws that the proof stands on; the calls do nothing.
         what_shows_the_same_breaks_the_same_rules();
         no_rule_is_broken_where_all_hold();
         let root = self.as_root().clone(alloc)?;
@@ -104,6 +106,7 @@ impl Valid {
         ensures same { result ≡ self }
         ensures valid { Faults self ≡ [] }
     {
+        // A law that the proof stands on; the call does nothing.
         no_rule_is_broken_where_all_hold();
         let Valid { root } = self;
         root

@@ -137,6 +137,7 @@ impl<'a, D: Records> Primitive<'a, D> {
             (get_by (semantic_cmp semantic.now)
             (primitive_handle self.now).json.attributes) result }
     {
+        // A law that the proof stands on; the call does nothing.
         order_is_the_stated_one();
         let index = self.inner.json.attributes.get(semantic)?;
         Some(Accessor::new(self.inner.document, index.value()))
