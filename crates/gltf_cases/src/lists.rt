@@ -2,7 +2,7 @@
 use gltf::{Document, Material, Primitive};
 use gltf_case::asked::Asked;
 use gltf_case::shown::Written;
-use gltf_lines::{Shown, write_attribute_steps, write_list, write_list_or_none};
+use gltf_lines::{write_attribute_steps, write_handle, write_list, write_list_or_none};
 
 /// Writes what the steps over a list of handles give, or extensions that are not known.
 ///
@@ -36,7 +36,7 @@ fn write_look(document: &Document, asked: Asked<'_>, line: &mut String) -> Writt
         "lights" => write_list_or_none(document.lights(), asked.words, line),
         "variants" => write_list_or_none(document.variants(), asked.words, line),
         "materials" => write_list(document.materials(), asked.words, line),
-        "default" => Material::default(document.as_valid()).show(line),
+        "default" => write_handle(&Material::default(document.as_valid()), line),
         _ => write_scene(document, asked, line),
     }
 }
@@ -58,7 +58,7 @@ fn write_scene(document: &Document, asked: Asked<'_>, line: &mut String) -> Writ
             None => line.push_str("no primitive"),
         },
         "scene" => match document.default_scene() {
-            Some(scene) => scene.show(line),
+            Some(scene) => write_handle(&scene, line),
             None => line.push_str("no scene"),
         },
         _ => line.push_str("no call"),

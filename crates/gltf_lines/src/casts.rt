@@ -2,8 +2,9 @@
 ghost use Rattle.gltf_read.specs.Channels.{closure_of as asked_of_channel};
 ghost use Rattle.gltf_read.specs.Primitives.{closure_of as asked_of_primitive};
 
+use crate::line::{Line, Written};
 use crate::reads::{write_items, write_named};
-use crate::shown::{Shown, Written};
+use crate::shown::Shown;
 use gltf_casting::Casting;
 use gltf_casting::animation::util::{MorphTargetWeights, ReadOutputs, Rotations};
 use gltf_casting::castable::Castable;
@@ -18,17 +19,17 @@ pub fn write_primitive_casts<'s, F: Fn(Buffer) -> Option<&'s [u8]>>(
     reader: &mesh::Reader<'_, 's, F>,
     name: &str,
     calls: &str,
-    line: &mut String,
+    text: &mut String,
 ) -> Written
     requires { F.IsAlwaysCallable (asked_of_primitive reader.now) }
 {
     match name {
-        "colors" => write_casts(reader.read_colors(0), calls, line),
-        "indices" => write_casts(reader.read_indices(), calls, line),
-        "joints" => write_casts(reader.read_joints(0), calls, line),
-        "tex_coords" => write_casts(reader.read_tex_coords(0), calls, line),
-        "weights" => write_casts(reader.read_weights(0), calls, line),
-        _ => line.push_str("no reader"),
+        "colors" => write_casts(reader.read_colors(0), calls, text),
+        "indices" => write_casts(reader.read_indices(), calls, text),
+        "joints" => write_casts(reader.read_joints(0), calls, text),
+        "tex_coords" => write_casts(reader.read_tex_coords(0), calls, text),
+        "weights" => write_casts(reader.read_weights(0), calls, text),
+        _ => text.push_str("no reader"),
     }
 }
 
@@ -36,45 +37,48 @@ pub fn write_primitive_casts<'s, F: Fn(Buffer) -> Option<&'s [u8]>>(
 pub fn write_channel_casts<'s, F: Fn(Buffer) -> Option<&'s [u8]>>(
     reader: &animation::Reader<'_, 's, F>,
     calls: &str,
-    line: &mut String,
+    text: &mut String,
 ) -> Written
     requires { F.IsAlwaysCallable (asked_of_channel reader.now) }
 {
-    write_casts(reader.read_outputs(), calls, line)
+    write_casts(reader.read_outputs(), calls, text)
 }
 
 /// Writes what the calls of these names cast.
 fn write_casts<E: Casts + Clone + Drop>(
     read: Option<E>,
     calls: &str,
-    line: &mut String,
+    text: &mut String,
 ) -> Written {
     match &read {
-        Some(read) => write_each(read, calls, line),
-        None => line.push_str("none"),
+        Some(read) => write_each(read, calls, text),
+        None => text.push_str("none"),
     }
 }
 
 /// Writes what each of these calls casts, behind its name.
-fn write_each<E: Casts + Clone + Drop>(read: &E, calls: &str, line: &mut String) -> Written {
+fn write_each<E: Casts + Clone + Drop>(read: &E, calls: &str, text: &mut String) -> Written {
+    let mut line = Line::new(text);
     for call in calls.split_whitespace() {
         if !line.is_empty() {
-            line.push_str("; ")?;
+            line.push_str("; ");
         }
-        write!(line, "{call} ")?;
-        read.clone()?.write_cast(call, line)?;
+        write!(line, "{call} ");
+        if let Some(read) = line.kept(read.clone()) {
+            read.write_cast(call, &mut line);
+        }
     }
-    Ok(())
+    line.finish()
 }
 
 /// What can be cast, by calls with names.
 trait Casts: Sized {
     /// Writes what the call of this name gives.
-    fn write_cast(self, call: &str, line: &mut String) -> Written;
+    fn write_cast(self, call: &str, line: &mut Line<'_>);
 }
 
 impl Casts for ReadColors<'_> {
-    fn write_cast(self, call: &str, line: &mut String) -> Written {
+    fn write_cast(self, call: &str, line: &mut Line<'_>) {
         match call {
             "into_rgb_u8" => write_cast(self.into_rgb_u8(), line),
             "into_rgb_u16" => write_cast(self.into_rgb_u16(), line),
@@ -86,19 +90,19 @@ impl Casts for ReadColors<'_> {
 }
 
 impl Casts for ReadIndices<'_> {
-    fn write_cast(self, _call: &str, line: &mut String) -> Written {
-        write_cast(Ok(self.into_u32()), line)
+    fn write_cast(self, _call: &str, line: &mut Line<'_>) {
+        write_cast(Ok(self.into_u32()), line);
     }
 }
 
 impl Casts for ReadJoints<'_> {
-    fn write_cast(self, _call: &str, line: &mut String) -> Written {
-        write_cast(Ok(self.into_u16()), line)
+    fn write_cast(self, _call: &str, line: &mut Line<'_>) {
+        write_cast(Ok(self.into_u16()), line);
     }
 }
 
 impl Casts for ReadTexCoords<'_> {
-    fn write_cast(self, call: &str, line: &mut String) -> Written {
+    fn write_cast(self, call: &str, line: &mut Line<'_>) {
         match call {
             "into_u8" => write_cast(self.into_u8(), line),
             "into_u16" => write_cast(self.into_u16(), line),
@@ -108,7 +112,7 @@ impl Casts for ReadTexCoords<'_> {
 }
 
 impl Casts for ReadWeights<'_> {
-    fn write_cast(self, call: &str, line: &mut String) -> Written {
+    fn write_cast(self, call: &str, line: &mut Line<'_>) {
         match call {
             "into_u8" => write_cast(self.into_u8(), line),
             "into_u16" => write_cast(self.into_u16(), line),
@@ -118,7 +122,7 @@ impl Casts for ReadWeights<'_> {
 }
 
 impl Casts for Rotations<'_> {
-    fn write_cast(self, call: &str, line: &mut String) -> Written {
+    fn write_cast(self, call: &str, line: &mut Line<'_>) {
         match call {
             "into_i8" => write_cast(self.into_i8(), line),
             "into_u8" => write_cast(self.into_u8(), line),
@@ -130,7 +134,7 @@ impl Casts for Rotations<'_> {
 }
 
 impl Casts for MorphTargetWeights<'_> {
-    fn write_cast(self, call: &str, line: &mut String) -> Written {
+    fn write_cast(self, call: &str, line: &mut Line<'_>) {
         match call {
             "into_i8" => write_cast(self.into_i8(), line),
             "into_u8" => write_cast(self.into_u8(), line),
@@ -142,7 +146,7 @@ impl Casts for MorphTargetWeights<'_> {
 }
 
 impl Casts for ReadOutputs<'_> {
-    fn write_cast(self, call: &str, line: &mut String) -> Written {
+    fn write_cast(self, call: &str, line: &mut Line<'_>) {
         match self {
             ReadOutputs::Rotations(read) => read.write_cast(call, line),
             ReadOutputs::MorphTargetWeights(read) => read.write_cast(call, line),
@@ -152,10 +156,7 @@ impl Casts for ReadOutputs<'_> {
 }
 
 /// Writes what a call casts, or what it gives back.
-fn write_cast<E: Castable<A> + Shown, A>(
-    cast: Result<Casting<E, A>, E>,
-    line: &mut String,
-) -> Written
+fn write_cast<E: Castable<A> + Shown, A>(cast: Result<Casting<E, A>, E>, line: &mut Line<'_>)
 where
     E::Output: Debug + Drop,
 {

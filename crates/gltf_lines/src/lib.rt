@@ -6,6 +6,7 @@
 mod animations;
 mod buffers;
 mod casts;
+mod line;
 mod list;
 mod looks;
 mod materials;
@@ -15,7 +16,8 @@ mod scenes;
 mod shown;
 
 pub use casts::{write_channel_casts, write_primitive_casts};
+pub use line::{Line, Written};
 pub use list::{write_list, write_list_or_none};
 pub use meshes::write_attribute_steps;
 pub use reads::{write_channel, write_primitive, write_skin};
-pub use shown::{Shown, Written};
+pub use shown::{Shown, write_handle};

@@ -5,7 +5,8 @@ ghost use Rattle.gltf_read.specs.MorphTargets.{closure_of as asked_of_targets};
 ghost use Rattle.gltf_read.specs.Primitives.{closure_of as asked_of_primitive};
 ghost use Rattle.gltf_read.specs.Skins.{closure_of as asked_of_skin};
 
-use crate::shown::{Shown, Written};
+use crate::line::{Line, Written};
+use crate::shown::Shown;
 use gltf_casting::animation::util::{MorphTargetWeights, ReadOutputs, Rotations};
 use gltf_casting::mesh::util::{ReadColors, ReadIndices, ReadJoints, ReadTexCoords, ReadWeights};
 use gltf_data::accessor::Iter;
@@ -19,110 +20,118 @@ use std::fmt::Debug;
 pub fn write_primitive<'s, F: Fn(Buffer) -> Option<&'s [u8]>>(
     reader: &mesh::Reader<'_, 's, F>,
     set: u32,
-    line: &mut String,
+    text: &mut String,
 ) -> Written
     requires { F.IsAlwaysCallable (asked_of_primitive reader.now) }
 {
-    write_read("positions", reader.read_positions(), line)?;
-    write_read("normals", reader.read_normals(), line)?;
-    write_read("tangents", reader.read_tangents(), line)?;
-    write_read("colors", reader.read_colors(set), line)?;
-    write_read("indices", reader.read_indices(), line)?;
-    write_read("joints", reader.read_joints(set), line)?;
-    write_read("tex_coords", reader.read_tex_coords(set), line)?;
-    write_read("weights", reader.read_weights(set), line)?;
-    write_targets(reader.read_morph_targets(), line)
+    let mut line = Line::new(text);
+    write_read("positions", reader.read_positions(), &mut line);
+    write_read("normals", reader.read_normals(), &mut line);
+    write_read("tangents", reader.read_tangents(), &mut line);
+    write_read("colors", reader.read_colors(set), &mut line);
+    write_read("indices", reader.read_indices(), &mut line);
+    write_read("joints", reader.read_joints(set), &mut line);
+    write_read("tex_coords", reader.read_tex_coords(set), &mut line);
+    write_read("weights", reader.read_weights(set), &mut line);
+    write_targets(reader.read_morph_targets(), &mut line);
+    line.finish()
 }
 
 /// Writes how many morph targets there are, and what is read of the first two.
 fn write_targets<'s, F: Fn(Buffer) -> Option<&'s [u8]>>(
     mut targets: ReadMorphTargets<'_, 's, F>,
-    line: &mut String,
-) -> Written
+    line: &mut Line<'_>,
+)
     requires { F.IsAlwaysCallable (asked_of_targets targets) }
 {
-    write!(line, "; {} morph targets", targets.len())?;
-    write_read("first", targets.nth(0), line)?;
-    write_read("second", targets.nth(0), line)
+    write!(line, "; {} morph targets", targets.len());
+    write_read("first", targets.nth(0), line);
+    write_read("second", targets.nth(0), line);
 }
 
 /// Writes what the reader of a skin gives, behind its name.
 pub fn write_skin<'s, F: Fn(Buffer) -> Option<&'s [u8]>>(
     reader: &skin::Reader<'_, 's, F>,
-    line: &mut String,
+    text: &mut String,
 ) -> Written
     requires { F.IsAlwaysCallable (asked_of_skin reader.now) }
 {
+    let mut line = Line::new(text);
     let matrices = reader.read_inverse_bind_matrices();
-    write_read("inverse_bind_matrices", matrices, line)
+    write_read("inverse_bind_matrices", matrices, &mut line);
+    line.finish()
 }
 
 /// Writes what each reader of a channel gives, behind its name.
 pub fn write_channel<'s, F: Fn(Buffer) -> Option<&'s [u8]>>(
     reader: &animation::Reader<'_, 's, F>,
-    line: &mut String,
+    text: &mut String,
 ) -> Written
     requires { F.IsAlwaysCallable (asked_of_channel reader.now) }
 {
-    write_read("inputs", reader.read_inputs(), line)?;
-    write_read("outputs", reader.read_outputs(), line)
+    let mut line = Line::new(text);
+    write_read("inputs", reader.read_inputs(), &mut line);
+    write_read("outputs", reader.read_outputs(), &mut line);
+    line.finish()
 }
 
 /// Writes the name of a reader and what it gives.
-fn write_read<T: Shown + Drop>(name: &str, read: T, line: &mut String) -> Written {
+fn write_read<T: Shown + Drop>(name: &str, read: T, line: &mut Line<'_>) {
     if !line.is_empty() {
-        line.push_str("; ")?;
+        line.push_str("; ");
     }
-    write_named(name, &read, line)
+    write_named(name, &read, line);
 }
 
 impl<T: Item + Debug> Shown for Iter<'_, T> {
     /// All items.
-    fn show(&self, line: &mut String) -> Written {
-        write_items(self.clone()?, line)
+    fn show(&self, line: &mut Line<'_>) {
+        if let Some(items) = line.kept(self.clone()) {
+            write_items(items, line);
+        }
     }
 }
 
 /// Writes the items that are left.
-pub(crate) fn write_items<I: Iterator + Drop>(items: I, line: &mut String) -> Written
+pub(crate) fn write_items<I: Iterator + Drop>(items: I, line: &mut Line<'_>)
 where
     I::Item: Debug + Drop,
     requires can { I.can_next items }
     requires ends { IsFinite (I.remaining items) }
 {
-    line.push_str("[")?;
+    line.push_str("[");
     let mut is_first = true;
     for item in items {
-        write_item(is_first, item, line)?;
+        write_item(is_first, item, line);
         is_first = false;
     }
-    line.push_str("]")
+    line.push_str("]");
 }
 
 /// Writes an item of a list.
-fn write_item<T: Debug + Drop>(is_first: bool, item: T, line: &mut String) -> Written {
+fn write_item<T: Debug + Drop>(is_first: bool, item: T, line: &mut Line<'_>) {
     if !is_first {
-        line.push_str(", ")?;
+        line.push_str(", ");
     }
-    write!(line, "{item:?}")
+    write!(line, "{item:?}");
 }
 
 /// Writes a name, and behind it what is read.
-pub(crate) fn write_named<T: Shown>(name: &str, read: &T, line: &mut String) -> Written {
-    write!(line, "{name} ")?;
-    read.show(line)
+pub(crate) fn write_named<T: Shown>(name: &str, read: &T, line: &mut Line<'_>) {
+    write!(line, "{name} ");
+    read.show(line);
 }
 
 impl Shown for ReadMorphTarget<'_> {
-    fn show(&self, line: &mut String) -> Written {
-        write_named("positions", &self.0, line)?;
-        write_named(", normals", &self.1, line)?;
-        write_named(", tangents", &self.2, line)
+    fn show(&self, line: &mut Line<'_>) {
+        write_named("positions", &self.0, line);
+        write_named(", normals", &self.1, line);
+        write_named(", tangents", &self.2, line);
     }
 }
 
 impl Shown for ReadColors<'_> {
-    fn show(&self, line: &mut String) -> Written {
+    fn show(&self, line: &mut Line<'_>) {
         match self {
             ReadColors::RgbU8(items) => write_named("RgbU8", items, line),
             ReadColors::RgbU16(items) => write_named("RgbU16", items, line),
@@ -135,7 +144,7 @@ impl Shown for ReadColors<'_> {
 }
 
 impl Shown for ReadIndices<'_> {
-    fn show(&self, line: &mut String) -> Written {
+    fn show(&self, line: &mut Line<'_>) {
         match self {
             ReadIndices::U8(items) => write_named("U8", items, line),
             ReadIndices::U16(items) => write_named("U16", items, line),
@@ -145,7 +154,7 @@ impl Shown for ReadIndices<'_> {
 }
 
 impl Shown for ReadJoints<'_> {
-    fn show(&self, line: &mut String) -> Written {
+    fn show(&self, line: &mut Line<'_>) {
         match self {
             ReadJoints::U8(items) => write_named("U8", items, line),
             ReadJoints::U16(items) => write_named("U16", items, line),
@@ -154,7 +163,7 @@ impl Shown for ReadJoints<'_> {
 }
 
 impl Shown for ReadTexCoords<'_> {
-    fn show(&self, line: &mut String) -> Written {
+    fn show(&self, line: &mut Line<'_>) {
         match self {
             ReadTexCoords::U8(items) => write_named("U8", items, line),
             ReadTexCoords::U16(items) => write_named("U16", items, line),
@@ -164,7 +173,7 @@ impl Shown for ReadTexCoords<'_> {
 }
 
 impl Shown for ReadWeights<'_> {
-    fn show(&self, line: &mut String) -> Written {
+    fn show(&self, line: &mut Line<'_>) {
         match self {
             ReadWeights::U8(items) => write_named("U8", items, line),
             ReadWeights::U16(items) => write_named("U16", items, line),
@@ -174,7 +183,7 @@ impl Shown for ReadWeights<'_> {
 }
 
 impl Shown for Rotations<'_> {
-    fn show(&self, line: &mut String) -> Written {
+    fn show(&self, line: &mut Line<'_>) {
         match self {
             Rotations::I8(items) => write_named("I8", items, line),
             Rotations::U8(items) => write_named("U8", items, line),
@@ -186,7 +195,7 @@ impl Shown for Rotations<'_> {
 }
 
 impl Shown for MorphTargetWeights<'_> {
-    fn show(&self, line: &mut String) -> Written {
+    fn show(&self, line: &mut Line<'_>) {
         match self {
             MorphTargetWeights::I8(items) => write_named("I8", items, line),
             MorphTargetWeights::U8(items) => write_named("U8", items, line),
@@ -198,13 +207,13 @@ impl Shown for MorphTargetWeights<'_> {
 }
 
 impl Shown for ReadOutputs<'_> {
-    fn show(&self, line: &mut String) -> Written {
+    fn show(&self, line: &mut Line<'_>) {
         match self {
             ReadOutputs::Translations(items) => write_named("Translations", items, line),
             ReadOutputs::Rotations(read) => write_named("Rotations", read, line),
             ReadOutputs::Scales(items) => write_named("Scales", items, line),
             ReadOutputs::MorphTargetWeights(read) => {
-                write_named("MorphTargetWeights", read, line)
+                write_named("MorphTargetWeights", read, line);
             }
         }
     }

@@ -2,6 +2,7 @@
 ghost use Rattle.std.specs.Prelude.{◌≡◌};
 
 use crate::kind::Kind;
+use crate::lists::element;
 use crate::valid::Valid;
 use gltf_validation::validate::Validate;
 
@@ -48,6 +49,6 @@ impl Records for Valid {
     }
 
     fn element<'l, T: Validate>(&self, list: &'l [T], index: usize) -> &'l T {
-        &list[index]
+        element(list, index)
     }
 }
