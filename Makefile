@@ -13,12 +13,18 @@ export GLTF_PREFIX := $(value PREFIX)
 export GLTF_FROM := $(value PWD)
 
 help:
-	@echo 'make show [CALL=chunks|check] [FILE=PATH]  chunks of a GLB file, or validates a file'
-	@echo 'make prove                                 proves and builds the programs'
-	@echo 'make c                                     proves, builds and tries the library for C'
-	@echo 'make install [PREFIX=FOLDER]               installs the proved programs and that library'
-	@echo 'make test                                  the gate: all proofs, and all tests'
-	@echo 'make wrong [NAME=CRATE]                    tries the wrong bodies beside the gate'
+	@echo 'For users'
+	@echo '  make show [CALL=chunks|check] [FILE=PATH]  shows the chunks of a GLB file, or checks a file'
+	@echo '  make prove                                 proves and builds the programs'
+	@echo '  make c                                     proves, builds and tests the library for C'
+	@echo '  make install [PREFIX=FOLDER]               installs the programs and that library'
+	@echo '  make reference                             writes out/reference/index.html'
+	@echo 'For a change'
+	@echo '  make check NAME=CRATE                      proves one crate and those it stands on'
+	@echo '  make case                                  runs the cases alone'
+	@echo '  make wrong [NAME=CRATE]                    tries the wrong bodies beside the gate'
+	@echo '  make bench [NAME=items|records|import|files|c]  runs the benchmarks'
+	@echo '  make test                                  the gate: all proofs and all tests'
 
 show:
 	@python3 tools/show.py
@@ -32,11 +38,29 @@ c:
 install:
 	@python3 tools/install.py
 
+reference:
+	@python3 tools/reference.py
+
+check: export GLTF_NAME := $(value NAME)
+check:
+	@test -n "$$GLTF_NAME" || { echo 'make check NAME=CRATE: NAME is missing' >&2; exit 2; }
+	@python3 tools/prove.py
+
+case:
+	@python3 tools/case.py
+
+# Each in turn. That of the library for C also wants CGLTF=FOLDER, as its script says.
+bench:
+	@for it in $(or $(NAME),items records import files); do \
+		echo "== $$it"; "benches/$$it/run.sh" || exit 1; \
+	done
+
 # What costs nothing comes first. Behind `rt ci` come the scripts that run the programs which it
 # built. The last line adds up all: `N passed, M failed`.
 test:
 	@tools/copies.sh
 	@python3 crates/gltf_cases/cases.py --check
+	@python3 tools/links.py
 	@python3 tools/trust.py
 	@python3 tools/edits.py
 	@python3 tools/gate.py
@@ -44,4 +68,4 @@ test:
 wrong:
 	@tools/wrong.sh $(NAME)
 
-.PHONY: help show prove c install test wrong
+.PHONY: help show prove c install reference check case bench test wrong

@@ -19,7 +19,8 @@
  * each call answers is said at the call, and is proved as it is said there.
  * NOT PROVED, but tested: that all memory is given back, and that this header agrees with the code.
  *
- * WHAT A CALLER HAS TO KEEP. None of it can be tested by the library.
+ * WHAT A CALLER HAS TO KEEP. The library tests none of it, not even for NULL: its functions take
+ * references, and of these nothing can be asked.
  *   1. No pointer is NULL, also where the size beside it is 0. A pointer to bytes points to as many
  *      as the size says, at most PTRDIFF_MAX. Nothing else writes them during the call.
  *   2. What a call writes to (`file`, `message`, `text`, `length`, `out`) overlaps nothing else
@@ -30,9 +31,10 @@
  *      by different threads.
  *   5. malloc, realloc and free are of one allocator, and align to 16. No call comes from a signal
  *      handler, nor from the forked child of a process with threads.
- *   6. The stack has room. No proof bounds it; 256 KiB were enough for every file that was tried,
- *      with 126 levels of JSON and with 200,000 broken rules, and 128 KiB were not.
- * A closed file is a good argument everywhere. Opening an open file lets go of what it held.
+ *   6. The stack has room: give a thread 512 KiB. No proof bounds it. The most that a file was seen
+ *      to take is some 240 KiB, for a material with all extensions; files with 126 levels of JSON
+ *      and with 200,000 broken rules take less.
+ * A closed file is a good argument everywhere. Opening an open file drops what it held.
  * Closing twice does nothing.
  *
  * Sizes and offsets are in bytes. Indices begin at 0 and follow the order in the file.
@@ -109,8 +111,9 @@ enum {
  * byte, and of 3 of two, are padded in a file to multiples of 4 bytes (glTF 2.0, section 3.6.2.4):
  * of these matrices the padding is read as numbers too. */
 typedef struct gltf_accessor {
-    size_t count;                /* items; of a sparse one without a view any number may stand, also
-                                    one of which count * item_size is no size_t */
+    size_t count;                /* items, as the file says it: of an accessor that cannot be read,
+                                    and of a sparse one without a view, any number, also one of
+                                    which count * item_size is no size_t */
     size_t item_size;            /* bytes of an item, 1 to 64: its components, with no padding */
     unsigned int component_type; /* GLTF_I8 .. GLTF_F32 */
     unsigned int components;     /* of an item: 1, 2, 3, 4, 9 or 16 */
@@ -183,7 +186,7 @@ typedef struct gltf_image {
 /* Opens a file from its `size` bytes: a GLB container where they begin with `glTF`, else JSON text
  * (glTF 2.0, sections 2.8, 3.6.1 and 4.4). Buffers stand in the BIN chunk and in data URIs; no
  * other file is read. What is needed is copied: the bytes may go after the call. What `file` held
- * before is let go.
+ * before is dropped.
  *
  * GLTF_SUCCESS exactly where container, text, records, rules and the buffers hold, and there was
  * memory: then `file` holds that document and those buffers, and no others are in the bytes. The
@@ -195,7 +198,9 @@ typedef struct gltf_image {
  *
  * `message` gets the text of the error, cut to `message_size` - 1 bytes, with a zero byte behind
  * it, or an empty text; with a size of 0 nothing is written. Where there was no memory for the text
- * it says just that, and the status is what it would have been. */
+ * it says just that, and the status is what it would have been. Two things are tested and not
+ * proved: which text it is where the file is no JSON (GLTF_BAD_JSON) or a payload no base64
+ * (GLTF_BAD_BASE64), and that there was no memory where the message says so. */
 gltf_status gltf_open(const void *bytes, size_t size, gltf_file *file, char *message,
                       size_t message_size);
 

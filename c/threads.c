@@ -1,5 +1,5 @@
-/* Opens, reads and closes a file of its own in each of some threads at once, some times: `threads
- * TIMES FILE`. It ends with 0 where each of them reads the same bytes. */
+/* Opens, reads and closes a file of its own in each of some threads at once, some times, on stacks
+ * of STACK bytes: `threads TIMES FILE`. It ends with 0 where each of them reads the same bytes. */
 #include "contents.h"
 #include "gltf.h"
 
@@ -52,13 +52,16 @@ static void *read_often(void *out)
 
 int main(int words, char **word)
 {
+    pthread_attr_t attributes;
     pthread_t thread[THREADS];
     unsigned long sum[THREADS] = { 0 };
     int i, wrong = 0;
     bytes = words == 3 ? contents_of(word[2], &size) : NULL;
     times = bytes == NULL ? 0 : atol(word[1]);
+    if (pthread_attr_init(&attributes) != 0 || pthread_attr_setstacksize(&attributes, STACK) != 0)
+        return 2;
     for (i = 0; i < THREADS; i++)
-        if (pthread_create(&thread[i], NULL, read_often, &sum[i]) != 0)
+        if (pthread_create(&thread[i], &attributes, read_often, &sum[i]) != 0)
             return 2;
     for (i = 0; i < THREADS; i++)
         wrong |= pthread_join(thread[i], NULL) != 0 || sum[i] == 0 || sum[i] != sum[0];

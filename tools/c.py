@@ -1,9 +1,10 @@
 #!/usr/bin/env python3
 """Builds the static library for C and tries it: `make c`, and, behind `rt ci`, `make test`.
 
-The prover proves `crates/gltf_c` before a byte of it is built. `out/c/libgltf.a` is that library
-and the few lines of the toolchain over malloc, joined, and shows the exports alone. With the word
-`behind-ci` it stands on the libraries as `rt ci` left them, and proves none of them again.
+The prover proves `crates/gltf_c` before a byte of it is built: the exports, over the calls in
+`crates/gltf_calls`. `out/c/libgltf.a` is that library and the few lines of the toolchain over
+malloc, joined, and shows the exports alone. With the word `behind-ci` it stands on the libraries as
+`rt ci` left them, and proves none of them again but the exports.
 
 A test whose tool is not there is told as not tried. The last line is `N passed, M failed`, and a
 test that was not tried is neither."""
@@ -22,13 +23,15 @@ import crates
 import programs
 
 CRATE = crates.TOP / "crates" / "gltf_c"
+# What has the code that C sees: the exports, and the types that they take.
+SOURCES = (CRATE, crates.TOP / "crates" / "gltf_calls")
 C = crates.TOP / "c"
 OUT = crates.TOP / "out" / "c"
 LIBRARY = OUT / "libgltf.a"
 FILES = [os.fspath(crates.TOP / "examples" / name) for name in
          ("box.glb", "triangle.gltf", "dangling.gltf")]
-RIG = os.fspath(C / "rig.gltf")
-FINE = [*FILES[:2], RIG]
+RIG, SURFACE = os.fspath(C / "rig.gltf"), os.fspath(C / "surface.gltf")
+FINE = [*FILES[:2], RIG, SURFACE]
 # A file that is refused, and the message.
 REFUSED, MESSAGE = FILES[2], programs.DANGLING.rstrip("\n")
 # How many mutated copies of each file are tried, by the sanitizers and by valgrind.
@@ -73,7 +76,8 @@ def kit():
 
 
 def source():
-    return "".join(file.read_text() for file in sorted((CRATE / "src").rglob("*.rt")))
+    files = [file for crate in SOURCES for file in sorted((crate / "src").rglob("*.rt"))]
+    return "".join(file.read_text("utf-8") for file in files)
 
 
 def exports():
@@ -245,16 +249,30 @@ def lists_what_the_files_hold():
     assert ran(program, *FINE, REFUSED) == wanted
 
 
-def a_stack_of_256_kib_is_enough():
+def stack():
+    """How many KiB of stack the header asks for."""
+    return int(re.search(r"give a thread (\d+) KiB", (C / "gltf.h").read_text("utf-8"))[1])
+
+
+def is_enough(program, file, kib):
+    """Whether a program reads a file with a stack of so many KiB."""
+    limit = (kib * 1024, kib * 1024)
+    how = {"preexec_fn": lambda: resource.setrlimit(resource.RLIMIT_STACK, limit)}
+    return subprocess.run([program, file], stdout=subprocess.DEVNULL, **how).returncode == 0
+
+
+def a_stack_has_a_quarter_to_spare():
     levels, rules = "[" * 125 + "]" * 125, ",".join(['{"mesh":3}'] * 200_000)
     texts = {"deep": f'"extras":{levels}', "broken": f'"nodes":[{rules}]'}
     for name, member in texts.items():
         (OUT / f"{name}.gltf").write_text(f'{{"asset":{{"version":"2.0"}},{member}}}')
-    files = [*FILES, RIG, *(OUT / f"{name}.gltf" for name in texts)]
-    size, program = 256 * 1024, built("list", "-std=c89")
+    files = [*FILES, RIG, SURFACE, *(os.fspath(OUT / f"{name}.gltf") for name in texts)]
+    program, most = built("list", "-std=c89"), stack() * 3 // 4
     for file in files:
-        ran(program, file,
-            preexec_fn=lambda: resource.setrlimit(resource.RLIMIT_STACK, (size, size)))
+        enough = (kib for kib in range(64, most + 1, 16) if is_enough(program, file, kib))
+        least = next(enough, None)
+        assert least, f"{file} takes more than {most} KiB of stack"
+        print(f"{pathlib.Path(file).name}: {least} KiB of stack")
 
 
 def mutated_files_break_nothing():
@@ -270,14 +288,18 @@ def valgrind_sees_no_error():
         str(TIMES_BY_VALGRIND), *FILES, RIG)
 
 
+def threads():
+    return built("threads", "-pthread", f"-DSTACK={stack() * 1024}")
+
+
 def threads_have_files_of_their_own():
-    ran(built("threads", "-pthread"), "200", FILES[0])
+    for file in (FILES[0], SURFACE):
+        ran(threads(), "200", file)
 
 
 def helgrind_sees_no_race():
     need("valgrind")
-    program = built("threads", "-pthread")
-    ran("valgrind", "-q", "--tool=helgrind", "--error-exitcode=9", program, "2", FILES[0])
+    ran("valgrind", "-q", "--tool=helgrind", "--error-exitcode=9", threads(), "2", FILES[0])
 
 
 def each_growth_is_refused_in_turn():
@@ -341,7 +363,7 @@ def install(prefix):
 TESTS = (
     [shows_exports_alone], [header_says_what_the_code_has],
     *([shows_by, compiler] for compiler in LANGUAGES),
-    [lists_what_the_files_hold], [a_stack_of_256_kib_is_enough], [mutated_files_break_nothing],
+    [lists_what_the_files_hold], [a_stack_has_a_quarter_to_spare], [mutated_files_break_nothing],
     [valgrind_sees_no_error], [threads_have_files_of_their_own], [helgrind_sees_no_race],
     [each_growth_is_refused_in_turn], [links_from_rust],
     [is_found_by, "pkg-config"], [is_found_by, "cmake"],

@@ -7,6 +7,7 @@ import os
 import pathlib
 import resource
 import signal
+import stat
 import struct
 import subprocess
 import sys
@@ -199,20 +200,49 @@ FULL = [
 REPACK_USAGE = Begins("usage: gltf_repack IN OUT\n")
 # What the text `{}` is repacked as.
 PACKED = container(chunk(b"JSON", b"{}  "))
+WHOLE_FILE = "{}: 24 bytes\n".format
+NO_FILE = "{}: not a regular file\n".format
+# The words, the status, the output, what is told of a refusal, and what the call changes.
 REPACKS = [
-    (["in.gltf", "out.glb"], 0, "out.glb: 24 bytes\n", ""),
-    (["out.glb", "out.glb"], 0, "out.glb: 24 bytes\n", ""),
-    (["old.glb", "out.glb"], 1, "", "unsupported version\n"),
-    (["no.gltf", "out.glb"], 1, "", None),
-    (["in.gltf", "folder"], 1, "", Failed("folder.part")),
-    (["in.gltf", "no/out.glb"], 1, "", Failed("no/out.glb.part")),
-    (["in.gltf", "mine.glb"], 1, "", Failed("mine.glb.part")),
-    ([], 2, "", REPACK_USAGE),
-    (["in.gltf"], 2, "", REPACK_USAGE),
-    (["in.gltf", "out.glb", "out.glb"], 2, "", REPACK_USAGE),
+    (["in.gltf", "out.glb"], 0, WHOLE_FILE("out.glb"), "", {"out.glb": ("-rw-r--r--", PACKED)}),
+    (["out.glb", "out.glb"], 0, WHOLE_FILE("out.glb"), "", {}),
+    (["in.gltf", "private.glb"], 0, WHOLE_FILE("private.glb"), "",
+     {"private.glb": ("-rw-------", PACKED)}),
+    (["in.gltf", "shared.glb"], 0, WHOLE_FILE("shared.glb"), "",
+     {"shared.glb": ("-rw-rw-rw-", PACKED)}),
+    (["in.gltf", "read_only.glb"], 0, WHOLE_FILE("read_only.glb"), "",
+     {"read_only.glb": ("-r--r-----", PACKED)}),
+    (["in.gltf", "link.glb"], 0, WHOLE_FILE("link.glb"), "",
+     {"linked.glb": ("-rw-------", PACKED)}),
+    (["old.glb", "private.glb"], 1, "", "unsupported version\n", {}),
+    (["no.gltf", "out.glb"], 1, "", Failed("no.gltf"), {}),
+    (["folder", "out.glb"], 1, "", Failed("folder"), {}),
+    (["locked", "out.glb"], 1, "", Failed("locked"), {}),
+    (["in.gltf", "folder"], 1, "", NO_FILE("folder"), {}),
+    (["in.gltf", "pipe"], 1, "", NO_FILE("pipe"), {}),
+    (["in.gltf", "folder_link"], 1, "", NO_FILE("folder_link"), {}),
+    (["in.gltf", "/dev/null"], 1, "", NO_FILE("/dev/null"), {}),
+    (["in.gltf", "dangling.glb"], 1, "", Failed("dangling.glb"), {}),
+    (["in.gltf", "out.glb/"], 1, "", Failed("out.glb/"), {}),
+    (["in.gltf", "no/out.glb"], 1, "", Failed("no/out.glb.part"), {}),
+    (["in.gltf", "mine.glb"], 1, "", Failed("mine.glb.part"), {}),
+    ([], 2, "", REPACK_USAGE, {}),
+    (["in.gltf"], 2, "", REPACK_USAGE, {}),
+    (["in.gltf", "out.glb", "out.glb"], 2, "", REPACK_USAGE, {}),
 ]
-# What stands in the folder behind each of these calls.
-REPACKED = {"in.gltf": b"{}", "old.glb": OLD, "mine.glb.part": b"mine", "out.glb": PACKED}
+NOT_TEXT = [b"chunks", b"\xff"]
+
+
+def make_repacked(room):
+    """The folder that `gltf_repack` is called in."""
+    files = {"in.gltf": b"{}", "old.glb": OLD, "mine.glb.part": b"mine", "locked": b"{}"}
+    modes = {"private.glb": 0o600, "shared.glb": 0o666, "read_only.glb": 0o440, "linked.glb": 0o600}
+    make(room, files | {name: b"before" for name in modes})
+    for name, mode in modes.items():
+        (room / name).chmod(mode)
+    for link, name in ("link.glb", "linked.glb"), ("folder_link", "folder"), ("dangling.glb", "no"):
+        (room / link).symlink_to(name)
+    os.mkfifo(room / "pipe")
 
 
 def make(room, files):
@@ -227,15 +257,23 @@ def make(room, files):
         (room / "locked").chmod(0)
 
 
-def files_in(room):
-    """The files that stand in a folder, and those in it not."""
-    return {file.name: file.read_bytes() for file in room.iterdir() if file.is_file()}
+def state(room):
+    """What stands in a folder: of each name the kind and the mode, and the bytes of a file, or
+    where a link leads."""
+    found = {}
+    for file in room.iterdir():
+        mode = file.lstat().st_mode
+        may_read = stat.S_ISREG(mode) and mode & stat.S_IRUSR
+        held = file.read_bytes() if may_read else None
+        found[file.name] = (stat.filemode(mode), os.readlink(file) if file.is_symlink() else held)
+    return found
 
 
 def started(limit=None):
     """What a program's process does first: it takes no more rights than nobody has, and may write
     no file that is longer than the limit."""
     def start():
+        os.umask(0o022)
         if limit is not None:
             signal.signal(signal.SIGXFSZ, signal.SIG_IGN)
             resource.setrlimit(resource.RLIMIT_FSIZE, (limit, limit))
@@ -256,8 +294,7 @@ def answers(program, room, words, status, out, told):
     """Whether a call answers so."""
     how = {"cwd": room, "capture_output": True, "text": True, "encoding": "utf-8"}
     ran = subprocess.run([program, *words], preexec_fn=started(), **how)
-    said = ran.stderr != "" if told is None else told == ran.stderr
-    good = ran.returncode == status and ran.stdout == out and said
+    good = ran.returncode == status and ran.stdout == out and told == ran.stderr
     return tell(program.name, words, good, ran)
 
 
@@ -272,13 +309,22 @@ def ends_where_full(program, room, words, taken):
     return tell(program.name, words, good, ran)
 
 
-def leaves(program, room, row):
-    """Whether a call answers as its row says, and leaves the folder as it has to be."""
-    good = answers(program, room, *row)
-    left = files_in(room)
-    if left != REPACKED:
-        print(f"{program.name}: FAILED: the folder has {sorted(left)}")
-    return good and left == REPACKED
+def leaves(program, room, words, status, out, told, changed):
+    """Whether a call answers so, and changes no more in the folder than this."""
+    wanted = state(room) | changed
+    good = answers(program, room, words, status, out, told)
+    left = state(room)
+    if left != wanted:
+        print(f"{program.name}: FAILED: the folder has {left}")
+    return good and left == wanted
+
+
+def takes_text_alone(program, room):
+    """Whether words that are no UTF-8 are refused with 2 and a line that says so."""
+    ran = subprocess.run([program, *NOT_TEXT], cwd=room, capture_output=True, preexec_fn=started())
+    told = f"{program.name}: the words have to be UTF-8\n".encode()
+    good = (ran.returncode, ran.stdout, ran.stderr) == (2, b"", told)
+    return tell(program.name, ["no text"], good, ran)
 
 
 def takes_no_line(program, room):
@@ -287,7 +333,7 @@ def takes_no_line(program, room):
     with open("/dev/full", "wb") as full:
         how = {"cwd": room, "stdout": full, "stderr": subprocess.DEVNULL}
         ran = subprocess.run([program, "in.gltf", "out.glb"], preexec_fn=started(), **how)
-    good = ran.returncode == 1 and files_in(room) == REPACKED
+    good = ran.returncode == 1 and state(room)["out.glb"] == ("-rw-r--r--", PACKED)
     return tell(program.name, ["in.gltf", "out.glb"], good, ran)
 
 
@@ -309,9 +355,10 @@ def main():
         good = [answers(show, room, *row) for row in SHOWS]
         good += [ends_where_full(show, room, *row) for row in FULL]
         room = place / "repacked"
-        make(room, {name: REPACKED[name] for name in ("in.gltf", "old.glb", "mine.glb.part")})
-        good += [leaves(repack, room, row) for row in REPACKS]
+        make_repacked(room)
+        good += [leaves(repack, room, *row) for row in REPACKS]
         good.append(takes_no_line(repack, room))
+        good += [takes_text_alone(program, room) for program in (show, repack)]
     print(f"{sum(good)} passed, {len(good) - sum(good)} failed")
     return 0 if all(good) else 1
 

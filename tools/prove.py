@@ -1,6 +1,7 @@
 #!/usr/bin/env python3
 """Proves and builds the programs for users and each crate that they stand on, lowest first:
-`make prove`.
+`make prove`. With GLTF_NAME, which names a crate, it proves that one and those that it stands on,
+and runs its tests: `make check NAME=CRATE`.
 
 It prints a line for each crate on standard error. What the prover says goes to a log, which is
 named where it fails."""
@@ -26,32 +27,55 @@ def say(text, end="\n"):
     print(text, end=end, file=sys.stderr, flush=True)
 
 
-def prove(crate, log):
-    """Whether a crate is proved and built; that of a program is run once, on a file of the
-    examples."""
-    words = ["rt", "run", "--", *WORDS[crate]] if crate in WORDS else ["rt", "lib"]
+def calls(crate, asked):
+    """What rt is called with in a crate: a program for users is built and run once, on a file of
+    the examples, a library is built, and the crate that is asked for is checked, and its tests
+    run."""
+    if crate == asked:
+        return [["check"], ["test"]] if has_tests(crate) else [["check"]]
+    return [["run", "--", *WORDS[crate]] if crate in WORDS else ["lib"]]
+
+
+def has_tests(crate):
+    sources = (crates.TOP / "crates" / crate / "src").rglob("*.rt")
+    return any("#[test]" in file.read_text(encoding="utf-8") for file in sources)
+
+
+def prove(crate, asked, log):
+    """Whether a crate is proved."""
     how = {
         "cwd": crates.TOP / "crates" / crate,
         "stdin": subprocess.DEVNULL,
         "stdout": log,
         "stderr": log,
     }
-    return subprocess.run(words, **how).returncode == 0
+    return all(subprocess.run(["rt", *it], **how).returncode == 0 for it in calls(crate, asked))
+
+
+def prove_all(order, asked, log):
+    """Whether crates are proved, each behind those that it stands on."""
+    for place, crate in enumerate(order, 1):
+        say(f"[{place}/{len(order)}] {crate} ", end="")
+        begun = time.monotonic()
+        if not prove(crate, asked, log):
+            say("failed")
+            say(f"{crate} is not proved; what the prover says of it ends {LOG}")
+            return False
+        say(f"proved ({time.monotonic() - begun:.0f} s)")
+    return True
 
 
 def main():
-    order = crates.below(*crates.PROGRAMS)
+    asked = os.environ.get("GLTF_NAME")
+    if asked and asked not in crates.listed():
+        say(f"make check: there is no crate {asked}: NAME is one of {' '.join(crates.listed())}")
+        return 2
+    order = crates.below(asked) if asked else crates.below(*crates.PROGRAMS)
     LOG.parent.mkdir(exist_ok=True)
     with open(LOG, "wb") as log:
-        for place, crate in enumerate(order, 1):
-            say(f"[{place}/{len(order)}] {crate} ", end="")
-            begun = time.monotonic()
-            if not prove(crate, log):
-                say("failed")
-                say(f"make prove: {crate} is not proved; what the prover says of it ends {LOG}")
-                return 1
-            say(f"proved ({time.monotonic() - begun:.0f} s)")
-    for program in crates.PROGRAMS:
+        if not prove_all(order, asked, log):
+            return 1
+    for program in () if asked else crates.PROGRAMS:
         # It may have been built before, of the same text: rt has just found that it is of these
         # sources.
         os.utime(crates.program(program))

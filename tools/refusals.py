@@ -1,12 +1,14 @@
 #!/usr/bin/env python3
-"""Runs the proved program of crate `gltf_refusals` on each of its rows: once, and once for each
-growth of memory, with that growth refused. The answer of each run is the row's own, which the
-crate's `stdout` has, or that there was not enough memory.
+"""Runs the proved program `gltf_cases` on each case of its table `growths`: once, and once for each
+growth of memory, with that growth refused. Each run gives the answer that the crate's `stdout` has,
+or says that there was not enough memory. A last case has more items than any memory holds: each of
+its growths that is refused ends the run.
 
 `rt ci` leaves the program; a file beside this one stands in front of `malloc` and `realloc`. The
-last line is `N passed, M failed`: a row passes where each of its runs does.
+last line is `N passed, M failed`: a case passes where each of its runs does.
 
-    refusals.py [ROW..]     these rows, or all"""
+    refusals.py [NUMBER..]     these cases of the table, counted from 1, or all"""
+import json
 import os
 import pathlib
 import subprocess
@@ -14,9 +16,13 @@ import sys
 import tempfile
 
 TOP = pathlib.Path(__file__).resolve().parent.parent
-CRATE = TOP / "crates" / "gltf_refusals"
-PROGRAM = CRATE / "out" / "gltf_refusals"
+CRATE = TOP / "crates" / "gltf_cases"
+PROGRAM = CRATE / "out" / "gltf_cases"
+TABLE = "growths.txt"
 OUT_OF_MEMORY = "out of memory"
+NO_COPY = ", and there is no memory for a copy"
+# How the program says that it ended for want of memory, where no line has room for it.
+ENDED = ("Memory", "OutOfMemory")
 
 
 def clang():
@@ -25,69 +31,115 @@ def clang():
     return pathlib.Path(page.split()[-1]).parent / "toolchain" / "bin" / "clang"
 
 
-def rows():
-    """The name of each row, and what it writes."""
-    lines = (CRATE / "stdout").read_text(encoding="utf-8").splitlines()
-    return {line.partition(":")[0]: line for line in lines}
+def cases():
+    """The cases of the table, and their answers."""
+    asked = (CRATE / "data" / TABLE).read_text(encoding="utf-8").splitlines()
+    answers = (CRATE / "stdout").read_text(encoding="utf-8").splitlines()
+    first = answers.index(TABLE) + 1
+    return list(zip(asked, answers[first : first + len(asked)], strict=True))
 
 
-def shim(folder):
-    """The library that refuses growths."""
-    library = os.path.join(folder, "refuse.so")
-    source = TOP / "tools" / "refuse.c"
-    words = [clang(), "-O1", "-shared", "-fPIC", "-nostdlib", "-fuse-ld=lld", "-o", library, source]
-    subprocess.run(words, check=True)
-    return library
+def endless(count):
+    """A case that writes so many items: a sparse accessor without a view needs no bytes."""
+    view = {"bufferView": 0, "componentType": 5121}
+    sparse = {"count": 1, "indices": view, "values": {"bufferView": 0}}
+    accessor = {"componentType": 5121, "count": count, "type": "SCALAR", "sparse": sparse}
+    document = {
+        "asset": {"version": "2.0"},
+        "buffers": [{"byteLength": 1}],
+        "bufferViews": [{"buffer": 0, "byteLength": 1}],
+        "accessors": [accessor],
+        "meshes": [{"primitives": [{"attributes": {}, "indices": 0}]}],
+    }
+    return f"cast +00 indices into_u32 : {json.dumps(document, separators=(',', ':'))}"
 
 
-def run(library, row, growth):
-    """What the program writes last on a row with a growth refused, its status, and the number of
-    growths."""
-    told = subprocess.run(
-        [PROGRAM, row],
-        env={"LD_PRELOAD": library, "REFUSE_AT": str(growth), "REFUSE_COUNT": "1"},
-        stdin=subprocess.DEVNULL,
-        capture_output=True,
-        timeout=60,
-    )
-    wrote = told.stdout.decode(errors="replace").splitlines()
-    counted = told.stderr.decode(errors="replace").rpartition("growths=")[2]
-    growths = int(counted) if counted.strip().isdigit() else None
-    return (wrote, told.returncode), growths
+class Runs:
+    """Runs of the program on one case, each with a growth refused."""
+
+    def __init__(self, folder):
+        self.file = os.path.join(folder, "case.txt")
+        self.library = os.path.join(folder, "refuse.so")
+        source = TOP / "tools" / "refuse.c"
+        words = ["-O1", "-shared", "-fPIC", "-nostdlib", "-fuse-ld=lld", "-o", self.library, source]
+        subprocess.run([clang(), *words], check=True)
+        self.count = 0
+
+    def run(self, growth):
+        """What the program writes with a growth refused, its status, what it says of an error, and
+        the number of growths."""
+        self.count += 1
+        told = subprocess.run(
+            [PROGRAM, self.file],
+            cwd=CRATE / "data",
+            env={"LD_PRELOAD": self.library, "REFUSE_AT": str(growth), "REFUSE_COUNT": "1"},
+            stdin=subprocess.DEVNULL,
+            capture_output=True,
+            timeout=60,
+        )
+        error, _, counted = told.stderr.decode(errors="replace").rpartition("growths=")
+        growths = int(counted) if counted.strip().isdigit() else None
+        lines = told.stdout.decode(errors="replace").splitlines()
+        if lines[:1] == [self.file]:
+            lines = lines[1:]
+        return lines, told.returncode, error.strip(), growths
+
+    def faults(self, case, answer, growths=None):
+        """What is wrong with the runs on a case: one without a growth refused, but where its number
+        of growths is given, and one for each growth."""
+        pathlib.Path(self.file).write_text(case + "\n", encoding="utf-8")
+        if growths is None:
+            lines, status, error, growths = self.run(0)
+            if (lines, status) != ([answer], 0) or not growths:
+                return [f"{case[:80]}: {lines} {error}, with {growths} growths, and not {answer!r}"]
+        faults = []
+        for growth in range(1, growths + 1):
+            lines, status, error, _ = self.run(growth)
+            if not is_answer(lines, status, error, answer):
+                told = f"{lines} {status} {error}"
+                faults.append(f"{case[:80]}, growth {growth} of {growths} refused: {told[:300]}")
+        return faults
 
 
-def faults_of(library, row, answer):
-    """What is wrong with a row's runs, and how many there were."""
-    told, growths = run(library, row, 0)
-    if told != ([answer], 0) or not growths:
-        return [f"{row} answers {told}, with {growths} growths, and not {answer!r}"], 1
-    refused = ([f"{row}: {OUT_OF_MEMORY}"], 1), ([OUT_OF_MEMORY], 1)
-    faults = []
-    for growth in range(1, growths + 1):
-        told, _ = run(library, row, growth)
-        if told != ([answer], 0) and told not in refused:
-            faults.append(f"{row}, growth {growth} of {growths} refused: {told}")
-    return faults, growths + 1
+def is_answer(lines, status, error, answer):
+    """Whether this is the case's own answer, or says that there was not enough memory: in the line,
+    behind a beginning of the answer; or in the end of the program, with no line."""
+    if status or not lines:
+        return not lines and status == 1 and any(word in error for word in ENDED)
+    line = lines[0].replace(NO_COPY, "")
+    begun, found, _ = line.partition(OUT_OF_MEMORY)
+    is_own = line == answer or bool(found) and answer is not None and answer.startswith(begun)
+    return len(lines) == 1 and not error and is_own
 
 
-def main(names):
+def main(words):
     if not PROGRAM.exists():
         print(f"{PROGRAM} is not there: rt ci builds it")
         print("0 passed, 1 failed")
         return 1
-    known = rows()
-    failed = runs = 0
+    known = cases()
+    chosen = [known[int(word) - 1] for word in words] or known
     with tempfile.TemporaryDirectory() as folder:
-        library = shim(folder)
-        for row in names or known:
-            faults, count = faults_of(library, row, known.get(row))
-            runs += count
-            failed += bool(faults)
-            for fault in faults:
-                print(fault)
-    print(f"each growth refused in turn: {runs} runs")
-    print(f"{len(names or known) - failed} passed, {failed} failed")
+        runs = Runs(folder)
+        results = [runs.faults(case, answer) for case, answer in chosen]
+        if not words:
+            results.append(of_endless(runs))
+    for fault in sum(results, []):
+        print(fault)
+    failed = sum(map(bool, results))
+    print(f"each growth refused in turn: {runs.count} runs")
+    print(f"{len(results) - failed} passed, {failed} failed")
     return 1 if failed else 0
+
+
+def of_endless(runs):
+    """What is wrong where a case without end has as many growths refused as one of three items has
+    in all: each of them ends it."""
+    pathlib.Path(runs.file).write_text(endless(3) + "\n", encoding="utf-8")
+    lines, status, error, growths = runs.run(0)
+    if (lines, status) != (["into_u32 [0, 0, 0]"], 0) or not growths:
+        return [f"three items: {lines} {status} {error}"]
+    return runs.faults(endless(2**64 - 1), None, growths)
 
 
 sys.exit(main(sys.argv[1:]))

@@ -43,7 +43,7 @@ EXAMPLES = HERE.parent.parent / "examples"
 # The tables in the order in which the program reads them.
 TABLES = """containers imports faults rules documents geometry meshes materials scenes animations
     items walks iterators lists looks surfaces primitives nodes channels reads uris payloads
-    repacked files examples memory""".split()
+    repacked files streams named examples memory growths""".split()
 # Of the examples, each under its name without its folder.
 FILES = (
     "box.glb",

@@ -12,8 +12,8 @@ use Rattle.gltf_json.specs.Alike.{AreAlikeInEachMember}
 use Rattle.gltf_json.specs.Documents.{root}
 use Rattle.gltf_json.specs.declared.root.Root.{Root}
 use Rattle.gltf_names.specs.Named.{Named}
-use Rattle.gltf_uri.specs.Uri.{Meaning, uri_of}
-use Rattle.gltf_uri.specs.Uri as uri
+use Rattle.gltf_buffers.specs.Uri.{Meaning, uri_of}
+use Rattle.gltf_buffers.specs.Uri as uri
 use Rattle.gltf_buffers.specs.Buffers.{Source, BufferFault, source_of, sources_of, bytes_outside}
 use Rattle.gltf_buffers.specs.Buffers.{meant_bytes, raw_bytes, filled_bytes, checked_bytes}
 use Rattle.gltf_buffers.specs.Buffers.{bytes_of, name_at, IsBytesOf, blob_for, AreBytes}

@@ -3,8 +3,8 @@ use Rattle.std.proofs.Common.{◌≡◌, ℕ, List, Vec, Global, Result, Ok, Err
 use Rattle.std.specs.Prelude.{Some, IfOk}
 use Rattle.gltf_glb.specs.declared.error.Error.{Error}
 use Rattle.gltf_names.specs.Named.{Named}
-use Rattle.gltf_uri.specs.Uri.{Meaning}
-use Rattle.gltf_uri.specs.Uri as uri
+use Rattle.gltf_buffers.specs.Uri.{Meaning}
+use Rattle.gltf_buffers.specs.Uri as uri
 use Rattle.gltf_buffers.specs.Names.{Names, Nowhere, Anywhere, Held, Gives, MayBeGiven, name_of}
 use Rattle.gltf_buffers.specs.Buffers.{IsMeant, meant_bytes}
 

@@ -1,2 +1,6 @@
+pub mod Prefixes
+pub mod Cuts
+pub mod Firsts
+pub mod Texts
 pub mod Asked
 pub mod Buffers

@@ -7,9 +7,9 @@ use Rattle.base64.specs.declared.decode.DecodeError.{DecodeError}
 use Rattle.gltf_json.specs.declared.root.Root.{Root}
 use Rattle.gltf_json_geometry.specs.declared.buffer.Buffer.{Buffer}
 use Rattle.gltf_names.specs.Named.{Named}
-use Rattle.gltf_payload.specs.Padding.{padded}
-use Rattle.gltf_payload.specs.Payload.{payload_bytes}
-use Rattle.gltf_uri.specs.Uri.{Meaning, Payload, File, Relative, Unsupported, uri_of}
+use Rattle.gltf_buffers.specs.Padding.{padded}
+use Rattle.gltf_buffers.specs.Payload.{payload_bytes}
+use Rattle.gltf_buffers.specs.Uri.{Meaning, Payload, File, Relative, Unsupported, uri_of}
 use Rattle.gltf_buffers.specs.Names.{Names, CanBeAsked, MayBeGiven, name_of}
 
 -- where the bytes of a buffer are, and how many it declares

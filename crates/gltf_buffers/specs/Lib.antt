@@ -1,3 +1,8 @@
+pub mod Uri
+pub mod Meanings
+pub mod UriLaws
+pub mod Payload
+pub mod Padding
 pub mod Names
 pub mod Buffers
 pub mod Errors

@@ -4,7 +4,7 @@ use Rattle.std.specs.Prelude.{◌≡◌, ℕ, List, Option, Some, None, IsSome, 
 use Rattle.std.specs.Borrow.{MutBor}
 use Rattle.std.proofs.Common.{inl, inr}
 use Rattle.gltf_names.specs.Named.{Named, File, Relative}
-use Rattle.gltf_uri.specs.Uri as uri
+use Rattle.gltf_buffers.specs.Uri as uri
 
 -- no name can be asked for; names can, and nothing is known of what they hold; or each holds this
 pub data Names : Type 0 where
@@ -48,27 +48,30 @@ name_of (uri.File text) = Some (File text)
 name_of (uri.Relative text) = Some (Relative text)
 name_of uri.Unsupported = None
 
--- what is known of the names of a source that may be absent
-abbrev pub names_in : {S : Type 0} → (S → Option (Named → Option (List ℕ))) → Option (MutBor S)
-    → Names
-names_in held None = Nowhere
-names_in held (Some source) = names_of (held source.now)
-
--- the failures of such a source
-abbrev pub failures_in : {S : Type 0} → (S → List Named) → Option (MutBor S) → List Named
-failures_in failures None = []
-failures_in failures (Some source) = failures source.now
+-- what is seen of a source that may be absent: this where it is
+abbrev pub seen_in : {S A : Type 0} → A → (S → A) → Option (MutBor S) → A
+seen_in absent see None = absent
+seen_in absent see (Some source) = see source.now
 
 -- the same when a call has returned
-abbrev pub failures_left : {S : Type 0} → (S → List Named)
-    → Unit {0} ⊎ ((MutBor S × Unit {0}) ⊎ ⊥) → List Named
-failures_left failures (inl none) = []
-failures_left failures (inr (inl source)) = failures source.0.now
-failures_left failures (inr (inr never)) = absurd never
+abbrev pub seen_left : {S A : Type 0} → A → (S → A) → Unit {0} ⊎ ((MutBor S × Unit {0}) ⊎ ⊥) → A
+seen_left absent see (inl none) = absent
+seen_left absent see (inr (inl source)) = see source.0.now
+seen_left absent see (inr (inr never)) = absurd never
 
--- what is known of the names of such a source then
+-- what is known of the names of such a source
+abbrev pub names_in : {S : Type 0} → (S → Option (Named → Option (List ℕ))) → Option (MutBor S)
+    → Names
+names_in held = seen_in Nowhere (λ source. names_of (held source))
+
 abbrev pub names_left : {S : Type 0} → (S → Option (Named → Option (List ℕ)))
     → Unit {0} ⊎ ((MutBor S × Unit {0}) ⊎ ⊥) → Names
-names_left held (inl none) = Nowhere
-names_left held (inr (inl source)) = names_of (held source.0.now)
-names_left held (inr (inr never)) = absurd never
+names_left held = seen_left Nowhere (λ source. names_of (held source))
+
+-- the names whose reads failed, of such a source
+abbrev pub failures_in : {S : Type 0} → (S → List Named) → Option (MutBor S) → List Named
+failures_in = seen_in []
+
+abbrev pub failures_left : {S : Type 0} → (S → List Named)
+    → Unit {0} ⊎ ((MutBor S × Unit {0}) ⊎ ⊥) → List Named
+failures_left = seen_left []

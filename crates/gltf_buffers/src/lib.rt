@@ -4,8 +4,10 @@
 
 mod asking;
 mod data;
+pub mod payload;
 mod reading;
 mod reference;
+pub mod uri;
 
 pub use asking::{Ask, NoNames};
 pub use data::Data;

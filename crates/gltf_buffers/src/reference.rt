@@ -6,13 +6,14 @@ ghost use Rattle.gltf_buffers.specs.Buffers.{filled_bytes};
 ghost use Rattle.gltf_buffers.specs.Errors.{FailsOrNames, IsNotTaken};
 ghost use Rattle.gltf_buffers.specs.Names.{CanBeAsked, name_of};
 ghost use Rattle.gltf_buffers.specs.Shown.{blob_bytes};
-ghost use Rattle.gltf_uri.specs.Uri.{uri_of};
+ghost use Rattle.gltf_buffers.specs.Uri.{uri_of};
 
 use crate::asking::Ask;
 use crate::data::Data;
+use crate::payload;
+use crate::uri::Uri;
 use gltf_glb::{Error, Result};
 use gltf_names::Name;
-use gltf_uri::Uri;
 use std::alloc::Global;
 
 /// The bytes that a URI leads to, or the blob where there is none, with zeros behind them. Where
@@ -38,7 +39,7 @@ pub(crate) fn data_of<N: Ask>(
     match uri {
         Some(uri) => {
             let mut bytes = bytes_behind(alloc, uri, names)?;
-            gltf_payload::pad_to_four(&mut bytes)?;
+            payload::pad_to_four(&mut bytes)?;
             Ok(Data(bytes))
         }
         None => taken(blob),
@@ -74,7 +75,7 @@ fn taken(blob: &mut Option<Vec<u8>>) -> Result<Data>
     let Some(mut bytes) = blob.take() else {
         return Err(Error::MissingBlob);
     };
-    match gltf_payload::pad_to_four(&mut bytes) {
+    match payload::pad_to_four(&mut bytes) {
         Ok(()) => Ok(Data(bytes)),
         Err(_) => {
             *blob = Some(bytes);
@@ -95,7 +96,7 @@ fn bytes_behind<N: Ask>(alloc: Global, uri: &str, names: &mut N) -> Result<Vec<u
     ensures kept { N.names names.new ≡ N.names names.old }
 {
     match Uri::parse(alloc, uri)? {
-        Uri::Data(payload) => Ok(gltf_payload::decode(alloc, payload)?),
+        Uri::Data(payload) => Ok(payload::decode(alloc, payload)?),
         Uri::File(path) => names.ask(alloc, Name::File(path)),
         Uri::Relative(path) => names.ask(alloc, Name::Relative(path.as_str())),
         Uri::Unsupported => Err(Error::UnsupportedScheme),

@@ -3,7 +3,8 @@ use crate::bytes::{bytes_of, write_hex};
 use crate::shown::{Written, show, tell_copy};
 use base64::{DecodeAllocError, DecodeError};
 use gltf::json::mesh::Semantic;
-use gltf_uri::Uri;
+use gltf_buffers::payload;
+use gltf_buffers::uri::Uri;
 use std::alloc::{AllocError, Global};
 
 /// Prints where a URI leads.
@@ -13,7 +14,7 @@ pub fn write_uri(alloc: Global, text: &str, line: &mut String) -> Written {
 
 /// Writes the bytes of a payload, or its fault.
 pub fn write_payload(alloc: Global, text: &str, line: &mut String) -> Written {
-    match &gltf_payload::decode(alloc, text) {
+    match &payload::decode(alloc, text) {
         Ok(bytes) => write_bytes(bytes, line),
         Err(DecodeAllocError::OutOfMemory) => line.push_str("out of memory"),
         Err(DecodeAllocError::DecodeError(fault)) => write_fault(fault, line),
@@ -41,7 +42,7 @@ fn write_fault(fault: &DecodeError, line: &mut String) -> Written {
 /// Writes bytes and the zeros behind them.
 pub fn write_zeros(alloc: Global, digits: &str, line: &mut String) -> Written {
     let mut bytes = bytes_of(alloc, digits)?;
-    gltf_payload::pad_to_four(&mut bytes)?;
+    payload::pad_to_four(&mut bytes)?;
     write_bytes(&bytes, line)
 }
 

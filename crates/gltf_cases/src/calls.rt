@@ -2,7 +2,7 @@
 use crate::containers::container;
 use crate::refused::write_error;
 use crate::told::tell;
-use crate::{broken, documents, files, imported, items, streamed};
+use crate::{broken, documents, files, imported, items, named, streamed};
 use gltf::Glb;
 use gltf_case::asked::Asked;
 use gltf_case::bytes::{bytes_of, write_hex};
@@ -18,6 +18,7 @@ use std::alloc::Global;
 ///   bytes.
 /// - `broken COUNT`: a document that breaks so many rules.
 /// - `files`: the import of a file that names others.
+/// - `source`, `shelf`, `named`: named bytes, and the buffers that they are.
 /// - `write`: the bytes of a container of a text and a blob.
 /// - all others are calls on a file, of the text or the bytes, or of a container of the text and a
 ///   blob.
@@ -32,6 +33,9 @@ pub(crate) fn answer(alloc: Global, asked: Asked<'_>, line: &mut String) -> Writ
         "indices" => iterators::indices(alloc, asked, line),
         "broken" => broken::write_broken(alloc, asked, line),
         "files" => files::of_shelf(alloc, asked, line),
+        "source" => named::of_source(alloc, asked, line),
+        "shelf" => named::of_shelf(alloc, asked, line),
+        "named" => named::of_document(alloc, asked, line),
         "write" => of_container(alloc, asked, line),
         "over" => of_text(alloc, asked, line),
         _ if asked.blob.is_some() => of_container(alloc, asked, line),
@@ -62,8 +66,10 @@ fn of_container(alloc: Global, asked: Asked<'_>, line: &mut String) -> Written {
 /// - `root MEMBER`: the records of a text; `document` the same, validated.
 /// - `file MEMBER`, `records MEMBER`: the document of a file, with the rules and without.
 /// - `read TYPE INDEX`: the items of an accessor.
+/// - `by WAY MEMBER`: the records of a text that come by another way.
 /// - `streamed glb`, `streamed records MEMBER`, `streamed file MEMBER`: the same as those calls, by
-///   a reader that gives a byte a call.
+///   a reader that gives a byte a call; `drawn PACE CALL ..`: by one of another pace.
+/// - `written PACE`: what a writer takes of a container.
 /// - `over TYPE`: those of the first accessor, where each buffer has the bytes of the blob.
 /// - `each`: what several calls tell, where they tell the same.
 /// - `repack`: the bytes that a file is repacked to.
@@ -92,8 +98,11 @@ fn of_one(alloc: Global, asked: Asked<'_>, bytes: &[u8], line: &mut String) -> W
         "root" => documents::tell_root(alloc, asked, bytes, line),
         "document" => documents::tell_document(alloc, asked, bytes, line),
         "records" => documents::tell_records(alloc, asked, bytes, line),
+        "by" => documents::tell_by(alloc, asked, bytes, line),
         "read" => items::read(alloc, asked, bytes, line),
-        "streamed" => streamed::tell_streamed(alloc, asked.inner(), bytes, line),
+        "streamed" => streamed::tell_streamed(alloc, asked, bytes, line),
+        "drawn" => streamed::tell_drawn(alloc, asked, bytes, line),
+        "written" => streamed::tell_written(alloc, asked, bytes, line),
         "import" | "check" | "walk" | "readers" | "cast" => {
             imported::tell_import(alloc, asked, bytes, line)
         }

@@ -1,20 +1,18 @@
 //! Imports of files that name others.
 use crate::containers::container;
 use crate::refused::write_error;
-use crate::told::tell;
 use gltf::buffer::Data;
-use gltf::{Document, Error, Name, NamedBytes, Result, Shelf, import, import_from};
+use gltf::{Document, Error, Name, NamedBytes, Result, Shelf, import_from};
 use gltf_case::asked::Asked;
 use gltf_case::bytes::bytes_of;
 use gltf_case::shown::Written;
 use std::alloc::{AllocError, Global};
-use std::rt::HostRuntime;
 
 /// The import of the file `a.gltf` from a shelf, where it is the given text, or a container of the
 /// text and the blob. The words say what else is on the shelf:
 ///
-/// - `NAME=DIGITS`: the bytes that the digits spell, by a relative reference, in which `+` stands
-///   for a space; or by the path of a file, behind `file:`.
+/// - `NAME=DIGITS`: the bytes that the digits spell, by a relative reference, or by the path of a
+///   file behind `file:`, where `+` stands for a space.
 /// - `fail=K`: the read behind the next K ones fails.
 ///
 /// The line has the bytes of the buffers, or what is wrong, and which name failed.
@@ -29,7 +27,9 @@ pub(crate) fn of_shelf(alloc: Global, asked: Asked<'_>, line: &mut String) -> Wr
 }
 
 fn of_file(alloc: Global, asked: Asked<'_>, file: &[u8], line: &mut String) -> Written {
-    from_shelf(alloc, asked, &mut shelf_of(alloc, asked, file)?, line)
+    let mut shelf = shelf_of(alloc, asked)?;
+    shelf.put(Name::File("a.gltf"), file)?;
+    from_shelf(alloc, asked, &mut shelf, line)
 }
 
 fn from_shelf(alloc: Global, asked: Asked<'_>, shelf: &mut Shelf, line: &mut String) -> Written {
@@ -62,14 +62,9 @@ fn write_import(
     }
 }
 
-/// What the words put on a shelf, beside the file.
-fn shelf_of(
-    alloc: Global,
-    asked: Asked<'_>,
-    file: &[u8],
-) -> std::result::Result<Shelf, AllocError> {
+/// A shelf of what the words put there.
+pub(crate) fn shelf_of(alloc: Global, asked: Asked<'_>) -> std::result::Result<Shelf, AllocError> {
     let mut shelf = Shelf::new(alloc);
-    shelf.put(Name::File("a.gltf"), file)?;
     for word in asked.words.split_whitespace() {
         put(alloc, &mut shelf, word)?;
     }
@@ -77,22 +72,20 @@ fn shelf_of(
 }
 
 /// What one word puts on a shelf.
-fn put(alloc: Global, shelf: &mut Shelf, word: &str) -> std::result::Result<(), AllocError> {
+pub(crate) fn put(
+    alloc: Global,
+    shelf: &mut Shelf,
+    word: &str,
+) -> std::result::Result<(), AllocError> {
     let (name, told) = word.split_once("=").unwrap_or((word, ""));
     if name == "fail" {
         shelf.fail_at(told.parse::<usize>().unwrap_or(0));
         return Ok(());
     }
     let bytes = bytes_of(alloc, told)?;
-    if let Some(path) = name.strip_prefix("file:") {
-        return shelf.put(Name::File(path), &bytes);
-    }
     let name = name.replace(alloc, "+", " ")?;
-    shelf.put(Name::Relative(name.as_str()), &bytes)
-}
-
-/// The import of the file of a path, which the words are; `check` tells how much it has.
-pub(crate) fn opened(rt: &HostRuntime, asked: Asked<'_>, line: &mut String) -> Written {
-    let answer = import(rt, rt.alloc(), asked.given);
-    tell(rt.alloc(), asked.inner(), answer, line)
+    match name.strip_prefix("file:") {
+        Some(path) => shelf.put(Name::File(path), &bytes),
+        None => shelf.put(Name::Relative(name.as_str()), &bytes),
+    }
 }

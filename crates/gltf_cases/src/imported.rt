@@ -30,7 +30,7 @@ impl Told for (Document, Vec<Data>) {
             "check" => check(self.0.as_json(), &self.1, line),
             "walk" => items::walked(alloc, asked, &self.0, &self.1, line),
             "readers" | "cast" => reads::write(&self.0, &self.1, asked, line),
-            _ if asked.words.is_empty() => write!(line, "{:?}", self.1),
+            _ if asked.words.is_empty() => self.1.tell(alloc, asked, line),
             _ => write_member(self.0.as_json(), asked.words, line),
         }
     }

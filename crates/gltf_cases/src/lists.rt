@@ -61,6 +61,54 @@ fn write_scene(document: &Document, asked: Asked<'_>, line: &mut String) -> Writ
             Some(scene) => write_handle(&scene, line),
             None => line.push_str("no scene"),
         },
+        _ => write_within(document, asked, line),
+    }
+}
+
+/// Writes what the steps over a list give that stands in the first handle of its kind.
+///
+/// - `primitives`, `targets` and `mappings`: of the first mesh, and of its first primitive.
+/// - `roots`, `children` and `joints`: of the first scene, node and skin.
+/// - `channels` and `keyframes`: of the first animation, whose samplers are the latter.
+fn write_within(document: &Document, asked: Asked<'_>, line: &mut String) -> Written {
+    match asked.call {
+        "primitives" => match document.meshes().nth(0) {
+            Some(mesh) => write_list(mesh.primitives(), asked.words, line),
+            None => line.push_str("no mesh"),
+        },
+        "targets" | "mappings" => match first_primitive(document) {
+            Some(first) if asked.call == "targets" => {
+                write_list(first.morph_targets(), asked.words, line)
+            }
+            Some(first) => write_list(first.mappings(), asked.words, line),
+            None => line.push_str("no primitive"),
+        },
+        "channels" | "keyframes" => match document.animations().nth(0) {
+            Some(first) if asked.call == "channels" => {
+                write_list(first.channels(), asked.words, line)
+            }
+            Some(first) => write_list(first.samplers(), asked.words, line),
+            None => line.push_str("no animation"),
+        },
+        _ => write_nodes(document, asked, line),
+    }
+}
+
+/// Writes what the steps over a list of nodes give, which the first scene, node or skin names.
+fn write_nodes(document: &Document, asked: Asked<'_>, line: &mut String) -> Written {
+    match asked.call {
+        "roots" => match document.scenes().nth(0) {
+            Some(scene) => write_list(scene.nodes(), asked.words, line),
+            None => line.push_str("no scene"),
+        },
+        "children" => match document.nodes().nth(0) {
+            Some(node) => write_list(node.children(), asked.words, line),
+            None => line.push_str("no node"),
+        },
+        "joints" => match document.skins().nth(0) {
+            Some(skin) => write_list(skin.joints(), asked.words, line),
+            None => line.push_str("no skin"),
+        },
         _ => line.push_str("no call"),
     }
 }

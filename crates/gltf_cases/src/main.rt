@@ -11,6 +11,7 @@ mod imported;
 mod items;
 mod lists;
 mod members;
+mod named;
 mod reads;
 mod refused;
 mod streamed;
@@ -50,8 +51,10 @@ fn answer_of(rt: &HostRuntime, asked: Asked<'_>) -> Result<String, Error> {
             let bytes = fs::read(rt, name)?;
             calls::of_bytes(rt.alloc(), asked, &bytes, &mut line)?;
         }
-        None if asked.call == "opened" => files::opened(rt, asked, &mut line)?,
-        None => calls::answer(rt.alloc(), asked, &mut line)?,
+        None => match asked.call {
+            "opened" | "open" | "folder" | "beside" => named::of_system(rt, asked, &mut line)?,
+            _ => calls::answer(rt.alloc(), asked, &mut line)?,
+        },
     }
     Ok(line)
 }

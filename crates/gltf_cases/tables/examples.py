@@ -5,6 +5,7 @@ import sys
 
 sys.path.insert(0, str(pathlib.Path(__file__).resolve().parents[3] / "examples"))
 import make_box
+import make_square
 import make_triangle
 
 
@@ -50,6 +51,28 @@ def triangle():
     )
 
 
+def square():
+    """The bytes of the square, by the name of their file and by the document that names it."""
+    corners = b"".join(struct.pack("<3f", *it) for it in make_square.CORNERS)
+    data = list(corners + struct.pack("<6H", *make_square.INDICES))
+    asset = '{"asset":{"version":"2.0"}'
+    named = asset + ',"buffers":[{"byteLength":60,"uri":"square%20data.bin"}]}'
+    return [
+        ("folder square+data.bin : ./", f"{data}"),
+        (f"beside ./ : {named}", f"[Data({data})]"),
+    ]
+
+
+def dangling():
+    """The bytes of a file by its path, wherever the folder is."""
+    examples = pathlib.Path(__file__).resolve().parents[3] / "examples"
+    data = list((examples / "dangling.gltf").read_bytes())
+    return [
+        ("folder dangling.gltf file:dangling.gltf : missing/", f"not read; {data}"),
+        ("folder dangling.gltf : ./", f"{data}"),
+    ]
+
+
 ROWS = [
     # 24 corners of 8 numbers, 36 indices of two bytes, and a picture of 82 bytes with two zeros.
     ("check : @box.glb", "ok buffers=1 accessors=4 meshes=1 nodes=1; 924 bytes"),
@@ -62,4 +85,6 @@ ROWS = [
     ),
     *box(),
     *triangle(),
+    *square(),
+    *dangling(),
 ]

@@ -158,6 +158,8 @@ def line(gives, targets=2):
         names = ("positions", "normals", "tangents")
         displaced = [f"{name} {gives(f'{target} {name}', DISPLACEMENTS)}" for name in names]
         parts.append(f"{target} {', '.join(displaced) if targets else 'none'}")
+    # However far behind the last target: there is none, and none is left.
+    parts.append("behind none of 0")
     parts.append(f"inverse_bind_matrices {gives('inverse_bind_matrices', MATRICES)}")
     for name, table in OUTPUTS.items():
         values = gives(name, table)
@@ -311,6 +313,12 @@ def replaced():
     return [
         (f"readers +{data.hex()} 0 : {file}", line(gives)),
         (f"cast +{data.hex()} indices into_u32 : {file}", "into_u32 [10, 7, 30, 9]"),
+        # What is left is given back as it was.
+        (
+            f"cast +{data.hex()} indices into_u32,hint,next,nth:1,unwrap into_u32,last : {file}",
+            "into_u32,hint,next,nth:1,unwrap (4, Some(4)), Some(10), Some(30), 1 left: U16 [9]; "
+            "into_u32,last Some(9), 4 left",
+        ),
     ]
 
 
@@ -381,11 +389,60 @@ def casts():
     return list(rows.values())
 
 
+FARTHEST = 2**64 - 1
+# Steps of an iterator that casts, which stand behind a call, and what they give of some items: each
+# is taken off the front, and past the end there is none and nothing is left.
+WALKS = {
+    f"nth:{FARTHEST},next": lambda items: ["None", "None", "0 left"],
+    "len,nth:{count},next": lambda items: [str(len(items)), "None", "None", "0 left"],
+    "nth:{last},next,hint": lambda items: [f"Some({items[-1]})", "None", "(0, Some(0))", "0 left"],
+    "next,nth:1,next": lambda items: [*(f"Some({items[at]})" for at in (0, 2)), *behind(items, 3)],
+    "last,count,hint": lambda items: [
+        f"Some({items[-1]})",
+        str(len(items)),
+        f"({len(items)}, Some({len(items)}))",
+        f"{len(items)} left",
+    ],
+}
+
+
+def behind(items, place):
+    """What a step to a place gives, and how many items are left then."""
+    if place < len(items):
+        return [f"Some({items[place]})", f"{len(items) - place - 1} left"]
+    return ["None", "0 left"]
+
+
+def walks():
+    """A case for each reader that can be cast: each call with each of these walks, on the first
+    accessor that is no float."""
+    rows = []
+    for name, calls in CALLS.items():
+        table = {**VERTICES, **OUTPUTS}[name]
+        kind, (_, component, components) = next(
+            (kind, row) for kind, row in table.items() if DIMENSIONS[kind[1]] == row[2]
+        )
+        numbers = CAST_NUMBERS[component]
+        items = [numbers[at : at + components] for at in range(0, 12, components)]
+        asked, answers = [], []
+        for call, into in calls.items():
+            given = [printed(cast(name, component, it, *into)) for it in items]
+            for steps, told_of in WALKS.items():
+                steps = steps.format(count=len(items), last=len(items) - 1)
+                asked.append(f"{call},{steps}")
+                answers.append(f"{call},{steps} {', '.join(told_of(given))}")
+        rows.append((cast_case(name, *kind, numbers, " ".join(asked)), "; ".join(answers)))
+    return rows
+
+
 # Casts worked out by hand: what is read, the type of components and the dimensions of the accessor,
 # its numbers, and what a call casts them to.
 WORKED = [
     ("colors", "U8", "VEC3", [1, 2, 3], "into_rgba_u16", "[[256, 512, 768, 65535]]"),
     ("colors", "U16", "VEC4", [65535, 256, 0, 1], "into_rgb_u8", "[[255, 1, 0]]"),
+    ("colors", "U8", "VEC3", [255, 1, 0], "into_rgba_u16", "[[65280, 256, 0, 65535]]"),
+    ("colors", "U16", "VEC4", [255, 256, 0, 1], "into_rgb_u8", "[[0, 1, 0]]"),
+    ("Rotations", "I8", "VEC4", [127, 0, -1, -128], "into_i16", "[[32512, 0, -256, -32768]]"),
     ("tex_coords", "U16", "VEC2", [65535, 256], "into_u8", "[[255, 1]]"),
     ("tex_coords", "U8", "VEC2", [255, 1], "into_u16", "[[65280, 256]]"),
     ("MorphTargetWeights", "U8", "SCALAR", [255], "into_i8", "[127]"),
@@ -406,4 +463,4 @@ def worked():
     return [(cast_case(*it[:4], call), f"{call} {gives}") for *it, call, gives in WORKED]
 
 
-ROWS = [*kinds(), *absent(), apart(), *replaced(), *casts(), *worked()]
+ROWS = [*kinds(), *absent(), apart(), *replaced(), *casts(), *walks(), *worked()]

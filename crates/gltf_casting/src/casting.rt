@@ -10,7 +10,8 @@ use gltf_items::Count;
 use std::marker::{Model, PhantomData};
 
 /// The items that are left in an `E`, each of them cast by `A`. Contracts see it as that `E`. A
-/// step reads what a step of the items themselves reads.
+/// step reads what a step of the items themselves reads. `nth` is repeated `next`, whatever the
+/// cast: the law `gltf_items::laws::nth_is_next` at `E::Output`.
 #[derive(Drop)]
 #[derive_where(Clone, Debug; E)]
 pub struct Casting<E, A> {
@@ -87,8 +88,7 @@ impl<E: Castable<A>, A> Casting<E, A> {
         ensures costs { Costs (E.cast_items self.old) (E.cast_items self.new)
             (digits (E.cast_items self.old).stored + 1) }
     {
-        let len = self.len();
-        if len == 0 { None } else { self.nth(len - 1) }
+        self.nth(self.len().saturating_sub(1))
     }
 
     /// How many stored indices were read so far, when the items were made too.

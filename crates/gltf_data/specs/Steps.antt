@@ -1,5 +1,5 @@
 -- The same as in `Walk`, told by the items that are left.
-use Rattle.std.specs.Prelude.{◌≡◌, ℕ, ◌+◌, ◌-◌, ◌≤◌, List, length, drop, slice_get}
+use Rattle.std.specs.Prelude.{◌≡◌, ℕ, ◌+◌, ◌-◌, ◌≤◌, List, [], length, drop, slice_get}
 use Rattle.gltf_items.specs.Counted.{CountedItems}
 use Rattle.gltf_data.specs.declared.walk.Step.{Step}
 use Rattle.gltf_data.specs.declared.walk.Step.TheVariants.{Next, Nth, Len}
@@ -7,6 +7,7 @@ use Rattle.gltf_data.specs.declared.walk.End.{End}
 use Rattle.gltf_data.specs.declared.walk.End.TheVariants.{Last, Count, Stop}
 use Rattle.gltf_data.specs.declared.walk.Answer.{Answer}
 use Rattle.gltf_data.specs.declared.walk.Answer.TheVariants.{Item, Length}
+use Rattle.gltf_data.specs.declared.walk.Walked.{Walked}
 use Rattle.gltf_data.specs.declared.walk.Ended as outcome
 use Rattle.gltf_data.specs.declared.walk.Ended.TheVariants as outcomes
 
@@ -25,10 +26,24 @@ end_of left Last = outcomes.Last (slice_get left (length left - 1))
 end_of left Count = outcomes.Count (length left)
 end_of left Stop = outcomes.Stopped
 
+abbrev pub after_end : {X : Type 0} → List X → End → List X
+after_end left Last = []
+after_end left Count = left
+after_end left Stop = left
+
 -- from the one to the other at most so many indices were read, and so many items of the base and
--- values
+-- values; no count falls
 pub record Takes {X : Type 0} (old new : CountedItems X) (indices items : ℕ) : Type 0 where
   pub stored : new.stored ≡ old.stored
   pub index_reads : new.index_reads ≤ old.index_reads + indices
   pub base_reads : new.base_reads ≤ old.base_reads + items
   pub value_reads : new.value_reads ≤ old.value_reads + items
+  pub indices_kept : old.index_reads ≤ new.index_reads
+  pub base_kept : old.base_reads ≤ new.base_reads
+  pub values_kept : old.value_reads ≤ new.value_reads
+
+-- a walk reports what was read from the one to the other
+pub record ReportsReads {X : Type 0} (old new : CountedItems X) (w : Walked X) : Type 0 where
+  pub index_reads : old.index_reads + w.index_reads ≡ new.index_reads
+  pub base_reads : old.base_reads + w.base_reads ≡ new.base_reads
+  pub value_reads : old.value_reads + w.value_reads ≡ new.value_reads

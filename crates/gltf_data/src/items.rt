@@ -1,6 +1,6 @@
 //! How the items of an accessor are found.
 
-ghost use Rattle.std.specs.Prelude.{◌≡◌, ◌<◌, IfSome, Some};
+ghost use Rattle.std.specs.Prelude.{◌≡◌, ◌<◌, IfSome, Some, is_some};
 ghost use Rattle.std.specs.Option.{option_map};
 ghost use Rattle.byteorder.specs.Endian.{little_number};
 ghost use Rattle.gltf_handles.specs.Accessors.{accessor_handle, sparse_handle};
@@ -9,7 +9,7 @@ ghost use Rattle.gltf_handles.specs.Sizes.{index_size};
 ghost use Rattle.gltf_items.specs.ItemIter.{items_left};
 ghost use Rattle.gltf_items.specs.SparseIndicesIter.{indices_left};
 ghost use Rattle.gltf_data.specs.Answers.{ReadsPart, ReadsAny, ReadsParts, Reads, ReadsAlike};
-ghost use Rattle.gltf_data.specs.Iter.{counted_items};
+ghost use Rattle.gltf_data.specs.Iter.{counted_items, is_sparse};
 ghost use Rattle.gltf_data.specs.Parts.{part_of, base_part, index_part, value_part, index_items};
 ghost use Rattle.gltf_items.specs.Counted.{IsFresh};
 ghost use Rattle.gltf_data.specs.Parts.{base_items, part_items, stored_count, PartReadable};
@@ -131,10 +131,7 @@ fn base<'s, T: Item, F: Fn(Buffer) -> Option<&'s [u8]>>(
 {
     let count = accessor.count();
     match accessor.view() {
-        Some(view) => {
-            let items = part::items(view, accessor.offset(), count, get_buffer_data)?;
-            Some(Some(items))
-        }
+        Some(view) => part::items(view, accessor.offset(), count, get_buffer_data).map(Some),
         None if count == 0 => None,
         None => Some(None),
     }
@@ -173,6 +170,8 @@ fn read<'s, T: Item, F: Fn(Buffer) -> Option<&'s [u8]>>(
         (option_map (λ it. (counted_items it).items) result) }
     ensures fresh { IfSome result (λ it. IsFresh (counted_items it)
         (stored_count (accessor_handle accessor.entry).json.sparse)) }
+    ensures variant { IfSome result (λ it. is_sparse it
+        ≡ is_some (accessor_handle accessor.entry).json.sparse) }
 {
     if T::size() != accessor.size() {
         return None;
@@ -189,7 +188,8 @@ impl<'s, T: Item> Iter<'s, T> {
     /// indices and that of the values. A part is there where the closure gives bytes for the view's
     /// buffer, the view is within them, there are some items, these do not overlap, and the last
     /// one ends within the view. An accessor with neither a view nor a sparse part cannot be read;
-    /// a sparse one without a view is zeros under its values, and has some.
+    /// a sparse one without a view is zeros under its values, and has some. They are `Sparse`
+    /// exactly where the accessor has a sparse part.
     ///
     /// The closure is asked once for each part that is reached, in that order, and not behind the
     /// first that is not there. It takes no memory, reads each stored index at most once, and no
@@ -207,6 +207,8 @@ impl<'s, T: Item> Iter<'s, T> {
             (option_map (λ it. (counted_items it).items) result) }
         ensures fresh { IfSome result (λ it. IsFresh (counted_items it)
             (stored_count (accessor_handle accessor.entry).json.sparse)) }
+        ensures variant { IfSome result (λ it. is_sparse it
+            ≡ is_some (accessor_handle accessor.entry).json.sparse) }
     {
         read(accessor, get_buffer_data)
     }

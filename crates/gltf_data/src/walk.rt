@@ -3,7 +3,7 @@
 mod run;
 
 use gltf_items::Count;
-pub use run::walk;
+pub use run::{walk, walk_on};
 
 /// A step of a walk.
 #[derive(Clone, Copy, Debug)]

@@ -18,9 +18,13 @@ pub record IsFresh {X : Type 0} (made : CountedItems X) (n : ℕ) : Type 0 where
   pub base_reads : made.base_reads ≡ 0
   pub value_reads : made.value_reads ≡ 0
 
--- from the one to the other at most n indices were read, one item of the base and one value
+-- from the one to the other at most n indices were read, one item of the base and one value; no
+-- count falls
 pub record Costs {X : Type 0} (old new : CountedItems X) (n : ℕ) : Type 0 where
   pub stored : new.stored ≡ old.stored
   pub indices : new.index_reads ≤ old.index_reads + n
   pub base : new.base_reads ≤ old.base_reads + 1
   pub values : new.value_reads ≤ old.value_reads + 1
+  pub indices_kept : old.index_reads ≤ new.index_reads
+  pub base_kept : old.base_reads ≤ new.base_reads
+  pub values_kept : old.value_reads ≤ new.value_reads

@@ -3,6 +3,7 @@ pub mod AmountFalls
 pub mod Reading
 pub mod ReadingLemmas
 pub mod Plain
+pub mod Floats
 pub mod ItemIter
 pub mod SparseIndicesIter
 pub mod Sparse

@@ -1,5 +1,5 @@
 -- What a sparse iterator stores, and how often it was read.
-use Rattle.std.specs.Prelude.{ℕ, List, Option, Some, None}
+use Rattle.std.specs.Prelude.{ℕ, ◌≤◌, List, Option, Some, None}
 
 -- the lists that are stored, and how often each was read
 pub record StoredLists (X : Type 0) : Type 0 where
@@ -14,3 +14,9 @@ pub record StoredLists (X : Type 0) : Type 0 where
 abbrev pub reads_of : {X : Type 0} → Option (List X) → ℕ
 reads_of None = 0
 reads_of (Some items) = 1
+
+-- no count falls
+pub record CountsKept {X : Type 0} (old new : StoredLists X) : Type 0 where
+  pub indices : old.index_reads ≤ new.index_reads
+  pub base : old.base_reads ≤ new.base_reads
+  pub values : old.value_reads ≤ new.value_reads

@@ -5,6 +5,7 @@ ghost use Rattle.std.specs.Prelude.{◌≡◌, ◌≢◌, ℕ, ◌+◌, ◌-◌,
 ghost use Rattle.std.specs.Prelude.{false};
 ghost use Rattle.gltf_items.specs.Sparse.{front, sparse_item, total, digits};
 ghost use Rattle.gltf_items.specs.Cursor.{Rises, Stands};
+ghost use Rattle.gltf_items.specs.Stored.{CountsKept};
 
 use crate::item::Item;
 use crate::stored::Stored;
@@ -43,6 +44,7 @@ pub(crate) fn seek<T: Item>(
     ensures stands { Stands stored.old.indices front result target }
     ensures counts { stored.new ≡ record stored.old { index_reads = stored.new.index_reads } }
     ensures costs { stored.new.index_reads ≤ stored.old.index_reads + digits (front - from) }
+    ensures kept { stored.old.index_reads ≤ stored.new.index_reads }
 {
     let mut low = from;
     let mut high = front;
@@ -71,6 +73,7 @@ fn is_here<T: Item>(
         → slice_index stored.old.indices cursor ≢ position }
     ensures counts { stored.new ≡ record stored.old { index_reads = stored.new.index_reads } }
     ensures costs { stored.new.index_reads ≤ stored.old.index_reads + 1 }
+    ensures kept { stored.old.index_reads ≤ stored.new.index_reads }
 {
     cursor < front_len && stored.index(cursor) as usize == position
 }
@@ -97,6 +100,7 @@ pub(crate) fn item_at<T: Item>(
     ensures indices { stored.new.index_reads ≤ stored.old.index_reads + 1 }
     ensures base { stored.new.base_reads ≤ stored.old.base_reads + 1 }
     ensures values { stored.new.value_reads ≤ stored.old.value_reads + 1 }
+    ensures kept { CountsKept stored.old stored.new }
 {
     if is_here(stored, front_len, cursor, position) {
         (stored.value(cursor), cursor + 1)

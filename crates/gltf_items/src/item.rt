@@ -1,10 +1,11 @@
 //! What an item is, and the items that accessors hold (glTF 2.0, 3.6.2.2 "Accessor Data Types").
 
 ghost use Rattle.std.specs.Prelude.{◌≡◌, ℕ, ◌+◌, ◌-◌, ◌*◌, ◌<◌, ◌≤◌, ◌^◌, pos, List, [], ◌∷◌, min};
-ghost use Rattle.std.specs.Prelude.{length, take, drop, slice_index, replicate};
+ghost use Rattle.std.specs.Prelude.{length, map, take, drop, slice_index, replicate};
 ghost use Rattle.std.specs.Int.{w8, w16, cast_signed};
 ghost use Rattle.std.proofs.Common.{arith};
 ghost use Rattle.byteorder.specs.Endian.{little_number};
+ghost use Rattle.gltf_items.specs.Floats.{float_of, float_bytes};
 ghost use Rattle.gltf_items.specs.Reading.{ReadsFront, in_row, row_size};
 ghost use Rattle.gltf_items.specs.ReadingLemmas.{number-reads_front, of-reads_front};
 ghost use Rattle.gltf_items.specs.ReadingLemmas.{take-reads_front, row-positive, row-reads_front};
@@ -201,6 +202,34 @@ impl F32 {
     {
         self.bytes
     }
+
+    /// The bytes of a number. A NaN has those of the quiet NaN without a sign.
+    pub fn from_f32(number: f32) -> F32
+        ensures { result ≡ float_bytes number }
+    {
+        let mut bytes = [0; 4];
+        LE::write_f32(&mut bytes, number);
+        F32 { bytes }
+    }
+
+    /// The number that these bytes spell. Those of a NaN give a NaN, with no sign or payload of its
+    /// own.
+    pub fn to_f32(self) -> f32
+        ensures { result ≡ float_of self }
+    {
+        LE::read_f32(&self.bytes)
+    }
+}
+
+/// The numbers of a vector or of a matrix, one by one as `F32::to_f32` gives them.
+pub fn floats<const N: usize>(items: [F32; N]) -> [f32; N]
+    ensures { result ≡ map float_of items.entry }
+{
+    let mut numbers = [0.0; N];
+    for i in 0..N {
+        numbers[i] = items[i].to_f32();
+    }
+    numbers
 }
 
 impl Item for F32 {

@@ -10,11 +10,12 @@ ghost use Rattle.gltf_items.specs.Laws.{NthIsNext, IsFront, Overrides};
 
 use crate::item::{F32, Item};
 
-/// `nth(n)` answers what the last of n + 1 calls of `next` answers, and leaves what they leave.
-/// This holds of every list, and so of each iterator, whose contracts say that `next` answers the
-/// first item of the list that is left and leaves the others, and `nth` the item at a place and
-/// those behind it.
-pub fn nth_is_next<T: Item>()
+/// `nth(n)` gives what the last of n + 1 calls of `next` gives, and leaves what they leave. This
+/// holds of every list, whatever it is a list of, and so of each iterator whose contracts say that
+/// `next` gives the first of the items that are left and leaves the others, and `nth` the item at a
+/// place and those behind it: those of this crate, those above it, and those that cast what they
+/// give, also by a cast of a caller's own.
+pub fn nth_is_next<T>()
     ensures { (items : List T) (n : ℕ) → NthIsNext items n }
 {}
 

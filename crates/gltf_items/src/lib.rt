@@ -13,6 +13,6 @@ mod stored;
 
 pub use count::Count;
 pub use indices::SparseIndicesIter;
-pub use item::{F32, Item};
+pub use item::{F32, Item, floats};
 pub use item_iter::ItemIter;
 pub use sparse::SparseIter;

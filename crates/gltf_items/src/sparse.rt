@@ -146,8 +146,7 @@ impl<'a, T: Item> SparseIter<'a, T> {
         ensures leaves { self.new.items ≡ [] }
         ensures costs { Costs self.old self.new (digits self.old.stored + 1) }
     {
-        let len = self.len();
-        if len == 0 { None } else { self.nth(len - 1) }
+        self.nth(self.len().saturating_sub(1))
     }
 
     /// The last item, if one is left.

@@ -3,6 +3,7 @@ ghost use Rattle.gltf_read.specs.Channels.{closure_of as asked_of_channel};
 ghost use Rattle.gltf_read.specs.Primitives.{closure_of as asked_of_primitive};
 
 use crate::line::{Line, Written};
+use crate::list::{Walked, write_step};
 use crate::reads::{write_items, write_named};
 use crate::shown::Shown;
 use gltf_casting::Casting;
@@ -56,7 +57,8 @@ fn write_casts<E: Casts + Clone + Drop>(
     }
 }
 
-/// Writes what each of these calls casts, behind its name.
+/// Writes what each of these calls casts, behind it. `CALL` is for all items, and `CALL,STEP,..`
+/// for what these steps give.
 fn write_each<E: Casts + Clone + Drop>(read: &E, calls: &str, text: &mut String) -> Written {
     let mut line = Line::new(text);
     for call in calls.split_whitespace() {
@@ -65,7 +67,8 @@ fn write_each<E: Casts + Clone + Drop>(read: &E, calls: &str, text: &mut String)
         }
         write!(line, "{call} ");
         if let Some(read) = line.kept(read.clone()) {
-            read.write_cast(call, &mut line);
+            let (name, steps) = call.split_once(",").unwrap_or((call, ""));
+            read.write_cast(name, steps, &mut line);
         }
     }
     line.finish()
@@ -73,95 +76,167 @@ fn write_each<E: Casts + Clone + Drop>(read: &E, calls: &str, text: &mut String)
 
 /// What can be cast, by calls with names.
 trait Casts: Sized {
-    /// Writes what the call of this name gives.
-    fn write_cast(self, call: &str, line: &mut Line<'_>);
+    /// Writes what the call of this name gives: all items, or what these steps give.
+    fn write_cast(self, call: &str, steps: &str, line: &mut Line<'_>);
 }
 
 impl Casts for ReadColors<'_> {
-    fn write_cast(self, call: &str, line: &mut Line<'_>) {
+    fn write_cast(self, call: &str, steps: &str, line: &mut Line<'_>) {
         match call {
-            "into_rgb_u8" => write_cast(self.into_rgb_u8(), line),
-            "into_rgb_u16" => write_cast(self.into_rgb_u16(), line),
-            "into_rgba_u8" => write_cast(self.into_rgba_u8(), line),
-            "into_rgba_u16" => write_cast(self.into_rgba_u16(), line),
-            _ => line.push_str("no cast"),
+            "into_rgb_u8" => write_cast(self.into_rgb_u8(), steps, line),
+            "into_rgb_u16" => write_cast(self.into_rgb_u16(), steps, line),
+            "into_rgba_u8" => write_cast(self.into_rgba_u8(), steps, line),
+            "into_rgba_u16" => write_cast(self.into_rgba_u16(), steps, line),
+            _ => write_no_cast(self, line),
         }
     }
 }
 
 impl Casts for ReadIndices<'_> {
-    fn write_cast(self, _call: &str, line: &mut Line<'_>) {
-        write_cast(Ok(self.into_u32()), line);
+    fn write_cast(self, _call: &str, steps: &str, line: &mut Line<'_>) {
+        write_cast(Ok(self.into_u32()), steps, line);
     }
 }
 
 impl Casts for ReadJoints<'_> {
-    fn write_cast(self, _call: &str, line: &mut Line<'_>) {
-        write_cast(Ok(self.into_u16()), line);
+    fn write_cast(self, _call: &str, steps: &str, line: &mut Line<'_>) {
+        write_cast(Ok(self.into_u16()), steps, line);
     }
 }
 
 impl Casts for ReadTexCoords<'_> {
-    fn write_cast(self, call: &str, line: &mut Line<'_>) {
+    fn write_cast(self, call: &str, steps: &str, line: &mut Line<'_>) {
         match call {
-            "into_u8" => write_cast(self.into_u8(), line),
-            "into_u16" => write_cast(self.into_u16(), line),
-            _ => line.push_str("no cast"),
+            "into_u8" => write_cast(self.into_u8(), steps, line),
+            "into_u16" => write_cast(self.into_u16(), steps, line),
+            _ => write_no_cast(self, line),
         }
     }
 }
 
 impl Casts for ReadWeights<'_> {
-    fn write_cast(self, call: &str, line: &mut Line<'_>) {
+    fn write_cast(self, call: &str, steps: &str, line: &mut Line<'_>) {
         match call {
-            "into_u8" => write_cast(self.into_u8(), line),
-            "into_u16" => write_cast(self.into_u16(), line),
-            _ => line.push_str("no cast"),
+            "into_u8" => write_cast(self.into_u8(), steps, line),
+            "into_u16" => write_cast(self.into_u16(), steps, line),
+            _ => write_no_cast(self, line),
         }
     }
 }
 
 impl Casts for Rotations<'_> {
-    fn write_cast(self, call: &str, line: &mut Line<'_>) {
+    fn write_cast(self, call: &str, steps: &str, line: &mut Line<'_>) {
         match call {
-            "into_i8" => write_cast(self.into_i8(), line),
-            "into_u8" => write_cast(self.into_u8(), line),
-            "into_i16" => write_cast(self.into_i16(), line),
-            "into_u16" => write_cast(self.into_u16(), line),
-            _ => line.push_str("no cast"),
+            "into_i8" => write_cast(self.into_i8(), steps, line),
+            "into_u8" => write_cast(self.into_u8(), steps, line),
+            "into_i16" => write_cast(self.into_i16(), steps, line),
+            "into_u16" => write_cast(self.into_u16(), steps, line),
+            _ => write_no_cast(self, line),
         }
     }
 }
 
 impl Casts for MorphTargetWeights<'_> {
-    fn write_cast(self, call: &str, line: &mut Line<'_>) {
+    fn write_cast(self, call: &str, steps: &str, line: &mut Line<'_>) {
         match call {
-            "into_i8" => write_cast(self.into_i8(), line),
-            "into_u8" => write_cast(self.into_u8(), line),
-            "into_i16" => write_cast(self.into_i16(), line),
-            "into_u16" => write_cast(self.into_u16(), line),
-            _ => line.push_str("no cast"),
+            "into_i8" => write_cast(self.into_i8(), steps, line),
+            "into_u8" => write_cast(self.into_u8(), steps, line),
+            "into_i16" => write_cast(self.into_i16(), steps, line),
+            "into_u16" => write_cast(self.into_u16(), steps, line),
+            _ => write_no_cast(self, line),
         }
     }
 }
 
 impl Casts for ReadOutputs<'_> {
-    fn write_cast(self, call: &str, line: &mut Line<'_>) {
+    fn write_cast(self, call: &str, steps: &str, line: &mut Line<'_>) {
         match self {
-            ReadOutputs::Rotations(read) => read.write_cast(call, line),
-            ReadOutputs::MorphTargetWeights(read) => read.write_cast(call, line),
-            ReadOutputs::Translations(_) | ReadOutputs::Scales(_) => line.push_str("no cast"),
+            ReadOutputs::Translations(read) => write_no_cast(read, line),
+            ReadOutputs::Rotations(read) => read.write_cast(call, steps, line),
+            ReadOutputs::Scales(read) => write_no_cast(read, line),
+            ReadOutputs::MorphTargetWeights(read) => read.write_cast(call, steps, line),
         }
     }
 }
 
+/// Writes that there is no such call. What was read is dropped here, under a type parameter: a proof
+/// writes out how each variant is dropped, and that of each iterator in it.
+fn write_no_cast<T: Drop>(_read: T, line: &mut Line<'_>) {
+    line.push_str("no cast");
+}
+
 /// Writes what a call casts, or what it gives back.
-fn write_cast<E: Castable<A> + Shown, A>(cast: Result<Casting<E, A>, E>, line: &mut Line<'_>)
+fn write_cast<E: Castable<A> + Clone + Shown, A>(
+    cast: Result<Casting<E, A>, E>,
+    steps: &str,
+    line: &mut Line<'_>,
+)
 where
     E::Output: Debug + Drop,
 {
     match cast {
-        Ok(items) => write_items(items, line),
+        Ok(items) if steps.is_empty() => write_items(items, line),
+        Ok(items) => write_walk(items, steps, line),
         Err(read) => write_named("back", &read, line),
     }
+}
+
+/// Writes what these steps give, and with `unwrap` behind them what is left, uncast.
+fn write_walk<E: Castable<A> + Clone + Shown, A>(
+    mut items: Casting<E, A>,
+    steps: &str,
+    line: &mut Line<'_>,
+)
+where
+    E::Output: Debug + Drop,
+{
+    for step in steps.split(",") {
+        if step != "unwrap" {
+            write_step(&mut items, step, line);
+            line.push_str(", ");
+        }
+    }
+    write!(line, "{} left", items.len());
+    if steps.ends_with("unwrap") {
+        line.push_str(": ");
+        items.unwrap().show(line);
+    }
+}
+
+impl<E: Castable<A> + Clone, A> Walked for Casting<E, A>
+where
+    E::Output: Debug + Drop,
+{
+    fn write_next(&mut self, line: &mut Line<'_>) {
+        write_cast_item(self.next(), line);
+    }
+
+    fn write_nth(&mut self, places: usize, line: &mut Line<'_>) {
+        write_cast_item(self.nth(places), line);
+    }
+
+    fn write_last(&self, line: &mut Line<'_>) {
+        if let Some(items) = line.kept(self.clone()) {
+            write_cast_item(items.last(), line);
+        }
+    }
+
+    fn write_len(&self, line: &mut Line<'_>) {
+        write!(line, "{}", self.len());
+    }
+
+    fn write_hint(&self, line: &mut Line<'_>) {
+        write!(line, "{:?}", self.size_hint());
+    }
+
+    fn write_count(&self, line: &mut Line<'_>) {
+        if let Some(items) = line.kept(self.clone()) {
+            write!(line, "{}", items.count());
+        }
+    }
+}
+
+/// Writes an item that is cast.
+fn write_cast_item<T: Debug + Drop>(item: Option<T>, line: &mut Line<'_>) {
+    write!(line, "{item:?}");
 }

@@ -27,6 +27,11 @@ impl<'a> Line<'a> {
         if self.is_cut { Err(AllocError) } else { Ok(()) }
     }
 
+    /// Whether there was no memory for a part.
+    pub(crate) fn is_cut(&self) -> bool {
+        self.is_cut
+    }
+
     /// Whether nothing stands in the line.
     pub(crate) fn is_empty(&self) -> bool {
         self.text.is_empty()

@@ -60,7 +60,7 @@ pub(crate) fn write_steps<W: Walked>(walked: &mut W, words: &str, text: &mut Str
 }
 
 /// Writes what a step gives.
-fn write_step<W: Walked>(walked: &mut W, word: &str, line: &mut Line<'_>) {
+pub(crate) fn write_step<W: Walked>(walked: &mut W, word: &str, line: &mut Line<'_>) {
     match word {
         "next" => walked.write_next(line),
         "len" => walked.write_len(line),

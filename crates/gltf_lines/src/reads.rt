@@ -34,6 +34,7 @@ pub fn write_primitive<'s, F: Fn(Buffer) -> Option<&'s [u8]>>(
     write_read("tex_coords", reader.read_tex_coords(set), &mut line);
     write_read("weights", reader.read_weights(set), &mut line);
     write_targets(reader.read_morph_targets(), &mut line);
+    write_behind_targets(reader.read_morph_targets(), &mut line);
     line.finish()
 }
 
@@ -47,6 +48,17 @@ fn write_targets<'s, F: Fn(Buffer) -> Option<&'s [u8]>>(
     write!(line, "; {} morph targets", targets.len());
     write_read("first", targets.nth(0), line);
     write_read("second", targets.nth(0), line);
+}
+
+/// Writes what there is behind the last morph target, however far, and how many are left then.
+fn write_behind_targets<'s, F: Fn(Buffer) -> Option<&'s [u8]>>(
+    mut targets: ReadMorphTargets<'_, 's, F>,
+    line: &mut Line<'_>,
+)
+    requires { F.IsAlwaysCallable (asked_of_targets targets) }
+{
+    write_read("behind", targets.nth(usize::MAX), line);
+    write!(line, " of {}", targets.len());
 }
 
 /// Writes what the reader of a skin gives, behind its name.
@@ -92,7 +104,8 @@ impl<T: Item + Debug> Shown for Iter<'_, T> {
     }
 }
 
-/// Writes the items that are left.
+/// Writes the items that are left, as long as there is memory: a sparse accessor may have more of
+/// them than any memory holds.
 pub(crate) fn write_items<I: Iterator + Drop>(items: I, line: &mut Line<'_>)
 where
     I::Item: Debug + Drop,
@@ -102,6 +115,9 @@ where
     line.push_str("[");
     let mut is_first = true;
     for item in items {
+        if line.is_cut() {
+            break;
+        }
         write_item(is_first, item, line);
         is_first = false;
     }

@@ -17,10 +17,6 @@ folder_base folder = folder.base.now
 abbrev pub folder_failures : {R F D : Type 0} → Folder R F D → List Named
 folder_failures folder = folder.log.failures.names
 
--- what a folder holds by each name: nothing is known of it
-abbrev pub folder_holds : {R F D : Type 0} → Folder R F D → Option (Named → Option (List ℕ))
-folder_holds folder = None
-
 abbrev pub shelf_failures : Shelf → List Named
 shelf_failures shelf = shelf.log.failures.names
 

@@ -1,9 +1,9 @@
 //! Named bytes in files.
 ghost use Rattle.std.specs.Prelude.{◌≡◌, [], IfOk, IfSome, string_bytes};
-ghost use Rattle.gltf_names.specs.Answers.{NotesFailure, GivesHeld};
+ghost use Rattle.gltf_names.specs.Answers.{NotesFailure};
 ghost use Rattle.gltf_names.specs.Named.{named};
 ghost use Rattle.gltf_names.specs.Paths.{path_of};
-ghost use Rattle.gltf_names.specs.Sources.{folder_base, folder_failures, folder_holds};
+ghost use Rattle.gltf_names.specs.Sources.{folder_base, folder_failures};
 
 use crate::log::Log;
 use crate::name::{Name, NamedBytes, NamedFault};
@@ -55,13 +55,9 @@ impl<'a, R: Files> Folder<'a, R> {
 impl<'a, R: Files> NamedBytes for Folder<'a, R> {
     ghost failures = { folder_failures };
 
-    ghost bytes_by_name = { folder_holds };
-
     fn read(&mut self, alloc: Global, name: Name<'_>) -> Result<Vec<u8>, NamedFault>
         ensures failure { NotesFailure result (named name.entry)
             (folder_failures self.old) (folder_failures self.new) }
-        ensures honest { GivesHeld result (named name.entry) (folder_holds self.old) }
-        ensures kept { folder_holds self.new ≡ folder_holds self.old }
         ensures base { folder_base self.new ≡ folder_base self.old }
     {
         match self.find(alloc, &name) {

@@ -5,7 +5,7 @@ use Rattle.std.proofs.Common.{get_or, []}
 use Rattle.std.specs.List.{list_all}
 use Rattle.std.specs.Prelude.{take}
 use Rattle.serde_json.specs.Data.{Data}
-use Rattle.gltf_payload.specs.Padding as payload
+use Rattle.gltf_buffers.specs.Padding as payload
 use Rattle.gltf_glb.specs.Bytes.{padded}
 use Rattle.gltf_glb.specs.FillingLaws.{padded_once}
 use Rattle.gltf_json.specs.Reading.{Reads}

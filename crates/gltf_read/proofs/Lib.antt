@@ -5,3 +5,4 @@ pub mod AlikeReadings
 pub mod Targets
 pub mod Samplers
 pub mod SameIndices
+pub mod Nexts

@@ -10,9 +10,17 @@ use crate::table;
 pub use gltf_anim::animation::{
     Animation, Channel, Interpolation, Property, Sampler, Target, iter,
 };
-pub use gltf_casting::animation::util;
 use gltf_data::buffer::Buffer;
 use std::marker::PhantomData;
+
+/// What is read of a channel and its sampler, and its reader, under the names of the Rust crate.
+pub mod util {
+    pub use crate::animation::Reader;
+    pub use gltf_casting::animation::util::{
+        MorphTargetWeights, ReadInputs, ReadOutputs, Rotations, Scales, Translations,
+        morph_target_weights, rotations,
+    };
+}
 
 /// Reads the keyframes of a channel, over the bytes that a closure gives for buffers.
 #[derive_where(Clone)]

@@ -9,8 +9,9 @@ ghost use Rattle.gltf_json_animation.specs.declared.animation.Property.{Property
 ghost use Rattle.gltf_read.specs.Colors.{AreColors};
 ghost use Rattle.gltf_read.specs.Indices.{AreIndices};
 ghost use Rattle.gltf_read.specs.Joints.{AreJoints};
-ghost use Rattle.gltf_read.specs.Laws.{IsByAnswers, IsAlike};
+ghost use Rattle.gltf_read.specs.Laws.{IsByAnswers, IsAlike, IsRepeatedNext};
 ghost use Rattle.gltf_read.specs.Members.{HaveSameIndices};
+ghost use Rattle.gltf_read.specs.MorphTargets.{GivesTarget};
 ghost use Rattle.gltf_read.specs.Outputs.{AreOutputs};
 ghost use Rattle.gltf_read.specs.Reading.{AreItems};
 ghost use Rattle.gltf_read.specs.TexCoords.{AreTexCoords};
@@ -36,6 +37,13 @@ pub fn tables_are_by_answers<'s, F: Fn(Buffer) -> Option<&'s [u8]>>(get_buffer_d
     ensures weights { IsByAnswers AreWeights (λ b o. F.post get_buffer_data.now b o) }
     ensures outputs { (property : Option Property)
         → IsByAnswers (AreOutputs property) (λ b o. F.post get_buffer_data.now b o) }
+{}
+
+/// `nth(n)` on the morph targets of a primitive reads what the last of n + 1 calls of `next` reads,
+/// and leaves what they leave.
+pub fn nth_target_is_next<'s, T: Item, F: Fn(Buffer) -> Option<&'s [u8]>>(get_buffer_data: &F)
+    ensures { IsRepeatedNext (GivesTarget {X = T} {t = ⟦<T as Item>⟧}
+        (λ b o. F.post get_buffer_data.now b o)) }
 {}
 
 /// Documents that show the same have the same items, by the same answers for their buffers.

@@ -82,7 +82,8 @@ fn read<'s, F: Fn(Buffer) -> Option<&'s [u8]>>(
     )
 }
 
-/// The morph targets of a primitive that are left, each read as it is reached.
+/// The morph targets of a primitive that are left, each read as it is reached. `nth` is repeated
+/// `next`: the law `laws::nth_target_is_next`.
 #[derive(Drop)]
 pub struct ReadMorphTargets<'a, 's, F> {
     targets: MorphTargets<'a>,

@@ -6,10 +6,15 @@ ghost use Rattle.gltf_scene.specs.Skins.{skin_handle};
 
 use crate::skin::util::ReadInverseBindMatrices;
 use crate::table;
-pub use gltf_casting::skin::util;
 use gltf_data::buffer::Buffer;
 pub use gltf_scene::skin::{Skin, iter};
 use std::marker::PhantomData;
+
+/// What is read of a skin, and its reader, under the names of the Rust crate.
+pub mod util {
+    pub use crate::skin::Reader;
+    pub use gltf_casting::skin::util::ReadInverseBindMatrices;
+}
 
 /// Reads what a skin holds, over the bytes that a closure gives for buffers.
 #[derive_where(Clone)]

@@ -10,24 +10,30 @@ Writes the glTF file IN, GLB or JSON, to OUT as one GLB container with the same 
 The bytes go to OUT.part, a new file, which takes the name OUT once it is whole; so OUT may be IN.
 Where a write fails, OUT is what it was before, and OUT.part is removed. Where the program is
 stopped, or OUT.part cannot be removed, it is left behind with a part of the bytes; the program
-writes to no OUT.part that is there already.";
+writes to no OUT.part that is there already.
+
+An OUT that is there has to be a regular file, or a symbolic link to one, which is then replaced in
+its place. The new file has its mode. It belongs to whoever runs the program, and no other name of
+the old file, a hard link, leads to it.";
 
 /// Why nothing was repacked.
 #[derive(Debug, Drop)]
-pub(crate) enum Refusal {
+pub(crate) enum Refusal<'w> {
     /// The words are not two.
     Usage,
-    /// The first file could not be read.
-    Read(io::Error),
+    /// What stands at this name could not be read, or not be looked at.
+    Read(&'w str, io::Error),
     /// The first file is refused.
     File(Error),
+    /// What stands at this name is neither a file nor a link to one.
+    NoFile(&'w str),
     /// The file of this name could not be written whole, or not take its last name.
     Write(String, io::Error),
     /// The second file is whole, and the line that says so could not be written.
     Line(io::Error),
 }
 
-impl Refusal {
+impl Refusal<'_> {
     /// The exit status.
     pub(crate) fn status(&self) -> u8 {
         match self {
@@ -37,25 +43,27 @@ impl Refusal {
     }
 }
 
-impl From<Error> for Refusal {
+impl From<Error> for Refusal<'_> {
     fn from(error: Error) -> Self {
         Refusal::File(error)
     }
 }
 
-impl From<AllocError> for Refusal {
+impl From<AllocError> for Refusal<'_> {
     fn from(_cause: AllocError) -> Self {
         Refusal::File(Error::Memory)
     }
 }
 
-impl fmt::Display for Refusal {
+impl fmt::Display for Refusal<'_> {
     fn fmt<W: fmt::Write>(&self, f: &mut fmt::Formatter<W>) -> fmt::Result {
         match self {
             Refusal::Usage => write!(f, "{USAGE}"),
+            Refusal::Read(name, cause) => write!(f, "{name}: {cause}"),
             Refusal::File(error) => write!(f, "{error}"),
+            Refusal::NoFile(name) => write!(f, "{name}: not a regular file"),
             Refusal::Write(name, cause) => write!(f, "{name}: {cause}"),
-            Refusal::Read(cause) | Refusal::Line(cause) => write!(f, "{cause}"),
+            Refusal::Line(cause) => write!(f, "{cause}"),
         }
     }
 }

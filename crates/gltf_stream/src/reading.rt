@@ -51,9 +51,10 @@ pub fn read_up_to<R: Read>(
     ensures fewer { OnErr result (length bytes.new.items < count) }
     ensures ended { IfErr result (EndsOnlyAtEnd (R.remaining reader.new)) }
 {
-    'pieces: while bytes.len() < count {
-        let most = (count - bytes.len()).min(PIECE);
-        read_piece(reader, bytes, most)?;
+    let mut at = bytes.len();
+    'pieces: while at < count {
+        let most = (count - at).min(PIECE);
+        at += read_piece(reader, bytes, at, most)?;
     }
     Ok(())
 }
@@ -66,42 +67,67 @@ pub fn read_to_end<R: Read>(reader: &mut R, bytes: &mut Vec<u8>) -> Result<(), R
     ensures end { OnOk result (IsAtEnd (R.remaining reader.new)) }
     ensures no_end { IfErr result IsNoEnd }
 {
+    let mut at = bytes.len();
     'pieces: loop {
-        match read_piece(reader, bytes, PIECE) {
-            Ok(()) => {}
+        match read_piece(reader, bytes, at, PIECE) {
+            Ok(count) => at += count,
             Err(ReadFault::Ended) => return Ok(()),
             Err(fault) => return Err(fault),
         }
     }
 }
 
-/// One read of at most so many bytes, which come behind what is there. Room for them is made first,
-/// so that no byte is lost where there is not enough memory.
-fn read_piece<R: Read>(reader: &mut R, bytes: &mut Vec<u8>, most: usize) -> Result<(), ReadFault>
+/// One read of at most so many bytes, which come behind the first `at`; returns how many came. Room
+/// for them is made first, so that no byte is lost where there is not enough memory. Where the
+/// answer is `Ok`, the room stays for the next read: no more is cleared than comes.
+fn read_piece<R: Read>(
+    reader: &mut R,
+    bytes: &mut Vec<u8>,
+    at: usize,
+    most: usize,
+) -> Result<usize, ReadFault>
     requires some { 0 < most }
     requires few { most ≤ 8192 }
-    ensures came { ReadsBehind (R.remaining reader.old) (R.remaining reader.new)
-        bytes.old.items bytes.new.items }
-    ensures within { length bytes.new.items ≤ length bytes.old.items + most }
-    ensures more { OnOk result (length bytes.old.items < length bytes.new.items) }
-    ensures kept { OnErr result (bytes.new.items ≡ bytes.old.items) }
+    requires there { at ≤ length bytes.old.items }
+    ensures came { IfOk result (λ count. ReadsBehind (R.remaining reader.old)
+        (R.remaining reader.new) (take at bytes.old.items) (take (at + count) bytes.new.items)) }
+    ensures more { IfOk result (λ count. 0 < count) }
+    ensures fits { IfOk result (λ count. at + count ≤ length bytes.new.items) }
+    ensures within { length bytes.new.items ≤ at + most }
+    ensures nothing { OnErr result (ReadsBehind (R.remaining reader.old) (R.remaining reader.new)
+        (take at bytes.old.items) bytes.new.items) }
+    ensures kept { OnErr result (bytes.new.items ≡ take at bytes.old.items) }
     ensures ended { IfErr result (EndsOnlyAtEnd (R.remaining reader.new)) }
 {
-    let at = bytes.len();
-    bytes.resize(at + most, 0)?;
+    make_room(bytes, at, most)?;
     let answer = read_behind(reader, bytes.as_mut_slice(), at);
     match answer {
         Ok(0) => {
             bytes.truncate(at);
             Err(ReadFault::Ended)
         }
-        Ok(count) => {
-            bytes.truncate(at + count);
-            Ok(())
-        }
+        Ok(count) => Ok(count),
         Err(cause) => {
             bytes.truncate(at);
             Err(ReadFault::Failed(cause))
+        }
+    }
+}
+
+/// Room for so many bytes behind the first `at`. Where there is not enough memory, those stay.
+fn make_room(bytes: &mut Vec<u8>, at: usize, most: usize) -> Result<(), AllocError>
+    requires some { 0 < most }
+    requires few { most ≤ 8192 }
+    requires there { at ≤ length bytes.old.items }
+    ensures front { take at bytes.new.items ≡ take at bytes.old.items }
+    ensures room { OnOk result (length bytes.new.items ≡ at + most) }
+    ensures kept { OnErr result (bytes.new.items ≡ take at bytes.old.items) }
+{
+    match bytes.resize(at + most, 0) {
+        Ok(()) => Ok(()),
+        Err(cause) => {
+            bytes.truncate(at);
+            Err(cause)
         }
     }
 }

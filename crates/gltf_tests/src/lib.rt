@@ -1,6 +1,8 @@
-//! Tests of what code alone can try of the loader, with readers, writers and sources of their own.
-//! All else is tried by the cases of `gltf_cases`.
+//! Tests of what code alone can try of the loader: callers and items of their own, iterators by
+//! their traits, records that are changed in code, and copies. All else is tried by the cases of
+//! `gltf_cases`.
 #![tactic(auto)]
 
+pub mod laws;
 #[cfg(test)]
 mod tests;

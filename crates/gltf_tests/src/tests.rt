@@ -1,12 +1,12 @@
-//! Copies and ownership, readers and writers, names, and items over documents.
+//! Each generic at a type of its own, iterators from either end, items over documents, records and
+//! copies.
 
-mod buffers;
+mod bounds;
+mod callers;
 mod copies;
-mod devices;
+mod every_list;
 mod first_steps;
 mod items;
-mod names;
+mod iterators;
+mod own;
 mod records;
-mod streams;
-mod targets;
-mod texts;

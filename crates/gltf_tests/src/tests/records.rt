@@ -1,43 +1,13 @@
-//! Records that are read, taken, given back and changed in code, and the paths of their members.
-use crate::tests::texts::{ONE_BUFFER, TWO_NODES, TWO_REPLACED, printed, printed_last, records};
+//! Records that are lent at their indices and changed in code, and the paths of their members.
+use crate::tests::texts::{TWO_NODES, TWO_REPLACED, records};
 use gltf::json::accessor::ComponentType;
 use gltf::json::path::{Path, Step};
 use gltf::json::validation::Checked;
-use gltf::json::{Root, Value, deserialize, kinds};
-use gltf::{Document, RawDocument, Records, Valid};
+use gltf::json::{Root, kinds};
+use gltf::{Document, Records, Valid};
 use std::alloc::Global;
 use std::process::Abort;
 use std::test::Fail;
-
-#[test]
-fn records_read_from_a_value_are_those_of_its_text(rt: HostRuntime) -> Result<(), Fail> {
-    for text in [TWO_REPLACED, TWO_NODES] {
-        let value = Value::from_str(rt.alloc(), text)?;
-        let by_value = printed_last(rt.alloc(), deserialize::from_value(rt.alloc(), &value)?)?;
-        let by_text = printed_last(rt.alloc(), records(rt.alloc(), text)?)?;
-        assert_eq!(rt; by_value.as_str(), by_text.as_str());
-    }
-    Ok(())
-}
-
-#[test]
-fn a_valid_document_is_lent_and_given_back_as_it_was(rt: HostRuntime) -> Result<(), Fail> {
-    for text in [TWO_REPLACED, ONE_BUFFER] {
-        let before = printed_last(rt.alloc(), records(rt.alloc(), text)?)?;
-        let valid = Valid::new(rt.alloc(), records(rt.alloc(), text)?)?;
-        let (lent, after) = lent_and_given_back(rt.alloc(), valid)?;
-        assert_eq!(rt; lent.as_str(), before.as_str());
-        assert_eq!(rt; after.as_str(), before.as_str());
-    }
-    Ok(())
-}
-
-/// What the records print that a valid document lends, and those that it gives back.
-fn lent_and_given_back(alloc: Global, valid: Valid) -> Result<(String, String), Fail> {
-    let lent = printed(alloc, valid.as_root())?;
-    let given_back = printed_last(alloc, valid.into_root())?;
-    Ok((lent, given_back))
-}
 
 #[test]
 fn records_are_lent_at_their_indices(rt: HostRuntime) -> Result<(), Fail> {
@@ -52,23 +22,6 @@ fn compare_node(rt: &impl Abort, valid: &Valid) {
     assert_eq!(rt; nodes.len(), 2);
     let node = valid.get::<kinds::Node>(1);
     assert_eq!(rt; node.name.as_deref(), Some("b"));
-}
-
-#[test]
-fn a_document_is_made_of_records_and_gives_them_back(rt: HostRuntime) -> Result<(), Fail> {
-    let root = records(rt.alloc(), ONE_BUFFER)?;
-    let root = Document::from_json(rt.alloc(), root)?.into_json();
-    assert_eq!(rt; root.buffers.len(), 1);
-    let document = Document::from_json_without_validation(root);
-    compare_raw(&rt, rt.alloc(), &document);
-    assert_eq!(rt; document.into_json().buffers.len(), 1);
-    Ok(())
-}
-
-/// A document that nobody has checked and that breaks no rule.
-fn compare_raw(rt: &impl Abort, alloc: Global, document: &RawDocument) {
-    assert!(rt; document.validate(alloc).is_ok());
-    assert_eq!(rt; document.as_json().buffers.len(), 1);
 }
 
 #[test]

@@ -1,8 +1,8 @@
 use Rattle.std.proofs.Common.{◌≡◌, sym, ap, ◌∙◌}
 use Rattle.gltf_names.specs.Named.{File, Relative}
-use Rattle.gltf_uri.specs.Uri.{uri_of}
-use Rattle.gltf_uri.specs.Uri as uri
-use Rattle.gltf_uri.specs.Meanings.{meaning}
+use Rattle.gltf_buffers.specs.Uri.{uri_of}
+use Rattle.gltf_buffers.specs.Uri as uri
+use Rattle.gltf_buffers.specs.Meanings.{meaning}
 use Rattle.gltf_buffers.specs.Names.{name_of}
 use Rattle.gltf_buffers.proofs.Asked.{name_meant}
 use Rattle.gltf_buffers.proofs.reference.bytes_behind.Goals as goal

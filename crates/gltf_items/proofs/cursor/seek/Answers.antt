@@ -24,6 +24,7 @@ loop-low-preserved-then-index-target g c =
             (c.loop-low.high - (c.loop-low.low + (c.loop-low.high - c.loop-low.low) / 2 + 1))
             (omega arith) (omega arith),
       );
+      kept = omega (arith, reads);
     }
 
 pub loop-low-preserved : goal.loop-low-preserved
@@ -46,4 +47,5 @@ loop-low-preserved g c =
             (c.loop-low.low + (c.loop-low.high - c.loop-low.low) / 2 - c.loop-low.low) (omega arith)
             (omega arith),
       );
+      kept = omega (arith, reads);
     }

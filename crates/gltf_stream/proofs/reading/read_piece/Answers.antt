@@ -1,6 +1,5 @@
 use Rattle.std.proofs.Common.{rules, ◌≡◌, ◌≤◌, ◌+◌, take, drop, length, ℕ, List, ◌++◌, ap, subst}
 use Rattle.std.proofs.Common.{◌∙◌, arith}
-use Rattle.std.proofs.lemmas.List.{take_all}
 use Rattle.std.proofs.Math.Seq.{take-append_seam}
 use Rattle.gltf_stream.proofs.Pieces.{take_on}
 use Rattle.gltf_stream.proofs.reading.read_piece.Goals as goal
@@ -8,12 +7,6 @@ use Rattle.gltf_stream.proofs.reading.read_piece.Goals as goal
 take_whole : (n : ℕ) (xs rest : List ℕ) → length xs ≡ n → take n (xs ++ rest) ≡ xs
 take_whole n xs rest e =
     subst (λ (k : ℕ). take k (xs ++ rest) ≡ xs) e (take-append_seam xs rest)
-
-take_filled : (n more : ℕ) (old rest : List ℕ) → length old ≡ n
-    → take n (take (n + more) old ++ rest) ≡ old
-take_filled n more old rest e =
-    ap (λ (t : List ℕ). take n (t ++ rest)) (take_all (n + more) old (omega arith))
-    ∙ take_whole n old rest e
 
 -- the first of the bytes that came, behind those that were there
 came_behind : (at n room : ℕ) (old made read rest : List ℕ) → length read ≡ room
@@ -25,18 +18,12 @@ came_behind at n room old made read rest same fits front kept =
     ∙ ap (λ (t : List ℕ). t ++ take n (drop at read)) (kept ∙ front)
 
 pub returns-in-Ok-clause-came : goal.returns-in-Ok-clause-came
-returns-in-Ok-clause-came g c =
-    let at : ℕ = c.len-at.result in
-    let n : ℕ = c.in-Ok.count in
-    let buf : List ℕ = c.read_behind-answer.new.bytes in (
-      take n (drop at buf),
-      c.in-Ok.ensures.ok,
-      c.truncate-in-Ok.ensures.items
-          ∙ came_behind c.len-at.result c.in-Ok.count c.resize.new.self.len
-          c.args.bytes.now.items c.as_mut_slice.result.now c.read_behind-answer.new.bytes _
-          (search rules) c.in-Ok.ensures.fits
-          (ap (take c.len-at.result) c.as_mut_slice.ensures.value
-          ∙ ap (take c.len-at.result) c.in_ok-resize.ensures.items
-          ∙ take_filled c.len-at.result c.args.most c.args.bytes.now.items _ (search rules))
-          c.in-Ok.ensures.front,
-    )
+returns-in-Ok-clause-came g c = (
+  take c.in-Ok.count (drop c.args.at c.read_behind-answer.new.bytes),
+  c.in-Ok.ensures.ok,
+  came_behind c.args.at c.in-Ok.count c.make_room.new.bytes.len
+      (take c.args.at c.args.bytes.now.items) c.as_mut_slice.result.now
+      c.read_behind-answer.new.bytes _ (search rules) c.in-Ok.ensures.fits
+      (ap (take c.args.at) c.as_mut_slice.ensures.value ∙ c.in_ok-make_room.ensures.front)
+      c.in-Ok.ensures.front,
+)

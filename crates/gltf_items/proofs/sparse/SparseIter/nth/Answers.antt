@@ -49,6 +49,17 @@ returns-then-n-self-clause-costs g c =
         c.item_at-item.ensures.values,
         ap (λ (t : StoredLists g.row.T.Denot). t.value_reads) sought,
       );
+      indices_kept = omega (arith, c.item_at-item.ensures.kept, c.seek-cursor.ensures.kept);
+      base_kept = omega (
+        arith,
+        c.item_at-item.ensures.kept,
+        ap (λ (t : StoredLists g.row.T.Denot). t.base_reads) sought,
+      );
+      values_kept = omega (
+        arith,
+        c.item_at-item.ensures.kept,
+        ap (λ (t : StoredLists g.row.T.Denot). t.value_reads) sought,
+      );
     }
 
 pub returns-else-n-self-clause-gives : goal.returns-else-n-self-clause-gives

@@ -1,0 +1,20 @@
+//! Zeros behind the bytes of a buffer.
+ghost use Rattle.std.specs.Prelude.{◌≡◌, ◌+◌, ◌%◌, ◌<◌, OnOk, OnErr, vec_len};
+ghost use Rattle.gltf_buffers.specs.Padding.{padded};
+
+use std::alloc::AllocError;
+
+/// Puts zeros behind the bytes, up to the next multiple of four.
+///
+/// A buffer's bytes may be up to three more than its `byteLength`, as in the BIN chunk of a GLB
+/// (glTF 2.0, section 3.6.1.2). Where there is not enough memory, the bytes stay as they are.
+#[tactic(auto, unfolding(crate::specs::Padding::padded))]
+pub fn pad_to_four(bytes: &mut Vec<u8>) -> Result<(), AllocError>
+    ensures ok { OnOk result (bytes.new.items ≡ padded bytes.old.items) }
+    ensures whole { OnOk result (vec_len bytes.new % 4 ≡ 0) }
+    ensures least { OnOk result (vec_len bytes.new < vec_len bytes.old + 4) }
+    ensures err { OnErr result (bytes.new.items ≡ bytes.old.items) }
+{
+    let length = bytes.len();
+    bytes.resize(length + (4 - length % 4) % 4, 0)
+}

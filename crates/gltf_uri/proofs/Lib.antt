@@ -1,4 +1,0 @@
-pub mod Prefixes
-pub mod Cuts
-pub mod Firsts
-pub mod Texts

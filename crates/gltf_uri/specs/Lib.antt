@@ -1,3 +1,0 @@
-pub mod Uri
-pub mod Meanings
-pub mod Laws
