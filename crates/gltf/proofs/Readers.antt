@@ -31,7 +31,7 @@ use Rattle.gltf.specs.Shown.{blob_bytes}
 use Rattle.gltf.specs.declared.file.Gltf.{Gltf}
 use Rattle.gltf.proofs.Parts.{container_parts}
 
--- what a reader gave behind no bytes is what came, and decides the answer
+-- what a reader gave after no bytes is what came, and decides the answer
 pub given_behind_none : {before after : Option (List ℕ)} {old : List ℕ} {Answer : List ℕ → Type 0}
     (came : List ℕ) → old ≡ [] → ReadsBehind before after old came
     → (starts_with nat_eq came magic ≡ true → length came ≤ needed_length came) → Answer came

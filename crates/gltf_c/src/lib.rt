@@ -41,8 +41,8 @@ use crate::primitives::GltfPrimitive;
 use crate::status::Status;
 use std::alloc::Global;
 
-/// The number of what a call makes of an open file, which is open again behind it; of a closed one
-/// that it is closed.
+/// The number that a call answers: of an open file the status of what is asked for, and the file
+/// stays open; of a closed one [`Status::Closed`].
 macro_rules! answer {
     ($alloc:ident, $handle:ident, $file:ident => $status:expr) => {{
         let Some($file) = handle::take($alloc, $handle) else {
@@ -55,12 +55,12 @@ macro_rules! answer {
 }
 
 /// Opens a file from its bytes: a GLB container where they begin with `glTF`, else JSON text (glTF
-/// 2.0, sections 2.8, 3.6.1 and 4.4). A copy is made of what is needed. What `file` held is let go.
+/// 2.0, sections 2.8, 3.6.1 and 4.4). A copy is made of what is needed. What `file` held is freed.
 ///
 /// Answers 0 where the bytes are accepted, and then `file` holds their document and buffers; else
 /// `file` is closed, and the number is that of the first layer at fault, from
 /// [`Status::BadContainer`] to [`Status::UnsupportedScheme`], or [`Status::NoMemory`]. `message` is
-/// given the error's text or an empty one, cut to its room, with a zero byte behind it.
+/// given the error's text or an empty one, cut to its room, with a zero byte after it.
 #[unsafe(no_mangle)]
 pub extern "C" fn gltf_open(
     alloc: Global,
@@ -92,7 +92,7 @@ pub extern "C" fn gltf_close(alloc: Global, file: &mut GltfFile)
     handle::take(alloc, file);
 }
 
-/// How many records of a kind there are; none in a closed file, nor of a number that has no kind.
+/// How many records of a kind there are; 0 in a closed file, and for a number that is no kind.
 #[unsafe(no_mangle)]
 pub extern "C" fn gltf_count(alloc: Global, file: &mut GltfFile, kind: u32) -> usize
     ensures same { file.new.value ≡ file.old.value }
@@ -125,7 +125,7 @@ pub extern "C" fn gltf_accessor_info(
     answer!(alloc, file, held => give(info::accessor(&held, index), out))
 }
 
-/// The items of the accessor at an index as bytes, one behind the other, with the sparse overrides
+/// The items of the accessor at an index as bytes, one after the other, with the sparse overrides
 /// (glTF 2.0, section 3.6.2), at the front of the room.
 ///
 /// [`Status::Closed`]; [`Status::NoSuchIndex`]; [`Status::Unreadable`] where the accessor cannot be
@@ -143,7 +143,7 @@ pub extern "C" fn gltf_accessor_read(
     answer!(alloc, file, held => read::read(&held, index, out))
 }
 
-/// How many bytes the buffer at an index has, with the zeros behind them. [`Status::Closed`] or
+/// How many bytes the buffer at an index has, with the zeros after them. [`Status::Closed`] or
 /// [`Status::NoSuchIndex`].
 #[unsafe(no_mangle)]
 pub extern "C" fn gltf_buffer_size(

@@ -115,7 +115,7 @@ taken came (Ok glb) whole is fault = record {
 }
 taken came (Err e) whole is fault = refused came e whole fault
 
--- what a reader gave behind no bytes is what came, and decides the answer
+-- what a reader gave after no bytes is what came, and decides the answer
 pub read_behind_none : {before after : Option (List ℕ)} {old : List ℕ} {result : Result Glb Error}
     (came : List ℕ) → old ≡ [] → ReadsBehind before after old came
     → length came ≤ needed_length came

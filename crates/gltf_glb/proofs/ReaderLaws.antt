@@ -73,7 +73,7 @@ the_reading bytes reading has = record {
   only = λ other also. one_reader_reading bytes other reading also has;
 }
 
--- ---- bytes that decide, whatever stands behind them
+-- ---- bytes that decide, whatever comes after them
 
 pub decided_front : (came : List ℕ) (fault : Fault) → 12 ≤ length came
     → front_fault came ≡ Some fault → Decides came (Err fault)

@@ -120,7 +120,7 @@ module _ {X : Type 0} (size : ℕ) (value : List ℕ → X) (bytes : List ℕ) (
             ))
       ]
 
--- what is left behind the first k items is the list of the bytes behind k strides
+-- what is left after the first k items is the list of the bytes after k strides
 pub drop-plain : {X : Type 0} (size : ℕ) (value : List ℕ → X) (bytes : List ℕ) (stride k : ℕ)
     → 0 < size → size ≤ stride → plain size value (drop (k * stride) bytes) stride
     ≡ drop k (plain size value bytes stride)
