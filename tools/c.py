@@ -1,10 +1,10 @@
 #!/usr/bin/env python3
 """Builds the static library for C and tries it: `make c`, and, behind `rt ci`, `make test`.
 
-The prover proves `crates/gltf_c` before a byte of it is built: the exports, over the calls in
-`crates/gltf_calls`. `out/c/libgltf.a` is that library and the few lines of the toolchain over
-malloc, joined, and shows the exports alone. With the word `behind-ci` it stands on the libraries as
-`rt ci` left them, and proves none of them again but the exports.
+The prover proves `crates/gltf_c` before a byte of it is built. `out/c/libgltf.a` is that library and
+the few lines of the toolchain over malloc, joined, and shows the exports alone. With the word
+`behind-ci` it is built over the libraries as `rt ci` left them, and only `crates/gltf_c` is proved
+again.
 
 A test whose tool is not there is told as not tried. The last line is `N passed, M failed`, and a
 test that was not tried is neither."""
@@ -23,8 +23,6 @@ import crates
 import programs
 
 CRATE = crates.TOP / "crates" / "gltf_c"
-# What has the code that C sees: the exports, and the types that they take.
-SOURCES = (CRATE, crates.TOP / "crates" / "gltf_calls")
 C = crates.TOP / "c"
 OUT = crates.TOP / "out" / "c"
 LIBRARY = OUT / "libgltf.a"
@@ -76,7 +74,7 @@ def kit():
 
 
 def source():
-    files = [file for crate in SOURCES for file in sorted((crate / "src").rglob("*.rt"))]
+    files = sorted((CRATE / "src").rglob("*.rt"))
     return "".join(file.read_text("utf-8") for file in files)
 
 
