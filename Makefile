@@ -23,7 +23,7 @@ help:
 	@echo '  make check NAME=CRATE                      proves one crate and those it stands on'
 	@echo '  make case                                  runs the cases alone'
 	@echo '  make wrong [NAME=CRATE]                    tries the wrong bodies beside the gate'
-	@echo '  make bench [NAME=items|records|import|files|c]  runs the benchmarks'
+	@echo '  make bench [NAME=items|records|import|files|peers] [WORDS=..]  runs the benchmarks'
 	@echo '  make test                                  the gate: all proofs and all tests'
 
 show:
@@ -49,10 +49,10 @@ check:
 case:
 	@python3 tools/case.py
 
-# Each in turn. That of the library for C also wants CGLTF=FOLDER, as its script says.
+# Each in turn. WORDS are passed on, as in `make bench NAME=peers WORDS=--quick`.
 bench:
-	@for it in $(or $(NAME),items records import files); do \
-		echo "== $$it"; "benches/$$it/run.sh" || exit 1; \
+	@for it in $(or $(NAME),items records import files peers); do \
+		echo "== $$it" >&2; "benches/$$it/run.sh" $(WORDS) || exit; \
 	done
 
 # What costs nothing comes first. Behind `rt ci` come the scripts that run the programs which it
