@@ -5,8 +5,8 @@ FILE ?= examples/box.glb
 PREFIX ?= /usr/local
 NAME :=
 
-# The scripts in tools/ take the words from the environment, as they stand there: a path may have
-# any character. The caller's folder is another one under `make -C`.
+# The scripts in tools/ take the words from the environment, unchanged: a path may have any
+# character. The caller's folder is another one under `make -C`.
 export GLTF_CALL := $(value CALL)
 export GLTF_FILE := $(value FILE)
 export GLTF_PREFIX := $(value PREFIX)
@@ -20,9 +20,9 @@ help:
 	@echo '  make install [PREFIX=FOLDER]               installs the programs and that library'
 	@echo '  make reference                             writes out/reference/index.html'
 	@echo 'For a change'
-	@echo '  make check NAME=CRATE                      proves one crate and those it stands on'
+	@echo '  make check NAME=CRATE                      proves one crate and those that it uses'
 	@echo '  make case                                  runs the cases alone'
-	@echo '  make wrong [NAME=CRATE]                    tries the wrong bodies beside the gate'
+	@echo '  make wrong [NAME=CRATE]                    tries the wrong bodies of a crate'
 	@echo '  make bench [NAME=items|records|import|files|peers] [WORDS=..]  runs the benchmarks'
 	@echo '  make test                                  the gate: all proofs and all tests'
 
@@ -55,7 +55,7 @@ bench:
 		echo "== $$it" >&2; "benches/$$it/run.sh" $(WORDS) || exit; \
 	done
 
-# What costs nothing comes first. Behind `rt ci` come the scripts that run the programs which it
+# What costs nothing comes first. After `rt ci` come the scripts that run the programs which it
 # built. The last line adds up all: `N passed, M failed`.
 test:
 	@tools/copies.sh

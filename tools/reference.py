@@ -3,8 +3,8 @@
 
 out/reference has a page for each library of crates.txt and an index. A page has the public items of
 each public module: the doc comment, the signature and the contract. An item of a private module
-stands where it is given out by `pub use`. Below the modules stand the definitions, of specs/*.antt,
-that contracts name. Names lead to where they are described, also in another crate."""
+is where `pub use` exports it. Below the modules are the definitions, of specs/*.antt, that
+contracts name. Names lead to where they are described, also in another crate."""
 import dataclasses
 import functools
 import html
@@ -67,7 +67,7 @@ class Module:
 
 
 def closed(text, at):
-    """Where the bracket is closed that stands at a place."""
+    """Where the bracket at a place is closed."""
     depth = 0
     while at < len(text):
         whole = WHOLE.match(text, at)
@@ -131,7 +131,7 @@ def less_far_in(text, columns):
 
 
 def names_used(tree, path=()):
-    """What a `use` brings in: of each name there the path that it stands for."""
+    """What a `use` brings in: of each name there its path."""
     tree = tree.strip()
     first, brace, rest = tree.partition("{")
     if brace:
@@ -204,12 +204,12 @@ def resolved(module, path, seen=()):
     return (resolved(root, rest, seen) if rest else (root, None)) if root else None
 
 
-# ---- where things stand
+# ---- where things are
 
 
 @dataclasses.dataclass(eq=False)
 class Shown:
-    """An item where it is described: the module that it stands in there, and its own."""
+    """An item where it is described: the module that it is in there, and its own."""
 
     item: Item
     place: Module
