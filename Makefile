@@ -4,6 +4,7 @@ CALL ?= chunks
 FILE ?= examples/box.glb
 PREFIX ?= /usr/local
 NAME :=
+BENCHES := items records import files peers
 
 # The scripts in tools/ take the words from the environment, unchanged: a path may have any
 # character. The caller's folder is another one under `make -C`.
@@ -51,7 +52,9 @@ case:
 
 # Each in turn. WORDS are passed on, as in `make bench NAME=peers WORDS=--quick`.
 bench:
-	@for it in $(or $(NAME),items records import files peers); do \
+	@for it in $(or $(NAME),$(BENCHES)); do \
+		test -x "benches/$$it/run.sh" || { \
+			echo "make bench: there is no $$it: NAME is one of $(BENCHES)" >&2; exit 2; }; \
 		echo "== $$it" >&2; "benches/$$it/run.sh" $(WORDS) || exit; \
 	done
 
