@@ -116,6 +116,9 @@ def by_tinygltf(work):
     flags, header = folder_of("tiny_gltf.h", "TINYGLTF", GET_TINYGLTF)
     if not shutil.which("c++"):
         raise NotThere("apt-get install g++")
+    folders = (header.parent, "/usr/include", "/usr/local/include")
+    if not any(pathlib.Path(folder, "nlohmann", "json.hpp").is_file() for folder in folders):
+        raise NotThere(GET_TINYGLTF)
     # The header names its versions from the first to its own.
     text = header.read_text("utf-8", "replace")
     versions = re.findall(r"^// +- v(\d+)\.(\d+)\.(\d+)", text, re.MULTILINE)
@@ -310,7 +313,7 @@ def table(words, work):
     found, versions, lacking = programs(work, words.loader or LOADERS)
     if not found:
         raise Wrong("no loader is there")
-    folder = words.files or work / "files"
+    folder = (words.files or work) / ("quick" if words.quick else "files")
     make(folder, words)
     lines = [*head(versions, lacking, words, load), TABLE]
     callgrind = shutil.which("valgrind") and not words.no_instructions
