@@ -101,7 +101,7 @@ def folder_of(header, variable, get):
 def by_gltf(work):
     if not crates.is_built_of(LIBRARY, "gltf_c"):
         raise NotThere("make c")
-    version = ran("rt", "version") or "built by an unknown toolchain: rt is not on the path"
+    version = first_line("rt", "version") or "built by an unknown toolchain: rt is not on the path"
     return compiled(work, "by_gltf", "cc", HERE / "by_gltf.c", [LIBRARY]), version
 
 
@@ -148,7 +148,7 @@ def by_crate(work):
 LOADERS = {"gltf.h": by_gltf, "cgltf": by_cgltf, "tinygltf": by_tinygltf, "rust": by_crate}
 
 
-def ran(*words):
+def first_line(*words):
     """The first line that a command prints; empty where there is no such command."""
     try:
         done = subprocess.run(words, stdout=subprocess.PIPE, stderr=subprocess.DEVNULL, text=True)
@@ -236,19 +236,20 @@ def figures_of(path, found, rounds, reads_items, callgrind):
     times = TIMES if path.stat().st_size < SMALL else 1
     figures, holds = {name: Figures() for name in found}, {}
     for _ in range(rounds):
-        for name, program in found.items():
-            if not figures[name].refused:
-                figures[name].add(measured(program, "open", path, times))
-    for name in [name for name in found if not figures[name].refused]:
-        for _ in range(rounds if reads_items else 1):
-            wall, _, _, holds[name] = measured(found[name], "items", path, times)
-            if reads_items and holds[name][0] != -1:
-                figures[name].items = least(figures[name].items, wall)
-        if callgrind:
-            figures[name].instructions = instructions(found[name], path)
-    agree(path, holds)
+        for name, it in figures.items():
+            if not it.refused:
+                it.add(measured(found[name], "open", path, times))
     if "gltf.h" in figures and figures["gltf.h"].refused:
         raise Wrong(f"{path.name}: the proved loader: {figures['gltf.h'].refused}")
+    accepting = {name: it for name, it in figures.items() if not it.refused}
+    for _ in range(rounds if reads_items else 1):
+        for name, it in accepting.items():
+            wall, _, _, holds[name] = measured(found[name], "items", path, times)
+            if reads_items and holds[name][0] != -1:
+                it.items = least(it.items, wall)
+    agree(path, holds)
+    for name, it in accepting.items() if callgrind else ():
+        it.instructions = instructions(found[name], path)
     return figures
 
 
@@ -264,17 +265,18 @@ def millions(count):
 
 def memory_text(memory):
     """A process counts the most memory of the one that began it, which is this one, as its own."""
+    if memory is None:
+        return ""
     own = resource.getrusage(resource.RUSAGE_SELF).ru_maxrss * 1024
     return f"{memory / 1e6:,.0f}" if memory > own else f"below {own / 1e6:.0f}"
 
 
 def rows(what, figures):
     for name, it in figures.items():
-        if it.refused:
-            yield f"| {what} | {name} | {it.refused} | | | | |"
-            continue
         cells = [time_text(it.wall), time_text(it.cpu), time_text(it.items),
                  millions(it.instructions), memory_text(it.memory)]
+        if it.refused:
+            cells = [it.refused, "", "", "", ""]
         yield f"| {what} | {name} | {' | '.join(cells)} |"
         what = ""
 
@@ -291,13 +293,13 @@ def head(versions, lacking, words, load):
     """What was measured, where and by what, as a list."""
     date = datetime.datetime.now(datetime.timezone.utc).strftime("%Y-%m-%d")
     yield f"- {date}, {machine()}; other work on the machine: a load of {load:.1f} at the start"
-    yield f"- built by {ran('cc', '--version')}, `-O2 -DNDEBUG -march=x86-64-v2`"
+    yield f"- built by {first_line('cc', '--version')}, `-O2 -DNDEBUG -march=x86-64-v2`"
     yield from (f"- {name}: {version}" for name, version in versions.items())
     yield from (f"- {name}: not measured; `{get}` gets it" for name, get in lacking.items())
     if not words.no_instructions and not shutil.which("valgrind"):
         yield "- instructions: not measured; `apt-get install valgrind` gets what counts them"
     elif not words.no_instructions:
-        yield f"- instructions: counted by {ran('valgrind', '--version')}"
+        yield f"- instructions: counted by {first_line('valgrind', '--version')}"
     best = "one run" if words.rounds == 1 else f"the best of {words.rounds} runs"
     yield f"- {best} of each" + (", on files of a thousandth" if words.quick else "")
 
