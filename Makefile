@@ -4,9 +4,10 @@ CALL ?= chunks
 FILE ?= examples/box.glb
 PREFIX ?= /usr/local
 NAME :=
+BENCHES := items records import files peers
 
-# The scripts in tools/ take the words from the environment, as they stand there: a path may have
-# any character. The caller's folder is another one under `make -C`.
+# The scripts in tools/ take the words from the environment, unchanged: a path may have any
+# character. The caller's folder is another one under `make -C`.
 export GLTF_CALL := $(value CALL)
 export GLTF_FILE := $(value FILE)
 export GLTF_PREFIX := $(value PREFIX)
@@ -20,10 +21,10 @@ help:
 	@echo '  make install [PREFIX=FOLDER]               installs the programs and that library'
 	@echo '  make reference                             writes out/reference/index.html'
 	@echo 'For a change'
-	@echo '  make check NAME=CRATE                      proves one crate and those it stands on'
+	@echo '  make check NAME=CRATE                      proves one crate and those that it uses'
 	@echo '  make case                                  runs the cases alone'
-	@echo '  make wrong [NAME=CRATE]                    tries the wrong bodies beside the gate'
-	@echo '  make bench [NAME=items|records|import|files|c]  runs the benchmarks'
+	@echo '  make wrong [NAME=CRATE]                    tries the wrong bodies of a crate'
+	@echo '  make bench [NAME=items|records|import|files|peers] [WORDS=..]  runs the benchmarks'
 	@echo '  make test                                  the gate: all proofs and all tests'
 
 show:
@@ -49,13 +50,15 @@ check:
 case:
 	@python3 tools/case.py
 
-# Each in turn. That of the library for C also wants CGLTF=FOLDER, as its script says.
+# Each in turn. WORDS are passed on, as in `make bench NAME=peers WORDS=--quick`.
 bench:
-	@for it in $(or $(NAME),items records import files); do \
-		echo "== $$it"; "benches/$$it/run.sh" || exit 1; \
+	@for it in $(or $(NAME),$(BENCHES)); do \
+		test -x "benches/$$it/run.sh" || { \
+			echo "make bench: there is no $$it: NAME is one of $(BENCHES)" >&2; exit 2; }; \
+		echo "== $$it" >&2; "benches/$$it/run.sh" $(WORDS) || exit; \
 	done
 
-# What costs nothing comes first. Behind `rt ci` come the scripts that run the programs which it
+# What costs nothing comes first. After `rt ci` come the scripts that run the programs which it
 # built. The last line adds up all: `N passed, M failed`.
 test:
 	@tools/copies.sh

@@ -1,8 +1,8 @@
 #!/usr/bin/env bash
 # `program.sh NAME CRATES TEXT FOLDER` proves and builds the program of that text over these crates,
 # in a folder of its own, as FOLDER/crates/NAME/out/NAME, and runs it once, without words. It needs
-# `rt` on the path. Programs of benchmarks stand in text files, since `rt ci` wants every .rt file
-# in a crate of the repository.
+# `rt` on the path. Programs of benchmarks are text files, since `rt ci` takes every .rt file for
+# part of a crate.
 set -euo pipefail
 name=$1 crates=$2 text=$3 work=$4
 top=$(cd "$(dirname "$0")/.." && pwd)

@@ -1,5 +1,5 @@
 #!/usr/bin/env python3
-"""What `list` has to tell of files, read here by Python's own means: `expected.py FILE..`."""
+"""What `list` has to print of files, read here by Python's own means: `expected.py FILE..`."""
 import base64
 import json
 import struct
@@ -20,11 +20,11 @@ def parts(data):
     if data[:4] != b"glTF":
         return json.loads(data), None
     length = struct.unpack_from("<I", data, 12)[0]
-    document, behind = json.loads(data[20:20 + length]), 20 + length
-    if behind == len(data):
+    document, end = json.loads(data[20:20 + length]), 20 + length
+    if end == len(data):
         return document, None
-    size = struct.unpack_from("<I", data, behind)[0]
-    return document, data[behind + 8:behind + 8 + size]
+    size = struct.unpack_from("<I", data, end)[0]
+    return document, data[end + 8:end + 8 + size]
 
 
 def bytes_of(buffer, blob):
@@ -67,12 +67,12 @@ def tell_accessor(document, buffers, index, accessor):
     form = "%.9g" if letter == "f" else "%d"
     if "bufferView" in accessor or "sparse" in accessor:
         items = numbers(document, buffers, accessor)
-        told = "".join(" " + form % number for item in items for number in item)
+        text = "".join(" " + form % number for item in items for number in item)
     else:
-        told = " status 13"
+        text = " status 13"
     print(
         f"accessor {index}: {accessor['count']} of {size} bytes, {each} of type "
-        f"{accessor['componentType']}{normalized}{sparse}:{told}"
+        f"{accessor['componentType']}{normalized}{sparse}:{text}"
     )
 
 
@@ -81,31 +81,31 @@ def tell_mesh(index, mesh):
         named = [(name, primitive[name]) for name in ("indices", "material") if name in primitive]
         named += [(name, primitive["attributes"][name]) for name in ATTRIBUTES
                   if name in primitive["attributes"]]
-        told = "".join(f", {name} {where}" for name, where in named)
-        print(f"primitive {number} of mesh {index}: mode {primitive.get('mode', 4)}{told}")
+        text = "".join(f", {name} {where}" for name, where in named)
+        print(f"primitive {number} of mesh {index}: mode {primitive.get('mode', 4)}{text}")
 
 
 def tell_node(index, node):
-    told = [f"{name} {node[name]}" for name in ("mesh", "skin", "camera") if name in node]
-    told += [f"child {child}" for child in node.get("children", [])]
+    parts = [f"{name} {node[name]}" for name in ("mesh", "skin", "camera") if name in node]
+    parts += [f"child {child}" for child in node.get("children", [])]
     for member in MEMBERS:
         if member in node:
-            told.append(" ".join([member, *("%.17g" % number for number in node[member])]))
-    print(", ".join([f"node {index}", *told]))
+            parts.append(" ".join([member, *("%.17g" % number for number in node[member])]))
+    print(", ".join([f"node {index}", *parts]))
 
 
 def tell_image(document, index, image):
-    told = [f"image {index}"]
+    parts = [f"image {index}"]
     if "bufferView" in image:
         view = document["bufferViews"][image["bufferView"]]
-        told.append(f"{view['byteLength']} bytes at {view.get('byteOffset', 0)} "
+        parts.append(f"{view['byteLength']} bytes at {view.get('byteOffset', 0)} "
                     f"of buffer {view['buffer']}")
-    told += [f"{word} {image[name]}" for word, name in (("at", "uri"), ("of type", "mimeType"))
+    parts += [f"{word} {image[name]}" for word, name in (("at", "uri"), ("of type", "mimeType"))
              if name in image]
-    print(", ".join(told))
+    print(", ".join(parts))
 
 
-def tell(path):
+def print_all(path):
     with open(path, "rb") as file:
         document, blob = parts(file.read())
     buffers = [bytes_of(buffer, blob) for buffer in document.get("buffers", [])]
@@ -129,4 +129,4 @@ def tell(path):
 
 
 for name in sys.argv[1:]:
-    tell(name)
+    print_all(name)

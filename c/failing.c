@@ -58,7 +58,7 @@ static const char *const NO_MEMORY_FOR_TEXT = "there is no memory for the messag
 
 static unsigned char items[1 << 16];
 
-/* Opens, reads all and closes, and answers the status of the opening. */
+/* Opens, reads all and closes, and returns the status of the opening. */
 static gltf_status whole(const unsigned char *bytes, size_t size, char *why, size_t why_size)
 {
     gltf_file file = GLTF_CLOSED_FILE;

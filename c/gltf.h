@@ -16,7 +16,7 @@
  *
  * WHAT IS PROVED of every call that keeps to the duties below. It returns, whatever the bytes are,
  * and it reads and writes no memory but what its arguments name and what it has from malloc. What
- * each call answers is said at the call, and is proved as it is said there.
+ * each call returns is said at the call, and is proved as it is said there.
  * NOT PROVED, but tested: that all memory is given back, and that this header agrees with the code.
  *
  * WHAT A CALLER HAS TO KEEP. The library tests none of it, not even for NULL: its functions take
@@ -55,7 +55,7 @@ typedef struct gltf_file {
 
 #define GLTF_CLOSED_FILE { 0 }
 
-/* What a call answers. A call that does not answer GLTF_SUCCESS has written nothing, but for
+/* What a call returns. A call that does not return GLTF_SUCCESS has written nothing, but for
  * gltf_open, which closes the file and writes the message. */
 enum {
     GLTF_SUCCESS = 0,
@@ -69,7 +69,7 @@ enum {
     GLTF_EXTERNAL_REFERENCE = 8,  /* a URI leads to another file */
     GLTF_UNSUPPORTED_SCHEME = 9,  /* a URI has a scheme that is neither `data` nor `file`, or spells
                                      no text */
-    GLTF_INPUT_OUTPUT = 10,       /* answered by no call */
+    GLTF_INPUT_OUTPUT = 10,       /* returned by no call */
     GLTF_CLOSED = 11,             /* the file is closed */
     GLTF_NO_SUCH_INDEX = 12,      /* nothing has that index, or it has not what was asked for */
     GLTF_UNREADABLE = 13,         /* the accessor does not fit its views, or they their buffers, as
@@ -107,7 +107,7 @@ enum {
     GLTF_F32 = 5126
 };
 
-/* What an accessor is. A matrix is a column behind the other. Columns of 2 or 3 components of one
+/* What an accessor is. A matrix is a column after the other. Columns of 2 or 3 components of one
  * byte, and of 3 of two, are padded in a file to multiples of 4 bytes (glTF 2.0, section 3.6.2.4):
  * of these matrices the padding is read as numbers too. */
 typedef struct gltf_accessor {
@@ -117,7 +117,7 @@ typedef struct gltf_accessor {
     size_t item_size;            /* bytes of an item, 1 to 64: its components, with no padding */
     unsigned int component_type; /* GLTF_I8 .. GLTF_F32 */
     unsigned int components;     /* of an item: 1, 2, 3, 4, 9 or 16 */
-    unsigned int normalized;     /* 1 where whole numbers stand for fractions, else 0 */
+    unsigned int normalized;     /* 1 where whole numbers mean fractions, else 0 */
     unsigned int sparse;         /* 1 where items are overridden, else 0 */
 } gltf_accessor;
 
@@ -165,7 +165,7 @@ typedef struct gltf_node {
 } gltf_node;
 
 /* The members of a node that are lists of numbers. Of one that is absent no number is given: it
- * then means what stands behind `else` here. */
+ * then means what follows `else` here. */
 enum {
     GLTF_MATRIX = 0,      /* its place: 16 numbers, column by column; else the next three members */
     GLTF_TRANSLATION = 1, /* x, y, z in metres; else 0, 0, 0 */
@@ -184,8 +184,8 @@ typedef struct gltf_image {
 } gltf_image;
 
 /* Opens a file from its `size` bytes: a GLB container where they begin with `glTF`, else JSON text
- * (glTF 2.0, sections 2.8, 3.6.1 and 4.4). Buffers stand in the BIN chunk and in data URIs; no
- * other file is read. What is needed is copied: the bytes may go after the call. What `file` held
+ * (glTF 2.0, sections 2.8, 3.6.1 and 4.4). Buffers are in the BIN chunk and in data URIs; no
+ * other file is read. What is needed is copied: the bytes may be freed then. What `file` held
  * before is dropped.
  *
  * GLTF_SUCCESS exactly where container, text, records, rules and the buffers hold, and there was
@@ -196,7 +196,7 @@ typedef struct gltf_image {
  * first of these layers that does not hold; then the bytes are not accepted at any other time
  * either. Or it is GLTF_NO_MEMORY, which says nothing of the bytes.
  *
- * `message` gets the text of the error, cut to `message_size` - 1 bytes, with a zero byte behind
+ * `message` gets the text of the error, cut to `message_size` - 1 bytes, with a zero byte after
  * it, or an empty text; with a size of 0 nothing is written. Where there was no memory for the text
  * it says just that, and the status is what it would have been. Two things are tested and not
  * proved: which text it is where the file is no JSON (GLTF_BAD_JSON) or a payload no base64
@@ -213,9 +213,9 @@ size_t gltf_count(gltf_file *file, unsigned int kind);
 /* What accessor `index` is. GLTF_SUCCESS, GLTF_CLOSED or GLTF_NO_SUCH_INDEX. */
 gltf_status gltf_accessor_info(gltf_file *file, size_t index, gltf_accessor *out);
 
-/* Writes the items of accessor `index` to the front of `out`, one behind the other, count *
+/* Writes the items of accessor `index` to the front of `out`, one after the other, count *
  * item_size bytes: those of its view, or zeros, with sparse values in place of some (glTF 2.0,
- * section 3.6.2). What stands behind them in `out` stays.
+ * section 3.6.2). What follows them in `out` stays.
  *
  * GLTF_CLOSED where the file is closed, else GLTF_NO_SUCH_INDEX where there is no such accessor,
  * else GLTF_UNREADABLE where it has neither a view nor sparse values, or where one of its parts,
@@ -272,12 +272,12 @@ gltf_status gltf_scene_node(gltf_file *file, size_t scene, size_t position, size
 gltf_status gltf_image_info(gltf_file *file, size_t index, gltf_image *out);
 
 /* THE CALLS THAT GIVE A TEXT write it, in UTF-8, to the front of `text`, cut to `text_size` - 1
- * bytes, with a zero byte behind it; with a size of 0 they write none of it. `*length` is given the
+ * bytes, with a zero byte after it; with a size of 0 they write none of it. `*length` is given the
  * bytes of the whole text, without that zero, so the text was cut where `*length` >= `text_size`. A
  * cut may split a character, and a text may hold zero bytes. GLTF_SUCCESS, GLTF_CLOSED, or
  * GLTF_NO_SUCH_INDEX where there is no such record, or it has no such text. */
 
-/* The URI of image `index` (glTF 2.0, section 5.18.1), as it stands in the document. */
+/* The URI of image `index` (glTF 2.0, section 5.18.1), as it is in the document. */
 gltf_status gltf_image_uri(gltf_file *file, size_t index, char *text, size_t text_size,
                            size_t *length);
 

@@ -1,4 +1,4 @@
-/* Tells what the files hold: all names, the bytes of buffers, all numbers of accessors, what the
+/* Prints what the files hold: all names, the bytes of buffers, all numbers of accessors, what the
  * primitives of meshes name, the nodes and where they are, and where images are; of a file that is
  * refused the message, whole and cut: `list FILE..`. */
 #include "contents.h"
@@ -222,13 +222,13 @@ static int tell_image(gltf_file *file, size_t index)
     return 0;
 }
 
-/* What `tell` says of each record of a kind, up to the first that fails. */
-static int tell_each(gltf_file *file, unsigned kind, int (*tell)(gltf_file *, size_t))
+/* What `print` prints of each record of a kind, up to the first that fails. */
+static int print_each(gltf_file *file, unsigned kind, int (*print)(gltf_file *, size_t))
 {
     size_t count = gltf_count(file, kind), i;
     int status = 0;
     for (i = 0; i < count && status == 0; i++)
-        status = tell(file, i);
+        status = print(file, i);
     return status;
 }
 
@@ -243,20 +243,20 @@ static int tell_open(gltf_file *file)
     for (kind = GLTF_BUFFERS; kind <= GLTF_CAMERAS && status == 0; kind++)
         status = tell_names(file, kind);
     if (status == 0)
-        status = tell_each(file, GLTF_BUFFERS, tell_buffer);
+        status = print_each(file, GLTF_BUFFERS, tell_buffer);
     if (status == 0)
-        status = tell_each(file, GLTF_ACCESSORS, tell_accessor);
+        status = print_each(file, GLTF_ACCESSORS, tell_accessor);
     if (status == 0)
-        status = tell_each(file, GLTF_MESHES, tell_mesh);
+        status = print_each(file, GLTF_MESHES, tell_mesh);
     if (status == 0)
-        status = tell_each(file, GLTF_NODES, tell_node);
+        status = print_each(file, GLTF_NODES, tell_node);
     if (status == 0)
-        status = tell_each(file, GLTF_SCENES, tell_scene);
-    return status == 0 ? tell_each(file, GLTF_IMAGES, tell_image) : status;
+        status = print_each(file, GLTF_SCENES, tell_scene);
+    return status == 0 ? print_each(file, GLTF_IMAGES, tell_image) : status;
 }
 
-/* The message, and behind it what a room of ten bytes gets of it: the first nine and a zero byte,
- * with nothing written behind the room. */
+/* The message, and after it what a room of ten bytes gets of it: the first nine and a zero byte,
+ * with nothing written past the room. */
 static int tell_refusal(const unsigned char *bytes, size_t size, const char *why)
 {
     gltf_file file = GLTF_CLOSED_FILE;

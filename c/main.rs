@@ -1,4 +1,4 @@
-//! The library from Rust: `main FILE` tells how many accessors a file has. It is written for rustc
+//! The library from Rust: `main FILE` prints how many accessors a file has. It is written for rustc
 //! 1.63 and later, of each edition before 2024.
 use std::os::raw::{c_char, c_void};
 use std::process::ExitCode;

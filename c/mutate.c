@@ -1,5 +1,5 @@
 /* Opens, reads and closes mutated copies of files: `mutate TIMES FILE..`. It ends with 0 where
- * every answer is one that the header names; a sanitizer sees the rest. */
+ * every result is one that the header names; a sanitizer sees the rest. */
 #include "contents.h"
 #include "gltf.h"
 
@@ -20,7 +20,7 @@ static size_t any(size_t below)
 }
 
 /* Changes the bytes at up to three places, most often in the beginning, where the text is, and
- * answers how many of them are left. */
+ * returns how many of them are left. */
 static size_t mutated(unsigned char *bytes, size_t size)
 {
     size_t left = size;
@@ -45,7 +45,7 @@ static size_t mutated(unsigned char *bytes, size_t size)
     return left;
 }
 
-/* Reads each accessor, and one behind the last. */
+/* Reads each accessor, and one past the last. */
 static int read_all(gltf_file *file, long *read)
 {
     size_t count = gltf_count(file, GLTF_ACCESSORS);
@@ -131,7 +131,7 @@ static int read_buffer(gltf_file *file, size_t index)
     return right ? 0 : 20;
 }
 
-/* Each buffer, and the one behind the last. */
+/* Each buffer, and the one past the last. */
 static int read_buffers(gltf_file *file)
 {
     size_t count = gltf_count(file, GLTF_BUFFERS), i, size;
@@ -168,7 +168,7 @@ static int read_primitive(gltf_file *file, size_t mesh, size_t primitive)
     return 0;
 }
 
-/* Each mesh with its primitives, and what is behind the last of them. */
+/* Each mesh with its primitives, and what is past the last of them. */
 static int read_meshes(gltf_file *file)
 {
     size_t count = gltf_count(file, GLTF_MESHES), i, k, primitives;
@@ -257,7 +257,7 @@ static int look_at_all(gltf_file *file, long *read)
     return wrong;
 }
 
-/* A file's bytes stand in a block of their own size, so that each read past them is seen. */
+/* A file's bytes are in a block of their own size, so that each read past them is seen. */
 static int try_one(const unsigned char *bytes, size_t size, long *opened, long *read)
 {
     gltf_file file = GLTF_CLOSED_FILE;
@@ -272,7 +272,7 @@ static int try_one(const unsigned char *bytes, size_t size, long *opened, long *
     return gltf_count(&file, GLTF_ACCESSORS) == 0 ? wrong : 8;
 }
 
-static void tell(const char *what, const long *times)
+static void print_times(const char *what, const long *times)
 {
     int i;
     printf("%s:", what);
@@ -309,7 +309,7 @@ int main(int words, char **word)
         free(good);
         free(bytes);
     }
-    tell("opened", opened);
-    tell("read", read);
+    print_times("opened", opened);
+    print_times("read", read);
     return wrong;
 }

@@ -1,4 +1,4 @@
-/* Tells the first point of a file's first accessor: `show FILE`. */
+/* Prints the first point of a file's first accessor: `show FILE`. */
 #include "contents.h"
 #include "gltf.h"
 

@@ -1,13 +1,12 @@
 #!/usr/bin/env python3
-"""Builds the static library for C and tries it: `make c`, and, behind `rt ci`, `make test`.
+"""Builds the static library for C and tries it: `make c`, and, after `rt ci`, `make test`.
 
-The prover proves `crates/gltf_c` before a byte of it is built. `out/c/libgltf.a` is that library and
-the few lines of the toolchain over malloc, joined, and shows the exports alone. With the word
-`behind-ci` it is built over the libraries as `rt ci` left them, and only `crates/gltf_c` is proved
-again.
+The prover proves `crates/gltf_c` before a byte of it is built. `out/c/libgltf.a` is that library
+and the few lines of the toolchain over malloc, joined, and shows the exports alone. With the word
+`after-ci` it uses the libraries as `rt ci` left them, and proves only `crates/gltf_c` again.
 
-A test whose tool is not there is told as not tried. The last line is `N passed, M failed`, and a
-test that was not tried is neither."""
+A test whose tool is not there is reported as not tried, and counts neither as passed nor as failed.
+The last line is `N passed, M failed`."""
 import os
 import pathlib
 import re
@@ -88,10 +87,10 @@ def exports():
     return found
 
 
-def build(behind_ci):
+def build(after_ci):
     """The archive of the crate."""
     archive = CRATE / "out" / "libgltf_c.a"
-    if not behind_ci:
+    if not after_ci:
         subprocess.run(["rt", "lib"], cwd=CRATE, check=True)
         return archive
     listed, top = crates.listed(), crates.TOP / "crates"
@@ -171,8 +170,8 @@ def structs():
 
 
 def layouts():
-    """Each member has to be as wide in the header as in the code and to stand at the same place,
-    with nothing behind the last but what aligns it."""
+    """Each member has to be as wide in the header as in the code and at the same place, with
+    nothing after the last but what aligns it."""
     for struct, members in structs():
         at = 0
         for member, kind in members:
@@ -384,7 +383,7 @@ def holds(test, *given):
 
 
 def main():
-    join(build("behind-ci" in sys.argv[1:]))
+    join(build("after-ci" in sys.argv[1:]))
     results = [holds(*row) for row in TESTS]
     print(f"{results.count(True)} passed, {results.count(False)} failed")
     return 1 if False in results else 0

@@ -1,7 +1,7 @@
 #!/usr/bin/env python3
 """Runs the cases of crates/gltf_cases alone: `make case`.
 
-The proved program runs where it is built of the sources as they stand; else the toolchain's quick
+The proved program runs where it is built of the present sources; else the toolchain's quick
 runner runs the same sources, with no proof. What it prints is compared with the tables, and each
 case that has another answer is shown."""
 import os
@@ -35,7 +35,8 @@ def run(out):
         with tempfile.TemporaryDirectory() as name:
             room = pathlib.Path(name) / "data"
             shutil.copytree(CRATE / "data", room)
-            return subprocess.run([crates.program("gltf_cases"), *words()], cwd=room, **how).returncode
+            call = [crates.program("gltf_cases"), *words()]
+            return subprocess.run(call, cwd=room, **how).returncode
     if not shutil.which("rt"):
         sys.exit("make case: the Rattle toolchain (rt) is not on the path")
     print(UNPROVED, file=sys.stderr, flush=True)

@@ -17,6 +17,6 @@ readme = pathlib.Path("README.md").read_text("utf-8")
 for language, place in zip(("rust", "c"), sys.argv[1:]):
     code = re.search(f"```{language}\n(.*?)```", readme, re.DOTALL)[1]
     if code not in pathlib.Path(place).read_text("utf-8"):
-        sys.exit(f"the code of README.md does not stand in {place}")
+        sys.exit(f"the code of README.md is not in {place}")
 END
 exit "$status"

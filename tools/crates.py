@@ -1,4 +1,4 @@
-"""The crates that crates.txt lists, and whether a program is built of them as they stand."""
+"""The crates that crates.txt lists, and whether a program is built of their present sources."""
 import os
 import pathlib
 
@@ -21,8 +21,8 @@ def listed():
 
 
 def below(*names):
-    """The crates of this repository that some crates stand on, and these themselves: each behind
-    those that it names."""
+    """The crates of this repository that some crates use, and these themselves: each after those
+    that it names."""
     crates, order = listed(), []
 
     def visit(crate):
@@ -37,19 +37,19 @@ def below(*names):
 
 
 def program(name):
-    """Where the program of a crate stands, once it is built."""
+    """Where the program of a crate is, once it is built."""
     return TOP / "crates" / name / "out" / name
 
 
 def is_fresh(name):
-    """Whether the program of a crate was built of what it is made of, as that stands. rt builds
+    """Whether the program of a crate was built of its present sources. rt builds
     none that it has not proved."""
     return is_built_of(program(name), name)
 
 
 def is_built_of(file, name):
-    """Whether a file was made behind the last change of what a crate is made of. A file that was
-    taken away has changed its folder."""
+    """Whether a file was made after the last change of what a crate is made of. A file that was
+    removed has changed its folder."""
     try:
         built = os.stat(file).st_mtime_ns
     except FileNotFoundError:

@@ -1,6 +1,6 @@
 #!/usr/bin/env python3
 """Checks that each wrong body, of the gate and beside it, still fits the code, and that
-docs/ASSURANCE.md lists those of the gate. `make test` does so first. The last line counts them."""
+docs/ASSURANCE.md lists those of the gate. `make test` runs it first. The last line counts them."""
 import pathlib
 import re
 import sys
@@ -21,13 +21,13 @@ def fault(edit, crate):
             old = text
         elif key in ("new", "new:"):
             if not file or not old:
-                return "a 'new:' stands before any 'file:' or 'old:'"
+                return "a 'new:' comes before any 'file:' or 'old:'"
             if file not in texts:
                 if not (crate / file).is_file():
                     return f"there is no file {file}"
                 texts[file] = (crate / file).read_text(encoding="utf-8")
             if texts[file].count(old) != 1:
-                return f"an 'old:' text stands in {file} {texts[file].count(old)} times"
+                return f"an 'old:' text is {texts[file].count(old)} times in {file}"
             texts[file] = texts[file].replace(old, text)
             old, pairs = None, pairs + 1
     return None if pairs else "it changes nothing"

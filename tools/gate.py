@@ -1,9 +1,9 @@
 #!/usr/bin/env python3
-"""The part of the gate that takes long: `rt ci`, and behind it each script that runs the programs
+"""The part of the gate that takes long: `rt ci`, and then each script that runs the programs
 that it proved and built. The last line adds up the results of all: `N passed, M failed`.
 
 Each of them ends with such a line of its own. Where one ends otherwise, it counts as one that
-failed; where `rt ci` fails, the scripts are run nevertheless, since what it built stands there.
+failed; where `rt ci` fails, the scripts are run nevertheless, over what it built.
 
     gate.py             runs them, and prints the processor seconds of each part, and of each
                         crate's proof, tests and wrong bodies
@@ -27,7 +27,7 @@ PARTS = (
     ["rt", "ci"],
     ["python3", "tools/refusals.py"],
     ["python3", "tools/programs.py"],
-    ["python3", "tools/c.py", "behind-ci"],
+    ["python3", "tools/c.py", "after-ci"],
 )
 # The most memory that a check was seen to take, and some more.
 MEMORY_OF_A_CHECK = 4 << 30

@@ -1,9 +1,9 @@
 #!/usr/bin/env python3
-"""Installs what is built of the sources as they stand: the proved programs, behind `make prove`,
-and the library for C, behind `make c`: `make install PREFIX=..`. It tells what it leaves out.
+"""Installs what is built of the present sources: the proved programs, which `make prove` builds,
+and the library for C, which `make c` builds: `make install PREFIX=..`. It reports what is missing.
 
-GLTF_PREFIX has the folder, named from the one that make was called in, GLTF_FROM. DESTDIR stands
-before it."""
+GLTF_PREFIX is the folder, relative to the one that make was called in, GLTF_FROM. DESTDIR is put
+in front of it."""
 import os
 import pathlib
 import shutil

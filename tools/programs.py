@@ -1,7 +1,7 @@
 #!/usr/bin/env python3
 """Runs the proved programs `gltf_show` and `gltf_repack` on files that it makes. A row is a call:
-its words, its status, and what it writes; and behind `gltf_repack` what stands in the folder.
-`make test` calls it behind `rt ci`. The last line is `N passed, M failed`."""
+its words, its status, and what it writes; and after `gltf_repack` what is in the folder.
+`make test` calls it after `rt ci`. The last line is `N passed, M failed`."""
 import json
 import os
 import pathlib
@@ -20,19 +20,19 @@ import crates
 # A user who may read nothing of root's.
 NOBODY = 65534
 LONG = "n" * 5_000
-# The greatest number that a usize holds, and the one behind it.
+# The greatest number that a usize holds, and the next one.
 GREATEST, TOO_GREAT = str(2**64 - 1), str(2**64)
 
 
 class Failed:
-    """A line with the name of a file that was not read or not written, and some text behind it."""
+    """A line with the name of a file that was not read or not written, and some text after it."""
 
     def __init__(self, name):
         self.name = name
 
-    def __eq__(self, told):
-        begins = told.startswith(f"{self.name}: ") and len(told) > len(self.name) + 3
-        return begins and told.count("\n") == 1
+    def __eq__(self, text):
+        begins = text.startswith(f"{self.name}: ") and len(text) > len(self.name) + 3
+        return begins and text.count("\n") == 1
 
 
 class Begins:
@@ -41,8 +41,8 @@ class Begins:
     def __init__(self, text):
         self.text = text
 
-    def __eq__(self, told):
-        return told.startswith(self.text)
+    def __eq__(self, text):
+        return text.startswith(self.text)
 
 
 def chunk(kind, data):
@@ -134,7 +134,7 @@ DANGLING = ("invalid glTF: nodes[0].mesh: Index out of bounds; "
             "nodes[0].skin: Index out of bounds;\n")
 NO_MESH, NO_PRIMITIVE, NO_INDICES = "no such mesh\n", "no such primitive\n", "no indices\n"
 
-# The words, the status, the output, and what is told of a refusal.
+# The words, the status, the output, and the error.
 SHOWS = [
     (["chunks", "box.glb"], 0, "glTF 2 40\nJSON 4\nBIN 8\n", ""),
     (["chunks", "unknown.glb"], 0, "glTF 2 46\nJSON 4\nBIN 4\n", ""),
@@ -202,7 +202,7 @@ REPACK_USAGE = Begins("usage: gltf_repack IN OUT\n")
 PACKED = container(chunk(b"JSON", b"{}  "))
 WHOLE_FILE = "{}: 24 bytes\n".format
 NO_FILE = "{}: not a regular file\n".format
-# The words, the status, the output, what is told of a refusal, and what the call changes.
+# The words, the status, the output, the error, and what the call changes.
 REPACKS = [
     (["in.gltf", "out.glb"], 0, WHOLE_FILE("out.glb"), "", {"out.glb": ("-rw-r--r--", PACKED)}),
     (["out.glb", "out.glb"], 0, WHOLE_FILE("out.glb"), "", {}),
@@ -258,7 +258,7 @@ def make(room, files):
 
 
 def state(room):
-    """What stands in a folder: of each name the kind and the mode, and the bytes of a file, or
+    """What is in a folder: of each name the kind and the mode, and the bytes of a file, or
     where a link leads."""
     found = {}
     for file in room.iterdir():
@@ -284,18 +284,18 @@ def started(limit=None):
     return start
 
 
-def tell(program, words, good, ran):
+def report(program, words, good, ran):
     shown_words = " ".join(word[:20] for word in words)
     print(f"{program} {shown_words}: {'ok' if good else f'FAILED: {ran}'}")
     return good
 
 
-def answers(program, room, words, status, out, told):
+def answers(program, room, words, status, out, error):
     """Whether a call answers so."""
     how = {"cwd": room, "capture_output": True, "text": True, "encoding": "utf-8"}
     ran = subprocess.run([program, *words], preexec_fn=started(), **how)
-    good = ran.returncode == status and ran.stdout == out and told == ran.stderr
-    return tell(program.name, words, good, ran)
+    good = ran.returncode == status and ran.stdout == out and error == ran.stderr
+    return report(program.name, words, good, ran)
 
 
 def ends_where_full(program, room, words, taken):
@@ -306,13 +306,13 @@ def ends_where_full(program, room, words, taken):
         ran = subprocess.run([program, *words], preexec_fn=started(limit), **how)
         out.seek(0)
         good = ran.returncode == 1 and out.read().startswith(taken.encode())
-    return tell(program.name, words, good, ran)
+    return report(program.name, words, good, ran)
 
 
-def leaves(program, room, words, status, out, told, changed):
+def leaves(program, room, words, status, out, error, changed):
     """Whether a call answers so, and changes no more in the folder than this."""
     wanted = state(room) | changed
-    good = answers(program, room, words, status, out, told)
+    good = answers(program, room, words, status, out, error)
     left = state(room)
     if left != wanted:
         print(f"{program.name}: FAILED: the folder has {left}")
@@ -322,19 +322,19 @@ def leaves(program, room, words, status, out, told, changed):
 def takes_text_alone(program, room):
     """Whether words that are no UTF-8 are refused with 2 and a line that says so."""
     ran = subprocess.run([program, *NOT_TEXT], cwd=room, capture_output=True, preexec_fn=started())
-    told = f"{program.name}: the words have to be UTF-8\n".encode()
-    good = (ran.returncode, ran.stdout, ran.stderr) == (2, b"", told)
-    return tell(program.name, ["no text"], good, ran)
+    error = f"{program.name}: the words have to be UTF-8\n".encode()
+    good = (ran.returncode, ran.stdout, ran.stderr) == (2, b"", error)
+    return report(program.name, ["no text"], good, ran)
 
 
 def takes_no_line(program, room):
-    """Whether a file is repacked whole where the line that tells of it cannot be written, and the
+    """Whether a file is repacked whole where the line that reports it cannot be written, and the
     program then ends with 1."""
     with open("/dev/full", "wb") as full:
         how = {"cwd": room, "stdout": full, "stderr": subprocess.DEVNULL}
         ran = subprocess.run([program, "in.gltf", "out.glb"], preexec_fn=started(), **how)
     good = ran.returncode == 1 and state(room)["out.glb"] == ("-rw-r--r--", PACKED)
-    return tell(program.name, ["in.gltf", "out.glb"], good, ran)
+    return report(program.name, ["in.gltf", "out.glb"], good, ran)
 
 
 def copy_of(name, place):

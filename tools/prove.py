@@ -1,7 +1,7 @@
 #!/usr/bin/env python3
-"""Proves and builds the programs for users and each crate that they stand on, lowest first:
-`make prove`. With GLTF_NAME, which names a crate, it proves that one and those that it stands on,
-and runs its tests: `make check NAME=CRATE`.
+"""Proves and builds the programs for users and each crate that they use, lowest first:
+`make prove`. With GLTF_NAME, which names a crate, it proves that one and those that it uses, and
+runs its tests: `make check NAME=CRATE`.
 
 It prints a line for each crate on standard error. What the prover says goes to a log, which is
 named where it fails."""
@@ -53,7 +53,7 @@ def prove(crate, asked, log):
 
 
 def prove_all(order, asked, log):
-    """Whether crates are proved, each behind those that it stands on."""
+    """Whether crates are proved, each after those that it uses."""
     for place, crate in enumerate(order, 1):
         say(f"[{place}/{len(order)}] {crate} ", end="")
         begun = time.monotonic()

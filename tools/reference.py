@@ -3,8 +3,8 @@
 
 out/reference has a page for each library of crates.txt and an index. A page has the public items of
 each public module: the doc comment, the signature and the contract. An item of a private module
-stands where it is given out by `pub use`. Below the modules stand the definitions, of specs/*.antt,
-that contracts name. Names lead to where they are described, also in another crate."""
+is where `pub use` exports it. Below the modules are the definitions, of specs/*.antt, that
+contracts name. Names lead to where they are described, also in another crate."""
 import dataclasses
 import functools
 import html
@@ -67,7 +67,7 @@ class Module:
 
 
 def closed(text, at):
-    """Where the bracket is closed that stands at a place."""
+    """Where the bracket at a place is closed."""
     depth = 0
     while at < len(text):
         whole = WHOLE.match(text, at)
@@ -131,7 +131,7 @@ def less_far_in(text, columns):
 
 
 def names_used(tree, path=()):
-    """What a `use` brings in: of each name there the path that it stands for."""
+    """What a `use` brings in: of each name there its path."""
     tree = tree.strip()
     first, brace, rest = tree.partition("{")
     if brace:
@@ -204,12 +204,12 @@ def resolved(module, path, seen=()):
     return (resolved(root, rest, seen) if rest else (root, None)) if root else None
 
 
-# ---- where things stand
+# ---- where things are
 
 
 @dataclasses.dataclass(eq=False)
 class Shown:
-    """An item where it is described: the module that it stands in there, and its own."""
+    """An item where it is described: the module that it is in there, and its own."""
 
     item: Item
     place: Module
@@ -365,12 +365,13 @@ def link(place, text):
     return f'<a href="{html.escape(place)}">{escaped(text)}</a>' if place else escaped(text)
 
 
-def linked(code, module, is_contract=False):
-    """Code whose names lead to where they are described: items, or of a contract definitions."""
+def linked(code, module, is_contract=False, parameters=()):
+    """Code whose names lead to where they are described: items, or of a contract definitions. The
+    names of parameters lead nowhere."""
     brought = trust.imports(module.text) if is_contract else {}
 
     def place(word):
-        if word in ("self", "super", "crate"):
+        if word in ("self", "super", "crate") or word in parameters:
             return None
         file, name = brought.get(word, (None, None))
         for it in trust.defined(file, name) if name else ():
@@ -450,9 +451,11 @@ def function(item, module):
     """A function: its head, its doc comment, and its contract."""
     at = re.search(r"\n *(?:requires|ensures)\b", item.head)
     head, contract = (item.head[: at.start()], item.head[at.start() :]) if at else (item.head, "")
-    shown = f"<pre>{linked(head, module)}</pre>{shown_docs(item.docs, module)}"
+    parameters = set(re.findall(r"\b(\w+):(?!:)", head))
+    code = linked(head, module, parameters=parameters)
+    shown = f"<pre>{code}</pre>{shown_docs(item.docs, module)}"
     if contract:
-        code = linked(less_far_in(contract, 4).strip("\n"), module, is_contract=True)
+        code = linked(less_far_in(contract, 4).strip("\n"), module, True, parameters)
         shown += f'<p class="quiet">Contract</p><pre>{code}</pre>'
     return shown
 
@@ -545,7 +548,7 @@ def section(module, own, again):
     rows = [it for kind in KINDS for it in own if it.item.kind == kind]
     if again:
         names = ", ".join(f"<code>{link(place_of(found), name)}</code>" for name, found in again)
-        parts.append(f'<p class="quiet">Also here, from elsewhere: {names}.</p>')
+        parts.append(f'<p class="quiet">Re-exported: {names}.</p>')
     for shown in rows:
         parts.append(described(shown))
         side.append(f'<li>{link("#" + shown.anchor, shown.item.name)}</li>')
@@ -613,9 +616,9 @@ def summary(crate):
 
 
 def index_page():
-    parts = ["<h1>Reference</h1><p>The crates, lowest first. Most users take "
-             f"{link('gltf.html', 'gltf')}, which gives out what they need of the others; its "
-             f"headline is {link('gltf.html#import_slice', 'import_slice')}.</p>"]
+    parts = ["<h1>Reference</h1><p>The crates, lowest first. Most users need "
+             f"{link('gltf.html', 'gltf')} alone, which re-exports what they use of the others. Its "
+             f"main call is {link('gltf.html#import_slice', 'import_slice')}.</p>"]
     for title, names in groups().items():
         rows = "".join(
             f"<tr><td>{link(f'{name}.html' if modules_of(name) else None, name)}</td>"

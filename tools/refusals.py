@@ -4,7 +4,7 @@ growth of memory, with that growth refused. Each run gives the answer that the c
 or says that there was not enough memory. A last case has more items than any memory holds: each of
 its growths that is refused ends the run.
 
-`rt ci` leaves the program; a file beside this one stands in front of `malloc` and `realloc`. The
+`rt ci` leaves the program; a library made of refuse.c comes before `malloc` and `realloc`. The
 last line is `N passed, M failed`: a case passes where each of its runs does.
 
     refusals.py [NUMBER..]     these cases of the table, counted from 1, or all"""
@@ -21,7 +21,7 @@ PROGRAM = CRATE / "out" / "gltf_cases"
 TABLE = "growths.txt"
 OUT_OF_MEMORY = "out of memory"
 NO_COPY = ", and there is no memory for a copy"
-# How the program says that it ended for want of memory, where no line has room for it.
+# How the program says that memory ran out, where no line has room for it.
 ENDED = ("Memory", "OutOfMemory")
 
 
@@ -69,7 +69,7 @@ class Runs:
         """What the program writes with a growth refused, its status, what it says of an error, and
         the number of growths."""
         self.count += 1
-        told = subprocess.run(
+        ran = subprocess.run(
             [PROGRAM, self.file],
             cwd=CRATE / "data",
             env={"LD_PRELOAD": self.library, "REFUSE_AT": str(growth), "REFUSE_COUNT": "1"},
@@ -77,12 +77,12 @@ class Runs:
             capture_output=True,
             timeout=60,
         )
-        error, _, counted = told.stderr.decode(errors="replace").rpartition("growths=")
+        error, _, counted = ran.stderr.decode(errors="replace").rpartition("growths=")
         growths = int(counted) if counted.strip().isdigit() else None
-        lines = told.stdout.decode(errors="replace").splitlines()
+        lines = ran.stdout.decode(errors="replace").splitlines()
         if lines[:1] == [self.file]:
             lines = lines[1:]
-        return lines, told.returncode, error.strip(), growths
+        return lines, ran.returncode, error.strip(), growths
 
     def faults(self, case, answer, growths=None):
         """What is wrong with the runs on a case: one without a growth refused, but where its number
@@ -96,14 +96,14 @@ class Runs:
         for growth in range(1, growths + 1):
             lines, status, error, _ = self.run(growth)
             if not is_answer(lines, status, error, answer):
-                told = f"{lines} {status} {error}"
-                faults.append(f"{case[:80]}, growth {growth} of {growths} refused: {told[:300]}")
+                wrote = f"{lines} {status} {error}"
+                faults.append(f"{case[:80]}, growth {growth} of {growths} refused: {wrote[:300]}")
         return faults
 
 
 def is_answer(lines, status, error, answer):
     """Whether this is the case's own answer, or says that there was not enough memory: in the line,
-    behind a beginning of the answer; or in the end of the program, with no line."""
+    after a beginning of the answer; or in the end of the program, with no line."""
     if status or not lines:
         return not lines and status == 1 and any(word in error for word in ENDED)
     line = lines[0].replace(NO_COPY, "")

@@ -1,5 +1,5 @@
-/* Refuses one growth of a program's memory: the one whose number, counted from 1, stands in
-   REFUSE_AT. With REFUSE_COUNT it tells the number of all on standard error at the end. It is
+/* Refuses one growth of a program's memory: the one whose number, counted from 1, is
+   REFUSE_AT. With REFUSE_COUNT it prints the number of all on standard error at the end. It is
    loaded in front of the C library, and needs no header. */
 typedef unsigned long size;
 extern void *dlsym(void *, const char *);
@@ -28,7 +28,7 @@ void *malloc(size bytes) { return is_refused() ? 0 : next_malloc(bytes); }
 
 void *realloc(void *block, size bytes) { return is_refused() ? 0 : next_realloc(block, bytes); }
 
-__attribute__((destructor)) static void tell(void) {
+__attribute__((destructor)) static void print(void) {
     if (getenv("REFUSE_COUNT"))
         dprintf(2, "growths=%ld\n", growths);
 }

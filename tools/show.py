@@ -3,7 +3,7 @@
 
 GLTF_CALL and GLTF_FILE have the words. The file is named from the folder that make was called in,
 GLTF_FROM, or from the top of the repository. The proved program runs where it is built of the
-sources as they stand; else the toolchain's quick runner runs the same sources, on a copy of the
+present sources; else the toolchain's quick runner runs the same sources, on a copy of the
 file and of those beside it that its buffers name."""
 import json
 import os
@@ -36,7 +36,7 @@ def found(file):
 
 
 def is_taken(name):
-    """Whether the runner takes a file of that name: a plain one, which tells it where it ends."""
+    """Whether the runner takes a file of that name: no path, and without `=`, which ends a name."""
     kept = name in ("", ".", "..", *KEPT)
     return name.isprintable() and not kept and "/" not in name and "=" not in name
 

@@ -1,6 +1,6 @@
 #!/usr/bin/env python3
-"""Checks docs/TRUST.md: it lists the definitions that the contracts of the headline stand on, and
-no others, and each count of lines is right.
+"""Checks docs/TRUST.md: it lists the definitions that the contracts of the headline use, and no
+others, and each count of lines is right.
 
     trust.py            says what is wrong, and prints the total
     trust.py --write    writes the counts and the total
@@ -46,7 +46,7 @@ TEXTS = re.compile(r'"(?:[^"\\]|\\.)*"')
 
 def blocks(file):
     """The lines of each definition of a file that state something, and beside each whether it
-    counts. Definitions stand apart by empty lines."""
+    counts. Definitions are separated by empty lines."""
     found, name, law = {}, None, False
     for line in USE.sub("", file.read_text(encoding="utf-8")).splitlines():
         if not line.strip():
@@ -187,7 +187,7 @@ def headline(text):
 
 
 def closure(found):
-    """These definitions and all that they stand on."""
+    """These definitions and all that they use."""
     reached = set()
     while found:
         one = found.pop()
@@ -206,7 +206,7 @@ def names_of(file, words):
 
 
 def compared(text):
-    """Where the page's list and the definitions that the contracts stand on differ."""
+    """Where the page's list and the definitions that the contracts use differ."""
     found, faults = headline(text)
     listed = set()
     for _, place, names, _, _ in ROW.findall(text):
@@ -218,15 +218,15 @@ def compared(text):
             if name not in definitions(file):
                 faults.append(f"{place} has no definition {name}")
             elif (file, name) in listed:
-                faults.append(f"{name} of {place} stands there twice")
+                faults.append(f"{name} of {place} is there twice")
             listed.add((file, name))
     if faults:
         return faults
     reached = closure(found)
-    told = lambda it: f"{it[1]} of {it[0].relative_to(CRATES)}"
+    shown = lambda it: f"{it[1]} of {it[0].relative_to(CRATES)}"
     return [
-        *(f"{told(it)} is listed, and no contract stands on it" for it in sorted(listed - reached)),
-        *(f"{told(it)} is not listed, and a contract stands on it"
+        *(f"{shown(it)} is listed, and no contract uses it" for it in sorted(listed - reached)),
+        *(f"{shown(it)} is not listed, and a contract uses it"
           for it in sorted(reached - listed)),
     ]
 
@@ -235,7 +235,7 @@ def main():
     text = PAGE.read_text(encoding="utf-8")
     wrong = compared(text)
     if wrong:
-        return told(wrong)
+        return report(wrong)
     total, stale = 0, []
 
     def counted(row):
@@ -253,12 +253,12 @@ def main():
     if sys.argv[1:] == ["--write"]:
         PAGE.write_text(TOTAL.sub(lambda it: f"{it[1]}{total:,}{it[3]}", written), encoding="utf-8")
     elif stale:
-        return told([*stale, "tools/trust.py --write mends the counts"])
+        return report([*stale, "tools/trust.py --write mends the counts"])
     print(f"{len(ROW.findall(text))} files of definitions, {total:,} lines")
     return 0
 
 
-def told(faults):
+def report(faults):
     print("\n".join(f"docs/TRUST.md: {it}" for it in faults))
     return 1
 

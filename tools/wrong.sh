@@ -1,8 +1,8 @@
 #!/bin/sh
-# Tries the wrong bodies of a crate that the gate leaves out: wrong.sh CRATE. They stand in
-# wrong-bodies/CRATE, and are laid beside those of the gate, in crates/CRATE/must-fail, while rt
-# tries them all. However it ends, they are taken out again. Without a crate it says which have
-# some.
+# Tries the wrong bodies of a crate that the gate leaves out: wrong.sh CRATE. They are in
+# wrong-bodies/CRATE, and are copied beside those of the gate, into crates/CRATE/must-fail, while rt
+# tries them all. However it ends, the copies are removed. Without a crate it lists the crates that
+# have some.
 set -u
 cd "$(dirname "$0")/.." || exit 2
 

@@ -1,20 +1,21 @@
 #!/usr/bin/env bash
-# Runs the program beside this script on each of its files: once for the times of all calls, and
-# once for the most memory of each call.
+# Runs the program beside this script on three files, which it makes: once for the times of all
+# calls, and once for the most memory of each call.
 set -euo pipefail
 here=$(cd "$(dirname "$0")" && pwd)
 work=$(mktemp -d)
 trap 'rm -rf "$work"' EXIT
 "$here/../program.sh" import_bench gltf "$here/import_bench.rt.txt" "$work" > /dev/null
-python3 - "$work/crates/import_bench/out/import_bench" <<'PYTHON'
+python3 "$here/../make_files.py" "$work" large.glb records.gltf payload.gltf
+python3 - "$work/crates/import_bench/out/import_bench" "$work" <<'PYTHON'
 import os
 import subprocess
 import sys
 
 FILES = {
-    "container": "container of 100 MB",
-    "records": "text of 20 MB, many records",
-    "payload": "text of 30 MB, one data URI",
+    "large.glb": "container of 100 MB",
+    "records.gltf": "text of 21 MB, many records",
+    "payload.gltf": "text of 30 MB, one data URI",
 }
 
 
@@ -29,12 +30,13 @@ def run(*words):
     return wrote, usage.ru_maxrss / 1000
 
 
-for file, what in FILES.items():
+for name, what in FILES.items():
+    file = f"{sys.argv[2]}/{name}"
     print(f"{what:<32}{'milliseconds':>14}{'megabytes':>12}")
     for line in run(file)[0].splitlines():
         call, time, _ = line.split()
         wrote, memory = run(file, call)
         if wrote.split()[2] != line.split()[2]:
-            sys.exit(f"{file} {call} gives two answers")
+            sys.exit(f"{name} {call} gives two answers")
         print(f"  {call:<30}{int(time) / 1000:>14.1f}{memory:>12.0f}")
 PYTHON

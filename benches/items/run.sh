@@ -1,7 +1,7 @@
 #!/usr/bin/env bash
 # Builds the loops over items and the driver beside this script in a folder of their own, and runs
 # them. It needs `rt` and `rustc` on the path, and ends with 1 where a bound is missed. The loops
-# stand in a text file, since `rt ci` wants every .rt file in a crate of the repository.
+# are in a text file, since `rt ci` takes every .rt file for part of a crate.
 set -euo pipefail
 here=$(cd "$(dirname "$0")" && pwd)
 work=$(mktemp -d)
