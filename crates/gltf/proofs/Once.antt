@@ -1,4 +1,9 @@
--- That bytes are imported in one way, and not refused as well.
+-- Bytes are imported in one way, and not refused as well: `one_import` and `not_accepted`, for the
+-- clauses `only` and `exact` of `import_slice` and `import_from` (through `WithBuffers`). Whatever
+-- else is accepted has the sources and the blob of the one document (`also_read`). A buffer has one
+-- result where it is known what names hold (`one_bytes`), by cases on what its URI means and on the
+-- names. The premise `Alike` is a law of `gltf_json`: documents that show the same are alike in
+-- each member.
 use Rattle.std.proofs.Common.{ℕ, ◌≡◌, ◌≢◌, ◌<◌, List, [], ◌∷◌, length, map, get_or, refl, sym, ◌∙◌}
 use Rattle.std.proofs.Common.{ap, arith, inl, inr, Result, Ok, Err}
 use Rattle.std.specs.Prelude.{Option, Some, None}

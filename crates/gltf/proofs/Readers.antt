@@ -1,4 +1,9 @@
--- What the bytes that came out of a reader say of an answer.
+-- From the bytes that came out of a reader to the answers of `Gltf::from_reader`, with and without
+-- validation, and of `Gltf::open`. Either the reading stopped (`stopped_file`), or all bytes came
+-- and a layer refuses them (`refused_file`); both go by cases on the error. In the second, a fault
+-- of the container is one whatever comes after, by the law `whole_bytes_decide`, and no other layer
+-- answers `Io` or `Binary` (`IsOfLayers`). `given_behind_none` makes the answer; `answer_unknown`
+-- is for `open`, where it is not known what the reader has left.
 use Rattle.std.proofs.Common.{◌≡◌, ◌≢◌, ◌≤◌, ℕ, List, [], length, Option, Result, Ok, Err, true}
 use Rattle.std.proofs.Common.{subst, inl, inr, ◌⊎◌, Bool, false, None}
 use Rattle.std.specs.Io.KnownBytes.{IsAtEnd}
@@ -26,7 +31,7 @@ use Rattle.gltf.specs.Shown.{blob_bytes}
 use Rattle.gltf.specs.declared.file.Gltf.{Gltf}
 use Rattle.gltf.proofs.Parts.{container_parts}
 
--- what a reader gave behind no bytes is what came, and decides the answer
+-- what a reader gave after no bytes is what came, and decides the answer
 pub given_behind_none : {before after : Option (List ℕ)} {old : List ℕ} {Answer : List ℕ → Type 0}
     (came : List ℕ) → old ≡ [] → ReadsBehind before after old came
     → (starts_with nat_eq came magic ≡ true → length came ≤ needed_length came) → Answer came

@@ -1,4 +1,9 @@
--- What the bytes of buffers, read behind a document, say of the file.
+-- From a document and its buffers to the import: for the contracts of `import_slice` and
+-- `import_from`. `ok_accepted` and `ok_only` are for a result, `refuses_document` for a fault of
+-- the document, `err_buffers` and `err_exact` for one of its buffers. Each splits on the result,
+-- and those of errors on their kind, as `Io` and `Memory` are no fault of the bytes. `one_import`
+-- and `not_accepted` of `Once` do the work. `nowhere_refused` and `nowhere_exact` are for
+-- `import_slice`, where no name can be asked for and so no `Io` comes.
 use Rattle.std.proofs.Common.{◌≡◌, ◌≢◌, ℕ, List, Vec, Global, Result, Ok, Err, length, sym, subst}
 use Rattle.std.proofs.Common.{inl, inr, refl}
 use Rattle.std.specs.Prelude.{Option, IfOk, IfErr}

@@ -79,7 +79,7 @@ pub fn import_from<S: NamedBytes>(
 }
 
 /// [`import_from`] over the files of the system: those that the document names by relative
-/// references are looked for beside the file, behind [`base_of`] its path.
+/// references are looked for in the folder of the file, which [`base_of`] gives.
 ///
 /// Any file that the document names is read, wherever it is, whole and as often as a buffer names
 /// it. For a document that is not trusted, take [`import_slice`], or [`import_from`] over a source

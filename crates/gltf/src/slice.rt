@@ -76,7 +76,7 @@ fn parts_of(bytes: &[u8]) -> Result<(CowSlice<'_, u8>, Option<CowSlice<'_, u8>>)
     }
 }
 
-/// A copy of the blob, made once: there is room for the zeros that may be put behind it.
+/// A copy of the blob, made once: there is room for the zeros that may be put after it.
 fn owned(alloc: Global, blob: Option<CowSlice<'_, u8>>) -> Result<Option<Vec<u8>>>
     ensures ok { IfOk result (λ copy. blob_bytes copy ≡ items_of blob.entry) }
     ensures refused { IfErr result (λ e. e ≡ Memory) }

@@ -101,7 +101,7 @@ impl<'a, D: Records> Animation<'a, D> {
     }
 }
 
-/// A sampler beside what it animates (glTF 2.0, section 5.6, "Animation Channel").
+/// A sampler, and what it animates (glTF 2.0, section 5.6, "Animation Channel").
 #[derive_where(Debug; D)]
 pub struct Channel<'a, D: Records = Valid> {
     animation: Animation<'a, D>,
@@ -142,7 +142,7 @@ impl<'a, D: Records> Channel<'a, D> {
         }
     }
 
-    /// The animation that the channel is of.
+    /// The animation of the channel.
     pub fn animation(&self) -> Animation<'a, D>
         ensures { animation_handle result ≡ (channel_handle self.now).animation }
     {
@@ -209,7 +209,7 @@ impl<'a, D: Records> Target<'a, D> {
     ghost use Rattle.gltf_anim.specs.Animations.{animation_handle, target_handle};
     ghost use Rattle.gltf_scene.specs.Nodes.{IsNode};
 
-    /// The animation that the target is of.
+    /// The animation of the target.
     pub fn animation(&self) -> Animation<'a, D>
         ensures { animation_handle result ≡ (target_handle self.now).animation }
     {
@@ -283,7 +283,7 @@ impl<'a, D: Records> Sampler<'a, D> {
         }
     }
 
-    /// The animation that the sampler is of.
+    /// The animation of the sampler.
     pub fn animation(&self) -> Animation<'a, D>
         ensures { animation_handle result ≡ (sampler_handle self.now).animation }
     {

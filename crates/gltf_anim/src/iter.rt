@@ -19,10 +19,10 @@ pub fn animations<'a>(document: &'a Valid) -> Animations<'a>
     List::new(AllAnimations { document })
 }
 
-/// What `Animations` goes over.
+/// The source that `Animations` walks over.
 #[derive(Clone, Copy, Debug)]
 pub struct AllAnimations<'a> {
-    /// The document that the animations are of.
+    /// The document of the animations.
     pub document: &'a Valid,
 }
 

@@ -1,4 +1,9 @@
--- The bytes of buffers, one more at a time.
+-- The bytes of buffers, one more at a time: the steps of the loop of `read_buffers`. Its invariant
+-- has the bytes of the first i buffers (`AreBytes`), and the blob that is left for the next one. It
+-- holds at the start (`none_yet`, `blob_first`). A turn adds a buffer's bytes (`one_more`, by cases
+-- on whether a place is before i or is i), and keeps the blob where that buffer has a URI
+-- (`blob_next`). `first_fault` is the exit with an error: the buffers before have none, so it is
+-- the first one's.
 use Rattle.std.proofs.Common.{ℕ, ◌≡◌, ◌<◌, ◌+◌, Bool, true, false, cond, List, [], ◌∷◌, ◌++◌}
 use Rattle.std.proofs.Common.{length, take, get_or, map, refl, subst, inl, inr, arith, add-one, Ok}
 use Rattle.std.proofs.Common.{Err}

@@ -20,7 +20,7 @@ use std::ops::DerefSlice;
 pub struct Data(pub Vec<u8>);
 
 impl Data {
-    /// The bytes of a source, with zeros behind them up to a multiple of four: those that its URI
+    /// The bytes of a source, with zeros after them up to a multiple of four: those that its URI
     /// holds or names (glTF 2.0, section 2.8), where names are asked of `names`.
     ///
     /// [`gltf_glb::Error::Io`] says that `names` failed at the name, and
@@ -48,7 +48,7 @@ impl Data {
         }
     }
 
-    /// The same, where [`Source::Bin`] takes the blob (glTF 2.0, section 3.6.1.2).
+    /// [`Data::from_source`], where [`Source::Bin`] takes the blob (glTF 2.0, section 3.6.1.2).
     ///
     /// [`gltf_glb::Error::MissingBlob`] says that there is no blob,
     /// [`gltf_glb::Error::Base64`] that the payload of a `data:` URI is none, and
@@ -81,8 +81,7 @@ impl Data {
         }
     }
 
-    /// How many bytes there are, with the zeros behind them. All other calls are those of the
-    /// slice.
+    /// How many bytes there are, with the zeros after them. All other calls are those of the slice.
     pub fn len(&self) -> usize
         ensures { result ≡ length self.now.0.items }
     {

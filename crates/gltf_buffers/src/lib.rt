@@ -1,5 +1,5 @@
 //! The bytes of the buffers of a document: what their URIs hold or name, or the blob, with zeros
-//! behind them (glTF 2.0, section 3.6.1, "Buffers and Buffer Views").
+//! after them (glTF 2.0, section 3.6.1, "Buffers and Buffer Views").
 #![tactic(auto)]
 
 mod asking;

@@ -1,4 +1,4 @@
-//! The bytes of an embedded payload, and the zeros behind the bytes of a buffer.
+//! The bytes of an embedded payload, and the zeros after the bytes of a buffer.
 ghost use Rattle.std.specs.Prelude.{◌≡◌, ◌≤◌, Ok, Err, IfOk, IfErr, length};
 ghost use Rattle.std.specs.Cow.{cow_slice_items, IsBorrowedSlice};
 ghost use Rattle.base64.specs.GeneralPurpose.{decode_of, IsDecodedInto, IsDecodeFailure};
@@ -71,10 +71,10 @@ fn completed_text(alloc: Global, text: &[u8]) -> Result<CowSlice<'_, u8>, AllocE
 /// carries it (glTF 2.0, section 2.8).
 ///
 /// Where the payload's length in bytes leaves 2 or 3 when divided by four, two or one `=` are put
-/// behind it first. Any other payload is decoded where it lies, without a copy.
+/// after it first. Any other payload is decoded where it lies, without a copy.
 ///
-/// `DecodeError` tells the fault of the payload, with the `=` put behind it, and `OutOfMemory` that
-/// there was not enough memory.
+/// `DecodeError` is the fault of the payload with the `=` added, and `OutOfMemory` says that there
+/// was not enough memory.
 #[tactic(auto, unfolding(crate::specs::Payload::payload_bytes))]
 pub fn decode(alloc: Global, payload: &str) -> Result<Vec<u8>, DecodeAllocError>
     ensures ok { IfOk result (λ bytes. payload_bytes payload.now ≡ Ok bytes.items) }

@@ -16,8 +16,8 @@ use gltf_glb::{Error, Result};
 use gltf_names::Name;
 use std::alloc::Global;
 
-/// The bytes that a URI leads to, or the blob where there is none, with zeros behind them. Where
-/// the answer is an error, the blob stays.
+/// The bytes that a URI leads to, or the blob where there is none, with zeros after them. Where the
+/// answer is an error, the blob stays.
 pub(crate) fn data_of<N: Ask>(
     alloc: Global,
     uri: Option<&str>,
@@ -64,7 +64,7 @@ pub(crate) fn data_without_blob<N: Ask>(
     data_of(alloc, uri, names, &mut None)
 }
 
-/// The blob, with zeros behind it. Where there is not enough memory for them, it stays.
+/// The blob, with zeros after it. Where there is not enough memory for them, it stays.
 fn taken(blob: &mut Option<Vec<u8>>) -> Result<Data>
     ensures ok { IfOk result (λ read. filled_bytes (blob_or_fault (blob_bytes blob.old))
         ≡ Ok read.0.items) }

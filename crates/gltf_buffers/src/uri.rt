@@ -18,9 +18,9 @@ pub enum Uri<'a> {
     /// A `data:` URI, with its payload as it stands, in base64.
     ///
     /// The payload is the text between the first `;base64,` and the next one or the end; without
-    /// that mark it is all text behind `data:`.
+    /// that mark it is all text after `data:`.
     Data(&'a str),
-    /// A `file:` URI, with the path behind `file://` or `file:` as it stands.
+    /// A `file:` URI, with the path after `file://` or `file:` as it stands.
     File(&'a str),
     /// A relative reference, percent-decoded. It is lent where it has no `%`.
     Relative(CowStr<'a>),
@@ -28,7 +28,7 @@ pub enum Uri<'a> {
     Unsupported,
 }
 
-/// What stands before the first mark, and what stands behind it.
+/// What comes before the first mark, and what comes after it.
 fn cut_at<'a>(text: &'a str, mark: &str) -> Option<(&'a str, &'a str)>
     requires { 0 < length mark.now }
     ensures { option_map (λ parts. (parts.0.now, parts.1.now)) result ≡ cut_at mark.now text.now }
@@ -36,7 +36,7 @@ fn cut_at<'a>(text: &'a str, mark: &str) -> Option<(&'a str, &'a str)>
     text.split_once(mark)
 }
 
-/// What stands before the first mark, or the text where there is none.
+/// What comes before the first mark, or the text where there is none.
 fn before<'a>(text: &'a str, mark: &str) -> &'a str
     requires { 0 < length mark.now }
     ensures { result.now ≡ before mark.now text.now }
@@ -55,7 +55,7 @@ fn text_behind<'a>(text: &'a str, prefix: &str) -> Option<&'a str>
     text.strip_prefix(prefix)
 }
 
-/// The payload in the text behind `data:`. No byte of it is looked at twice.
+/// The payload in the text after `data:`. No byte of it is looked at twice.
 #[tactic(auto, unfolding(crate::specs::Uri::payload_of))]
 fn payload_of(text: &str) -> &str
     ensures { result.now ≡ payload_of text.now }
@@ -99,9 +99,10 @@ fn relative(alloc: Global, text: &str) -> Result<Uri<'_>, AllocError>
 impl<'a> Uri<'a> {
     /// Where a URI leads.
     ///
-    /// A text that holds a `:` is told by its prefix, compared as it stands: `data:`, `file://` or
-    /// `file:`, each other one being unsupported. A text that holds none is a relative reference.
-    /// The `:` is looked for before anything is percent-decoded, so that `a%3Ab` is relative.
+    /// The kind of a text that holds a `:` is that of its prefix, compared byte for byte: `data:`,
+    /// `file://` or `file:`. Any other one is unsupported. A text that holds none is a relative
+    /// reference. The `:` is looked for before anything is percent-decoded, so that `a%3Ab` is
+    /// relative.
     ///
     /// Memory is taken only for a relative reference that holds a `%`; the error says that there
     /// was not enough.

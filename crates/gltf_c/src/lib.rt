@@ -47,7 +47,7 @@ pub extern "C" fn gltf_close(alloc: Global, file: &mut GltfFile)
     calls::close(alloc, file);
 }
 
-/// How many records of a kind there are; none in a closed file, nor of a number that has no kind.
+/// How many records of a kind there are; 0 in a closed file, and for a number that is no kind.
 #[unsafe(no_mangle)]
 pub extern "C" fn gltf_count(alloc: Global, file: &mut GltfFile, kind: u32) -> usize
     ensures same { file.new.value ≡ file.old.value }
@@ -70,7 +70,7 @@ pub extern "C" fn gltf_accessor_info(
     calls::accessor_info(alloc, file, index, out)
 }
 
-/// The items of the accessor at an index as bytes, one behind the other, with the sparse overrides
+/// The items of the accessor at an index as bytes, one after the other, with the sparse overrides
 /// (glTF 2.0, section 3.6.2), at the front of the room.
 #[unsafe(no_mangle)]
 pub extern "C" fn gltf_accessor_read(
@@ -85,7 +85,7 @@ pub extern "C" fn gltf_accessor_read(
     calls::accessor_read(alloc, file, index, out)
 }
 
-/// How many bytes the buffer at an index has, with the zeros behind them.
+/// How many bytes the buffer at an index has, with the zeros after them.
 #[unsafe(no_mangle)]
 pub extern "C" fn gltf_buffer_size(
     alloc: Global,

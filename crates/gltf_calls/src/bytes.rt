@@ -1,4 +1,4 @@
-//! Items as their bytes, and all of them one behind the other.
+//! Items as their bytes, and all of them one after the other.
 
 ghost use Rattle.std.specs.Prelude.{◌≡◌, ℕ, ◌*◌, ◌<◌, ◌≤◌, List, ◌++◌, length, take, drop};
 ghost use Rattle.std.specs.Prelude.{replicate};
@@ -51,7 +51,7 @@ impl<const N: usize> Item for Bytes<N> {
     }
 }
 
-/// Writes all items one behind the other to the front of `out`. What stands behind them stays.
+/// Writes all items one after the other to the front of `out`. What follows them stays.
 pub(crate) fn write_items<const N: usize>(items: Iter<'_, Bytes<N>>, out: &mut [u8])
     requires room { length (counted_items items).items * N ≤ length out.old }
     ensures { out.new ≡ concat (counted_items items.entry).items

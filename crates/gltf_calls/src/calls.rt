@@ -23,8 +23,8 @@ use crate::status::Status;
 use crate::{handle, images, info, message, names, nodes, primitives, read};
 use std::alloc::Global;
 
-/// The number of what a call makes of an open file, which is open again behind it; of a closed one
-/// that it is closed.
+/// The number that a call answers: of an open file the status of what is asked for, and the file
+/// stays open; of a closed one [`Status::Closed`].
 macro_rules! answer {
     ($alloc:ident, $handle:ident, $file:ident => $status:expr) => {{
         let Some($file) = handle::take($alloc, $handle) else {
@@ -37,12 +37,12 @@ macro_rules! answer {
 }
 
 /// Opens a file from its bytes: a GLB container where they begin with `glTF`, else JSON text (glTF
-/// 2.0, sections 2.8, 3.6.1 and 4.4). A copy is made of what is needed. What `file` held is let go.
+/// 2.0, sections 2.8, 3.6.1 and 4.4). A copy is made of what is needed. What `file` held is freed.
 ///
 /// Answers 0 where the bytes are accepted, and then `file` holds their document and buffers; else
 /// `file` is closed, and the number is that of the first layer at fault, from
 /// [`Status::BadContainer`] to [`Status::UnsupportedScheme`], or [`Status::NoMemory`]. `message` is
-/// given the error's text or an empty one, cut to its room, with a zero byte behind it.
+/// given the error's text or an empty one, cut to its room, with a zero byte after it.
 pub fn open(alloc: Global, bytes: &[u8], file: &mut GltfFile, message: &mut [u8]) -> u32
     ensures { IsOpened bytes.now result file.new.value message.old message.new }
 {
@@ -67,7 +67,7 @@ pub fn close(alloc: Global, file: &mut GltfFile)
     handle::take(alloc, file);
 }
 
-/// How many records of a kind there are; none in a closed file, nor of a number that has no kind.
+/// How many records of a kind there are; 0 in a closed file, and for a number that is no kind.
 pub fn count(alloc: Global, file: &mut GltfFile, kind: u32) -> usize
     ensures same { file.new.value ≡ file.old.value }
     ensures count { HasCount file.old.value kind result }
@@ -98,7 +98,7 @@ pub fn accessor_info(
     answer!(alloc, file, held => give(info::accessor(&held, index), out))
 }
 
-/// The items of the accessor at an index as bytes, one behind the other, with the sparse overrides
+/// The items of the accessor at an index as bytes, one after the other, with the sparse overrides
 /// (glTF 2.0, section 3.6.2), at the front of the room.
 ///
 /// [`Status::Closed`]; [`Status::NoSuchIndex`]; [`Status::Unreadable`] where the accessor cannot be
@@ -110,7 +110,7 @@ pub fn accessor_read(alloc: Global, file: &mut GltfFile, index: usize, out: &mut
     answer!(alloc, file, held => read::read(&held, index, out))
 }
 
-/// How many bytes the buffer at an index has, with the zeros behind them. [`Status::Closed`] or
+/// How many bytes the buffer at an index has, with the zeros after them. [`Status::Closed`] or
 /// [`Status::NoSuchIndex`].
 pub fn buffer_size(alloc: Global, file: &mut GltfFile, index: usize, out: &mut usize) -> u32
     ensures same { file.new.value ≡ file.old.value }

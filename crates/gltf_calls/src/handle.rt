@@ -17,6 +17,7 @@ use std::{mem, ptr};
 #[repr(C)]
 pub struct GltfFile {
     at: *mut u8,
+    /// The file, as contracts see it; None where the handle is closed.
     pub ghost value: { Option File } by { coded_option file_type.the_row.coded },
 }
 
@@ -63,7 +64,7 @@ pub(crate) fn take(alloc: Global, handle: &mut GltfFile) -> Option<Box<File>>
     }
 }
 
-/// Puts a file into a handle. What it held is let go.
+/// Puts a file into a handle. What it held is freed.
 pub(crate) fn put(alloc: Global, handle: &mut GltfFile, held: Box<File>)
     ensures { handle.new.value ≡ Some held.value }
 {

@@ -1,4 +1,4 @@
-//! Text that C reads: bytes with a zero byte behind them.
+//! Text that C reads: bytes with a zero byte after them.
 
 ghost use Rattle.std.specs.Prelude.{◌≡◌};
 ghost use Rattle.gltf_calls.specs.Message.{text_in_room, Tells};
@@ -6,7 +6,7 @@ ghost use Rattle.gltf_calls.specs.Message.{text_in_room, Tells};
 use gltf::Error;
 use std::alloc::Global;
 
-/// Writes the text of an error to the front of `room`, cut to it, with a zero byte behind. Where
+/// Writes the text of an error to the front of `room`, cut to it, with a zero byte after it. Where
 /// there is no memory for the text, it says so.
 pub(crate) fn tell(alloc: Global, error: &Error, room: &mut [u8])
     ensures { Tells error.now room.old room.new }
@@ -17,7 +17,7 @@ pub(crate) fn tell(alloc: Global, error: &Error, room: &mut [u8])
     }
 }
 
-/// Writes text to the front of `room`, as much of it as there is room for, and a zero byte behind
+/// Writes text to the front of `room`, as much of it as there is room for, and a zero byte after
 /// it. Where there is no room at all, it writes nothing.
 pub(crate) fn put(text: &[u8], room: &mut [u8])
     ensures { room.new ≡ text_in_room text.now room.old }

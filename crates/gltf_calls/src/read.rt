@@ -12,7 +12,7 @@ use crate::status::Status;
 use gltf::accessor::{Accessor, DataType, Dimensions};
 use gltf::imported_items;
 
-/// The items of the accessor at an index, one behind the other.
+/// The items of the accessor at an index, one after the other.
 pub(crate) fn read(file: &File, index: usize, out: &mut [u8]) -> Status
     ensures { IsRead file.now index (accessor_at file.now.document index) result out.old out.new }
 {

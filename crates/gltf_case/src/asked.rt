@@ -8,7 +8,7 @@ pub struct Asked<'t> {
     /// The binary buffer of a container round the given text, in hexadecimal digits; or what a call
     /// does with it.
     pub blob: Option<&'t str>,
-    /// What else the call is told.
+    /// The other words of the call.
     pub words: &'t str,
     /// What the call is made on: a text, or `%` and the hexadecimal digits of bytes.
     pub given: &'t str,
@@ -39,7 +39,7 @@ impl<'t> Asked<'t> {
         }
     }
 
-    /// The call that the first of the words names, with the words behind it.
+    /// The call that the first of the words names, with the words after it.
     pub fn inner(self) -> Asked<'t> {
         let (call, words) = self.words.split_once(" ").unwrap_or((self.words, ""));
         Asked {

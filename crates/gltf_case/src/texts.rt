@@ -1,4 +1,4 @@
-//! URIs, payloads, the zeros behind buffers, and the names of attributes.
+//! URIs, payloads, the zeros after buffers, and the names of attributes.
 use crate::bytes::{bytes_of, write_hex};
 use crate::shown::{Written, show, tell_copy};
 use base64::{DecodeAllocError, DecodeError};
@@ -39,7 +39,7 @@ fn write_fault(fault: &DecodeError, line: &mut String) -> Written {
     }
 }
 
-/// Writes bytes and the zeros behind them.
+/// Writes bytes and the zeros after them.
 pub fn write_zeros(alloc: Global, digits: &str, line: &mut String) -> Written {
     let mut bytes = bytes_of(alloc, digits)?;
     payload::pad_to_four(&mut bytes)?;

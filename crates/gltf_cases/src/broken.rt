@@ -5,8 +5,8 @@ use gltf_case::asked::Asked;
 use gltf_case::shown::Written;
 use std::alloc::{AllocError, Global};
 
-/// Writes how long the text is that tells an import of so many broken rules, and its end: `broken
-/// COUNT`.
+/// Writes how long the error's text is where an import breaks so many rules, and its end:
+/// `broken COUNT`.
 pub(crate) fn write_broken(alloc: Global, asked: Asked<'_>, line: &mut String) -> Written {
     let text = text_of(alloc, asked.number(0))?;
     let mut told = String::new(alloc);

@@ -71,10 +71,10 @@ fn of_container(alloc: Global, asked: Asked<'_>, line: &mut String) -> Written {
 ///   a reader that gives a byte a call; `drawn PACE CALL ..`: by one of another pace.
 /// - `written PACE`: what a writer takes of a container.
 /// - `over TYPE`: those of the first accessor, where each buffer has the bytes of the blob.
-/// - `each`: what several calls tell, where they tell the same.
+/// - `each`: what several calls answer, where they answer the same.
 /// - `repack`: the bytes that a file is repacked to.
-/// - `repacked CALL WORD..`: what a call tells of a file that was repacked, and what it tells
-///   otherwise of the file before.
+/// - `repacked CALL WORD..`: what a call answers on a file that was repacked, and what it answers
+///   otherwise on the file before.
 /// - handles and lists, as `documents` says, and calls on an import, as `imported` says.
 pub(crate) fn of_bytes(
     alloc: Global,
@@ -110,7 +110,7 @@ fn of_one(alloc: Global, asked: Asked<'_>, bytes: &[u8], line: &mut String) -> W
     }
 }
 
-/// What an import tells, and after it what each other call that reads a file tells otherwise.
+/// What an import answers, and after it what each other call that reads a file answers otherwise.
 fn of_each(alloc: Global, asked: Asked<'_>, bytes: &[u8], line: &mut String) -> Written {
     of_one(
         alloc,
@@ -132,7 +132,8 @@ fn of_each(alloc: Global, asked: Asked<'_>, bytes: &[u8], line: &mut String) -> 
     Ok(())
 }
 
-/// What a call tells of a file that was repacked, and what it tells otherwise of the file before.
+/// What a call answers on a file that was repacked, and what it answers otherwise on the file
+/// before.
 fn of_repacked(alloc: Global, asked: Asked<'_>, bytes: &[u8], line: &mut String) -> Written {
     match &repack(alloc, bytes) {
         Ok(packed) => of_both(alloc, asked.inner(), packed, bytes, line),
@@ -140,7 +141,7 @@ fn of_repacked(alloc: Global, asked: Asked<'_>, bytes: &[u8], line: &mut String)
     }
 }
 
-/// What a call tells of a file, and what it tells otherwise of another.
+/// What a call answers on a file, and what it answers otherwise on another.
 fn of_both(
     alloc: Global,
     asked: Asked<'_>,
@@ -152,7 +153,7 @@ fn of_both(
     tell_other(alloc, asked, other, line)
 }
 
-/// What a call tells, where the line does not say it yet.
+/// What a call answers, where the line does not say it yet.
 fn tell_other(alloc: Global, asked: Asked<'_>, bytes: &[u8], line: &mut String) -> Written {
     let mut other = String::new(alloc);
     of_one(alloc, asked, bytes, &mut other)?;

@@ -10,7 +10,7 @@ use gltf_case::bytes::bytes_of;
 use gltf_case::shown::{Written, prints_alike, tell_copy};
 use std::alloc::Global;
 
-/// Tells of the records of a text.
+/// Writes what a line says of the records of a text.
 pub(crate) fn tell_root(
     alloc: Global,
     asked: Asked<'_>,
@@ -20,7 +20,7 @@ pub(crate) fn tell_root(
     tell(alloc, asked, root_of(alloc, bytes), line)
 }
 
-/// Tells of the document of a text.
+/// Writes what a line says of the document of a text.
 pub(crate) fn tell_document(
     alloc: Global,
     asked: Asked<'_>,
@@ -30,7 +30,7 @@ pub(crate) fn tell_document(
     tell(alloc, asked, document_of(alloc, bytes), line)
 }
 
-/// Tells of a file without its buffers, whose records may break rules.
+/// Writes what a line says of a file without its buffers, whose records may break rules.
 pub(crate) fn tell_records(
     alloc: Global,
     asked: Asked<'_>,
@@ -45,7 +45,7 @@ pub(crate) fn tell_records(
     )
 }
 
-/// Tells of a file without its buffers.
+/// Writes what a line says of a file without its buffers.
 pub(crate) fn tell_file(
     alloc: Global,
     asked: Asked<'_>,
@@ -60,7 +60,7 @@ fn root_of(alloc: Global, bytes: &[u8]) -> Result<Root> {
     Ok(deserialize::from_slice(alloc, bytes)?)
 }
 
-/// Tells of the records of a text that come by another way: `by WAY MEMBER`.
+/// Writes what a line says of the records of a text that come by another way: `by WAY MEMBER`.
 ///
 /// - `value`: read from a JSON value.
 /// - `lent`, `valid`: those that a valid document lends, and gives back.
@@ -161,8 +161,8 @@ fn tell_again(
 }
 
 impl Told for RawGltf {
-    /// Whether it is accepted, or every rule that it breaks. Where a member is asked for, it stands
-    /// behind that with the blob.
+    /// Whether it is accepted, or every rule that it breaks. Where a member is asked for, it
+    /// follows that with the blob.
     fn tell(&self, alloc: Global, asked: Asked<'_>, line: &mut String) -> Written {
         tell(alloc, asked, self.document.validate(alloc), line)?;
         if !asked.words.is_empty() {

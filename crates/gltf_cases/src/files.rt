@@ -12,8 +12,8 @@ use std::alloc::{AllocError, Global};
 /// text and the blob. The words say what else is on the shelf:
 ///
 /// - `NAME=DIGITS`: the bytes that the digits spell, by a relative reference, or by the path of a
-///   file behind `file:`, where `+` stands for a space.
-/// - `fail=K`: the read behind the next K ones fails.
+///   file after `file:`, where `+` stands for a space.
+/// - `fail=K`: the read after the next K ones fails.
 ///
 /// The line has the bytes of the buffers, or what is wrong, and which name failed.
 pub(crate) fn of_shelf(alloc: Global, asked: Asked<'_>, line: &mut String) -> Written {

@@ -1,4 +1,4 @@
-//! What a line tells of an import.
+//! What a line says of an import.
 use crate::members::write_member;
 use crate::told::{Told, tell};
 use crate::{items, reads};
@@ -9,7 +9,7 @@ use gltf_case::asked::Asked;
 use gltf_case::shown::Written;
 use std::alloc::Global;
 
-/// Tells of the import of a file.
+/// Writes what a line says of the import of a file.
 pub(crate) fn tell_import(
     alloc: Global,
     asked: Asked<'_>,

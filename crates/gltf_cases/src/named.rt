@@ -84,7 +84,7 @@ fn write_reads<N: NamedBytes>(
     Ok(())
 }
 
-/// The bytes of a relative reference, or of the path of a file behind `file:`, where `+` stands for
+/// The bytes of a relative reference, or of the path of a file after `file:`, where `+` stands for
 /// a space; or with the word `failed` the name that failed last.
 fn write_read<N: NamedBytes>(
     alloc: Global,

@@ -1,10 +1,11 @@
-//! What a line tells of a call that is refused.
+//! What a line says of a call that is refused.
 use gltf::{Error, binary, json};
 use gltf_case::asked::Asked;
 use gltf_case::shown::Written;
 
 /// Writes why a call is refused. The texts of I/O errors, and of faults in base64 and JSON text,
-/// are claimed nowhere, so words stand for them. Of a container the fault is told with its numbers.
+/// are claimed nowhere, so words stand for them. The fault of a container is written with its
+/// numbers.
 pub(crate) fn write_error(asked: Asked<'_>, error: &Error, line: &mut String) -> Written {
     match error {
         Error::Base64(_) => line.push_str("payload refused"),

@@ -9,7 +9,7 @@ use std::alloc::Global;
 use std::io;
 use std::io::{Read, Write};
 
-/// How many bytes a call gives or takes at most, and behind how many of them one call fails.
+/// How many bytes a call gives or takes at most, and after how many of them one call fails.
 #[derive(Clone, Copy)]
 struct Pace {
     most: usize,
@@ -19,7 +19,7 @@ struct Pace {
 
 impl Pace {
     /// The pace that a word names: `MOST` bytes a call; or `AT:other` and `AT:interrupted`, which
-    /// are a byte a call, and one failure of this kind behind so many bytes.
+    /// are a byte a call, and one failure of this kind after so many bytes.
     fn of(word: &str) -> Pace {
         let (number, kind) = word.split_once(":").unwrap_or((word, ""));
         let number = number.parse::<usize>().unwrap_or(1);
@@ -44,7 +44,7 @@ impl Pace {
         }
     }
 
-    /// How many of so many bytes a call gives or takes, behind those of earlier calls. It fails
+    /// How many of so many bytes a call gives or takes, after those of earlier calls. It fails
     /// once, and would then go on.
     fn count_of(&mut self, length: usize, before: usize) -> io::Result<usize> {
         if self.fails_at == Some(before) {
@@ -106,7 +106,7 @@ impl Write for Sink {
     }
 }
 
-/// Tells of a file out of a reader that gives a byte a call: `streamed CALL ..`.
+/// Writes what a line says of a file out of a reader that gives a byte a call: `streamed CALL ..`.
 pub(crate) fn tell_streamed(
     alloc: Global,
     asked: Asked<'_>,
@@ -117,7 +117,8 @@ pub(crate) fn tell_streamed(
     tell_read(alloc, asked.inner(), &mut source, line)
 }
 
-/// Tells of a file out of a reader of a pace, and how many bytes it gave: `drawn PACE CALL ..`.
+/// Writes what a line says of a file out of a reader of a pace, and how many bytes it gave:
+/// `drawn PACE CALL ..`.
 pub(crate) fn tell_drawn(
     alloc: Global,
     asked: Asked<'_>,
@@ -129,8 +130,8 @@ pub(crate) fn tell_drawn(
     write!(line, "; {} given", source.given)
 }
 
-/// Tells of a file out of a reader: of a container by `glb`, of records by `records`, and of a
-/// document by any other call.
+/// Writes what a line says of a file out of a reader: of a container by `glb`, of records by
+/// `records`, and of a document by any other call.
 fn tell_read(
     alloc: Global,
     asked: Asked<'_>,
@@ -147,7 +148,8 @@ fn tell_read(
     }
 }
 
-/// Tells of a container into a writer of a pace, and what that took: `written PACE`.
+/// Writes what a line says of a container into a writer of a pace, and what that took:
+/// `written PACE`.
 pub(crate) fn tell_written(
     alloc: Global,
     asked: Asked<'_>,

@@ -1,17 +1,18 @@
-//! What a line tells of the answer of a call.
+//! What a line says of the answer of a call.
 use crate::refused::write_error;
 use gltf::Result;
 use gltf_case::asked::Asked;
 use gltf_case::shown::Written;
 use std::alloc::Global;
 
-/// An answer that a line can tell of.
+/// An answer that a line can describe.
 pub(crate) trait Told {
     /// Writes what the case asks of it.
     fn tell(&self, alloc: Global, asked: Asked<'_>, line: &mut String) -> Written;
 }
 
-/// Tells of an answer. It is dropped here, under a type parameter and at one exit.
+/// Writes what a line says of an answer. It is dropped here, under a type parameter and at one
+/// exit.
 pub(crate) fn tell<T: Told + Drop>(
     alloc: Global,
     asked: Asked<'_>,
@@ -21,7 +22,7 @@ pub(crate) fn tell<T: Told + Drop>(
     tell_of(alloc, asked, &answer, line)
 }
 
-/// Tells of an answer by reference.
+/// Writes what a line says of an answer, by reference.
 fn tell_of<T: Told>(
     alloc: Global,
     asked: Asked<'_>,

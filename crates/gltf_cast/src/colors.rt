@@ -11,7 +11,7 @@ use crate::source::Source;
 use std::marker::PhantomData;
 
 /// How colours are cast. A colour with three components is red, green and blue, and one with four
-/// has alpha behind them.
+/// has alpha after them.
 pub trait Cast {
     /// What they are cast to.
     type Output;
@@ -66,7 +66,7 @@ pub type RgbaU8 = Rgba<U8>;
 /// To colours with four components of two bytes. Where there is no alpha, it is 65535.
 pub type RgbaU16 = Rgba<U16>;
 
-/// Casts a colour with three components, and puts the greatest number behind them.
+/// Casts a colour with three components, and puts the greatest number after them.
 fn cast_with_alpha<S: Source, N: Number>(x: [S; 3]) -> [N; 4]
     ensures { result ≡ with_alpha (N.of_whole (greatest_of N.kind))
         (map (λ y. N.of_whole (cast S.kind N.kind (S.whole y))) x) }

@@ -91,7 +91,7 @@ impl<E: Castable<A>, A> Casting<E, A> {
         self.nth(self.len().saturating_sub(1))
     }
 
-    /// How many stored indices were read so far, when the items were made too.
+    /// How many stored indices were read so far, also while the items were made.
     pub fn index_reads(&self) -> Count
         ensures { result ≡ (E.cast_items self.now).index_reads }
     {
@@ -151,7 +151,7 @@ impl<E: Castable<A>, A> Iterator for Casting<E, A> {
         self.items.cast_step(Step::Next)
     }
 
-    /// How many items are left, twice. It reads none.
+    /// How many items are left, as both bounds. It reads none.
     fn size_hint(&self) -> (usize, Option<usize>)
         ensures lower { IsWithinCount result.0 (at_most (length (E.cast_items self.now).items)) }
         ensures upper { IfSome result.1 (UpTo (at_most (length (E.cast_items self.now).items))) }

@@ -22,7 +22,7 @@ pub struct Tally {
 impl Tally {
     ghost use Rattle.gltf_casting.specs.Tally.{IsTallyOf};
 
-    /// That of an iterator.
+    /// How far this iterator is.
     pub(crate) fn of<T: Item>(items: &Iter<'_, T>) -> Tally
         ensures { IsTallyOf (counted_items items.now) result }
     {
@@ -34,7 +34,7 @@ impl Tally {
         }
     }
 
-    /// That of an iterator without items, which has read nothing.
+    /// How far an iterator without items is: none are left, and it has read nothing.
     pub(crate) fn zero() -> Tally
         ensures left { result.left ≡ 0 }
         ensures index_reads { result.index_reads ≡ 0 }

@@ -1,4 +1,9 @@
--- From the parts of an accessor to the whole.
+-- From the parts of an accessor (base, stored indices, values) to the whole: for the contracts of
+-- `sparse_items` and `read`. `no_base`, `no_indices` and `no_values` are the exits of
+-- `sparse_items` at the first part that cannot be read, with what the closure answered up to there;
+-- `all_read` is the exit with items. `other_size` and `right_size` are those of `read`, by whether
+-- the type has the accessor's size. All rest on `found` and `failed`, which say what a part's
+-- `Some` and `None` mean.
 use Rattle.std.proofs.Common.{◌≡◌, ℕ, List, length, sym, ap, ◌∙◌, subst, refl}
 use Rattle.std.specs.Prelude.{Option, Some, None, SomeIff}
 use Rattle.std.specs.Option.{option_map}

@@ -1,4 +1,9 @@
--- Documents that show the same are read alike.
+-- Documents that show the same are read alike, by the same answers for their buffers. `alike_reads`
+-- proves the law `alike_documents_are_read_alike`. Of a view the members that no reading looks at
+-- are blanked (`bare_view`: target, name, extensions, extras), so that the parts of both documents
+-- are equal. `parts_alike` (what can be read) and `items_alike` (which items) then split on the
+-- sparse part, and `at_alike` on whether the accessor is there. `same_accessor` and `same_sparse`
+-- take members out of a content by their order in the table.
 use Rattle.std.proofs.Common.{◌≡◌, ℕ, List, map, refl, sym, ap, subst, ◌∙◌}
 use Rattle.std.specs.Prelude.{Option, Some, None, option_map, option_and_then, unwrap_or, slice_get}
 use Rattle.std.specs.Prelude.{SomeIff}

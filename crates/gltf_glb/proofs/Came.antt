@@ -1,4 +1,9 @@
--- What the bytes that came say of an answer.
+-- From the bytes that came out of a reader to the answers of `read_bytes` and `Glb::from_reader`.
+-- The main lemma is `stopped`: where the reading did not reach the declared end, no more came than
+-- is needed, and the error names the fault of what came. It goes by cases on the error and on
+-- whether the header is refused or what follows it is cut off, by `decided_*` and `ends_*` of
+-- `ReaderLaws`. `taken` is the answer over a whole container, by `decided_whole`, and
+-- `read_behind_none` the contract.
 use Rattle.std.proofs.Common.{◌≡◌, ℕ, ◌≤◌, ◌<◌, List, [], ◌∷◌, length, not, ◌==◌, Bool, true, false}
 use Rattle.std.proofs.Common.{nat_lt, Option, Some, None, Result, Ok, Err, OnOk, refl, sym, subst}
 use Rattle.std.proofs.Common.{inl, inr, arith}
@@ -110,7 +115,7 @@ taken came (Ok glb) whole is fault = record {
 }
 taken came (Err e) whole is fault = refused came e whole fault
 
--- what a reader gave behind no bytes is what came, and decides the answer
+-- what a reader gave after no bytes is what came, and decides the answer
 pub read_behind_none : {before after : Option (List ℕ)} {old : List ℕ} {result : Result Glb Error}
     (came : List ℕ) → old ≡ [] → ReadsBehind before after old came
     → length came ≤ needed_length came

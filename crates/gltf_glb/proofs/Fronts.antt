@@ -1,4 +1,8 @@
--- Headers that come from a reader: what stands behind the first bytes does not change them.
+-- Headers that come from a reader: more bytes do not change their faults. Twelve bytes decide
+-- (`front_kept`, by naming each of them), and so do four that are not `glTF` (`magic_kept`); fewer
+-- are `Short` (`short_tag`, `short_header`). For `front_of`, `read_bytes` and the laws in
+-- `ReaderLaws`. `header_of_front` and `front_of_header` go between the table of faults of a
+-- reader's header and that of a slice's, by cases on the rows' conditions.
 use Rattle.std.proofs.Common.{◌≡◌, ℕ, ◌≤◌, ◌<◌, List, [], ◌∷◌, ◌++◌, length, Bool, true, false}
 use Rattle.std.proofs.Common.{nat_lt, Some, None, ◌==◌, ◌||◌, not, refl, arith, length-append, ap}
 use Rattle.std.proofs.Common.{◌∙◌}

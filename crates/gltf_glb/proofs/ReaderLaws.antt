@@ -1,4 +1,9 @@
--- Bytes that come from a reader have one reading.
+-- Bytes that come from a reader have one reading: `one_reader_reading` proves the law of that name,
+-- by the four cases of container and fault. Then bytes that decide, whatever comes after them: a
+-- refused header (`decided_front`), four bytes that are not `glTF` (`decided_magic`), and as many
+-- bytes as are declared (`decided_whole`, the law `whole_bytes_decide`). Each rests on what more
+-- bytes keep: `front_kept` and `magic_kept` of `Fronts`, `container_more`, `body_kept`.
+-- `ends_front` and `ends_behind` are for bytes that end too early. `Came` uses both.
 use Rattle.std.proofs.Common.{◌≡◌, ℕ, ◌+◌, ◌≤◌, ◌<◌, List, ◌++◌, length, take, drop, Bool}
 use Rattle.std.proofs.Common.{true, false, nat_lt, Option, Some, None, Ok, Err, refl, sym, ap}
 use Rattle.std.proofs.Common.{subst, inl, inr, ◌∙◌, arith, length-append, append_assoc}
@@ -68,7 +73,7 @@ the_reading bytes reading has = record {
   only = λ other also. one_reader_reading bytes other reading also has;
 }
 
--- ---- bytes that decide, whatever stands behind them
+-- ---- bytes that decide, whatever comes after them
 
 pub decided_front : (came : List ℕ) (fault : Fault) → 12 ≤ length came
     → front_fault came ≡ Some fault → Decides came (Err fault)

@@ -1,4 +1,9 @@
--- The laws.
+-- The laws `reads_back` and `one_reading`. `reads_back` names the parts of what is written.
+-- `one_reading` rests on `container_reads`: the parts of a container are what fixed functions cut
+-- out of the bytes (`body_of`, `behind_json`), so two containers have equal parts, and its header
+-- has no fault. `no_fault` and `one_fault` go by cases on the layer of a fault: the header, the
+-- JSON chunk or the later chunks (by `one_later`). `parts_of`, `Again` and `ReaderLaws` use these
+-- lemmas too.
 use Rattle.std.proofs.Common.{◌≡◌, ℕ, ◌+◌, ◌<◌, ◌^◌, List, [], ◌++◌, length, take, drop, Option}
 use Rattle.std.proofs.Common.{option_map, Some, None, Ok, Err, refl, sym, ap, subst, inl, inr, ◌∙◌}
 use Rattle.std.proofs.Common.{arith, length-append}

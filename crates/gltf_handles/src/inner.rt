@@ -15,6 +15,7 @@ pub struct Inner<'a, T: Validate, D: Records = Valid> {
     pub document: &'a D,
     /// The record.
     pub json: &'a T,
+    /// The rules of the record hold.
     pub ghost holds: { Hold (T.rules (counts_of (D.root document.now)) json.now) } by { Hold-prop
         (T.rules (counts_of (D.root document.now)) json.now) },
 }

@@ -66,10 +66,10 @@ pub fn extensions_required<'a>(document: &'a Valid) -> ExtensionsRequired<'a>
     List::new(Texts { texts })
 }
 
-/// What `Buffers` goes over.
+/// The source that `Buffers` walks over.
 #[derive(Clone, Copy, Debug)]
 pub struct AllBuffers<'a> {
-    /// The document that the buffers are of.
+    /// The document of the buffers.
     pub document: &'a Valid,
 }
 
@@ -89,10 +89,10 @@ impl<'a> Indexed for AllBuffers<'a> {
     }
 }
 
-/// What `Views` goes over.
+/// The source that `Views` walks over.
 #[derive(Clone, Copy, Debug)]
 pub struct AllViews<'a> {
-    /// The document that the views are of.
+    /// The document of the views.
     pub document: &'a Valid,
 }
 
@@ -112,10 +112,10 @@ impl<'a> Indexed for AllViews<'a> {
     }
 }
 
-/// What `Accessors` goes over.
+/// The source that `Accessors` walks over.
 #[derive(Clone, Copy, Debug)]
 pub struct AllAccessors<'a> {
-    /// The document that the accessors are of.
+    /// The document of the accessors.
     pub document: &'a Valid,
 }
 
@@ -135,7 +135,7 @@ impl<'a> Indexed for AllAccessors<'a> {
     }
 }
 
-/// What `ExtensionsUsed` and `ExtensionsRequired` go over.
+/// The source that `ExtensionsUsed` and `ExtensionsRequired` walk over.
 #[derive(Clone, Copy, Debug)]
 pub struct Texts<'a> {
     /// The texts, in stored order.

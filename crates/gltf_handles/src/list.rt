@@ -8,15 +8,17 @@ ghost use Rattle.gltf_handles.specs.Positions.{IsWhole, Last, Nth, left};
 
 use std::alloc::AllocError;
 
-/// What has an item at each number below a count, without memory.
+/// A source of items: one at each number below a count, made without memory.
 pub trait Indexed: Copy {
     ghost use Rattle.std.specs.Prelude.{◌≡◌, ℕ, ◌<◌};
 
-    /// What stands at a number.
+    /// The type of the items.
     type Item: Drop;
 
+    /// How many items there are, in contracts.
     ghost count: { Self → ℕ };
 
+    /// Which items may be given at a number.
     ghost gives: { Self → ℕ → Self.Item → Type 0 };
 
     /// How many items there are.
@@ -106,7 +108,7 @@ impl<S: Indexed> Iterator for List<S> {
         self.nth(0)
     }
 
-    /// How many items are left, twice.
+    /// How many items are left, as both bounds.
     fn size_hint(&self) -> (usize, Option<usize>)
         ensures lower { IsWithinCount result.0 (at_most (left (position self.now))) }
         ensures upper { IfSome result.1 (UpTo (at_most (left (position self.now)))) }

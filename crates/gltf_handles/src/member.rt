@@ -10,7 +10,7 @@ use gltf_json::extensions::Others;
 use gltf_json::validation::Checked;
 use gltf_json::{Map, Value};
 
-/// The extensions of a record that knows none; None where there is no member `extensions`.
+/// The extensions of a record at which none is known; None where there is no member `extensions`.
 pub fn unknown_extensions(member: &Option<Others>) -> Option<&Map<String, Value>>
     ensures { option_copied result ≡ unknown_extensions member.now }
 {

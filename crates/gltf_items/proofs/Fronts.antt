@@ -1,4 +1,9 @@
--- The front of the stored indices.
+-- The front of the stored indices: the longest strictly increasing beginning, no longer than the
+-- values. `front-at` and `front_rises` say which indices it has and that they increase, for
+-- `item_at` and `SparseIter::nth`. `ahead` counts what the loop of `front_len` has yet to find:
+-- `ahead_more` is a turn, `ahead_none` and `ahead_end` are its ends. `front_is` proves the law
+-- `front_is_longest`. The lemmas on `rising` are inductions on the list, which split on whether its
+-- head is at least `least`.
 use Rattle.std.proofs.Common.{◌≡◌, ℕ, zero, suc, ◌+◌, ◌<◌, ◌≤◌, min, List, [], ◌∷◌, length, take}
 use Rattle.std.proofs.Common.{drop, get_or, refl, ap, ◌∙◌, arith, leb}
 use Rattle.std.proofs.lemmas.Bool.{cond_both, cond-true, cond-false, le-leb, lt-leb, leb-true}

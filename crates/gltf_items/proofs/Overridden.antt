@@ -1,4 +1,9 @@
--- The map to the values, and the items that it makes with a base.
+-- The map from the indices of the front to the values, and the items that it makes with a base. An
+-- index of the front gives its item the value at its place (`item_at_value`), and any other item is
+-- the base's (`item_at_base`): by `over_at` and `over_none`, inductions on the indices. That the
+-- front increases (`front_rises`) excludes an earlier place of the same index. For the contracts of
+-- `item_at` and of `SparseIter`, which need what is left from a position on (`slice_get-left`,
+-- `left_none`), and for the law `sparse_by_position`.
 use Rattle.std.proofs.Common.{◌≡◌, ◌≢◌, ℕ, zero, suc, ◌+◌, ◌-◌, ◌<◌, ◌≤◌, List, [], ◌∷◌, length}
 use Rattle.std.proofs.Common.{drop, get_or, Option, Some, None, refl, sym, ap, ◌∙◌, arith, eqb, inl}
 use Rattle.std.proofs.Common.{inr}

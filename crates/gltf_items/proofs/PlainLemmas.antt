@@ -1,5 +1,9 @@
--- The list `plain`: its length, its items, what is left behind its first ones, and the items of a
--- cut slice.
+-- The list `plain`, of the items at the steps of a stride: its length, its items, what is left
+-- after the first ones (`drop-plain`), and the items of a cut slice (`plain-cut`). For `Lefts`, on
+-- which the contracts of `ItemIter` rest, and for the laws `plain_by_position` and
+-- `items_of_a_cut`. All rest on one fact: i is below `fitting` exactly where its bytes are there
+-- (`fitting_within`, `fitting_from`). Two counts are compared by what is below them
+-- (`le_from_below`), and two lists by their lengths and items (`same_lists`).
 use Rattle.std.proofs.Common.{◌≡◌, ℕ, suc, ◌+◌, ◌-◌, ◌*◌, ◌/◌, ◌<◌, ◌≤◌, List, map, length, take}
 use Rattle.std.proofs.Common.{drop, get_or, Some, refl, inl, inr, sym, ap, ◌∙◌, arith, length-drop}
 use Rattle.std.proofs.Math.Nat.{le-div_iff_mul-le, add-div_right}
@@ -116,7 +120,7 @@ module _ {X : Type 0} (size : ℕ) (value : List ℕ → X) (bytes : List ℕ) (
             ))
       ]
 
--- what is left behind the first k items is the list of the bytes behind k strides
+-- what is left after the first k items is the list of the bytes after k strides
 pub drop-plain : {X : Type 0} (size : ℕ) (value : List ℕ → X) (bytes : List ℕ) (stride k : ℕ)
     → 0 < size → size ≤ stride → plain size value (drop (k * stride) bytes) stride
     ≡ drop k (plain size value bytes stride)

@@ -78,7 +78,7 @@ fn is_here<T: Item>(
     cursor < front_len && stored.index(cursor) as usize == position
 }
 
-/// The item at a position where the cursor stands, and the cursor behind it.
+/// The item at a position where the cursor stands, and the cursor after it.
 pub(crate) fn item_at<T: Item>(
     stored: &mut Stored<T>,
     front_len: usize,

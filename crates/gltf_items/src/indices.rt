@@ -88,7 +88,7 @@ impl<'a> Iterator for SparseIndicesIter<'a> {
         self.nth(0)
     }
 
-    /// How many indices are left, twice.
+    /// How many indices are left, as both bounds.
     fn size_hint(&self) -> (usize, Option<usize>)
         ensures lower { IsWithinCount result.0 (at_most (length (indices_left self.now))) }
         ensures upper { IfSome result.1 (UpTo (at_most (length (indices_left self.now)))) }

@@ -31,7 +31,7 @@ pub trait Item: Drop {
         ensures { result ≡ size };
 
     /// The item that the first `size` bytes of the slice spell, the lowest byte of a number first.
-    /// The slice has at least that many; bytes behind them are not looked at.
+    /// The slice has at least that many; bytes after them are not looked at.
     fn from_slice(slice: &[u8]) -> Self
         requires fits { size < usize.MAX }
         requires room { size ≤ length slice.now }

@@ -13,7 +13,9 @@ pub struct ItemIter<'a, T: Item> {
     bytes: &'a [u8],
     stride: usize,
     marker: PhantomData<T>,
+    /// An item has fewer bytes than the greatest `usize`.
     pub ghost fits: { T.size < 2 ^ 64 - 1 },
+    /// Items do not overlap.
     pub ghost apart: { T.size ≤ stride },
 }
 
@@ -149,7 +151,7 @@ impl<'a, T: Item> Iterator for ItemIter<'a, T> {
         self.first()
     }
 
-    /// How many items are left, twice.
+    /// How many items are left, as both bounds.
     fn size_hint(&self) -> (usize, Option<usize>)
         ensures lower { IsWithinCount result.0 (at_most (length (items_left self.now))) }
         ensures upper { IfSome result.1 (UpTo (at_most (length (items_left self.now)))) }

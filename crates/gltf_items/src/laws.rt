@@ -13,7 +13,7 @@ use crate::item::{F32, Item};
 /// `nth(n)` gives what the last of n + 1 calls of `next` gives, and leaves what they leave. This
 /// holds of every list, whatever it is a list of, and so of each iterator whose contracts say that
 /// `next` gives the first of the items that are left and leaves the others, and `nth` the item at a
-/// place and those behind it: those of this crate, those above it, and those that cast what they
+/// place and those after it: those of this crate, those above it, and those that cast what they
 /// give, also by a cast of a caller's own.
 pub fn nth_is_next<T>()
     ensures { (items : List T) (n : ℕ) → NthIsNext items n }
@@ -29,7 +29,7 @@ pub fn plain_by_position<T: Item>()
 {}
 
 /// Where bytes begin with the first of some items and end with the last one, these are all items
-/// there, and each is what stands so many strides behind the start.
+/// there, and each is what stands so many strides after the start.
 pub fn items_of_a_cut<T: Item>()
     requires fits { T.size < usize.MAX }
     ensures { (bytes : List ℕ) (stride start count : ℕ) → T.size ≤ stride → 0 < count

@@ -67,7 +67,8 @@ impl<'a, T: Item> SparseIter<'a, T> {
         SparseIter::with_base_count(base, 0, indices, values)
     }
 
-    /// The same, but without a base there are `base_count` zeros, with the values in their places.
+    /// [`SparseIter::new`], but without a base there are `base_count` zeros, with the values in
+    /// their places.
     pub fn with_base_count(
         base: Option<ItemIter<'a, T>>,
         base_count: usize,
@@ -163,7 +164,7 @@ impl<'a, T: Item> SparseIter<'a, T> {
         self.len()
     }
 
-    /// How many stored indices were read so far, when it was made too.
+    /// How many stored indices were read so far, also while it was made.
     pub fn index_reads(&self) -> Count
         ensures { result ≡ self.now.index_reads }
     {
@@ -207,7 +208,7 @@ impl<'a, T: Item> Iterator for SparseIter<'a, T> {
         self.first()
     }
 
-    /// How many items are left, twice.
+    /// How many items are left, as both bounds.
     fn size_hint(&self) -> (usize, Option<usize>)
         ensures lower { IsWithinCount result.0 (at_most (length self.now.items)) }
         ensures upper { IfSome result.1 (UpTo (at_most (length self.now.items))) }

@@ -23,8 +23,8 @@ pub fn a_document_fits()
     ensures { (d : Data) (r : Root) → root.is d r → root.fits d }
 {}
 
-/// Any two documents that one text is show the same: texts, numbers, lists, values kept as they
-/// stand, the members of `others`; not capacities.
+/// Any two documents that are readings of one text show the same: texts, numbers, lists, values
+/// kept as they stand, the members of `others`; not capacities.
 pub fn two_readings_of_a_text_are_alike()
     ensures { (bytes : List ℕ) (d e : Data) (r s : Root) → Reads bytes d → Reads bytes e
         → root.is d r → root.is e s → root.content r ≡ root.content s }

@@ -98,8 +98,8 @@ impl Root {
     }
 }
 
-/// By hand, so that a crate above that lets go of a document calls this, and need not prove again
-/// how each record within is dropped.
+/// By hand, so that a crate above that drops a document calls this, and need not prove again how
+/// each record within is dropped.
 impl Drop for Root {
     fn drop(self) {
         let Root {

@@ -116,7 +116,7 @@ impl FromValue for Target {
     }
 }
 
-/// A sampler beside what it animates (glTF 2.0, section 5.6, "Animation Channel").
+/// A sampler, and what it animates (glTF 2.0, section 5.6, "Animation Channel").
 #[derive(Debug, Drop)]
 pub struct Channel {
     /// The sampler, of the same animation: `sampler`.

@@ -14,10 +14,10 @@ use gltf_json_record::read::read;
 use serde_json::Value;
 use std::alloc::Global;
 
-/// The document that a JSON value is (glTF 2.0, section 5.17, "glTF"). It is answered exactly where
-/// the value fits the tables of the format, out of memory aside; any other document that the value
-/// is shows the same. Otherwise the answer is a `Record` with a fault that stands in the value at
-/// its path, and the value is no document; or `Memory`.
+/// The document of a JSON value (glTF 2.0, section 5.17, "glTF"). It is answered exactly where the
+/// value fits the tables of the format, out of memory aside; any other document of the value shows
+/// the same. Otherwise the answer is a `Record` with a fault that stands in the value at its path,
+/// and the value is no document; or `Memory`.
 #[tactic(auto, using(crate::proofs::Readings::read_alike, crate::proofs::Readings::refused_unread))]
 pub fn from_value(alloc: Global, value: &Value) -> Result<Root, Error>
     ensures ok { IfOk result (root.is (view value.now)) }
@@ -32,7 +32,7 @@ pub fn from_value(alloc: Global, value: &Value) -> Result<Root, Error>
     read(alloc, value)
 }
 
-/// The document that a JSON text is (glTF 2.0, section 5.17, "glTF"): that of the value which
+/// The document of a JSON text (glTF 2.0, section 5.17, "glTF"): that of the value which
 /// `serde_json` reads from it. `Text` is answered only where the bytes are no JSON text in UTF-8;
 /// `Record` with a fault that stands in the value at its path; and `Memory` where there was not
 /// enough, in `serde_json` or here.

@@ -1,4 +1,9 @@
--- The attributes of an object, read name after name.
+-- The attributes of an object, read name by name: for the contract of `Attributes::from_value`. The
+-- invariant of its loop is `ReadSoFar`: the attributes have what the object has at the names so
+-- far. It holds at no name (`read_none`), and a turn adds a name that is absent (`read_absent`) or
+-- was put (`read_put`: one of a known semantic, or an unknown one). At all names it is the contract
+-- (`read_all`). What is known splits on whether the new name is that of the semantic (`kept`,
+-- `put_at`). `no_object` and `no_index` are the contract's errors.
 use Rattle.std.proofs.Common.{◌≡◌, ◌∷◌, ◌++◌, ◌||◌, ℕ, List, [], Bool, true, false, Option, Some}
 use Rattle.std.proofs.Common.{None, MatchOption, IsSome, IsNone, option_and_then, string_bytes}
 use Rattle.std.proofs.Common.{bytes_eq, if◌then◌else◌, cond, map, is_some, refl, sym, ap, ◌∙◌, inl}

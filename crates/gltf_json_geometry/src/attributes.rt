@@ -15,15 +15,17 @@ use serde_json::Value;
 use std::alloc::{AllocError, Global};
 use std::collections::BTreeMap;
 
-// The known attributes by what they mean, and the names of the others, in the order of their bytes.
+/// The attributes of a primitive, known and unknown.
 #[derive(Drop)]
 pub(crate) struct Attributes {
+    /// The index of each known attribute, by what it means.
     pub known: BTreeMap<Semantic, Index<kinds::Accessor>>,
+    /// The names of the others, in the order of their bytes.
     pub unknown: Vec<String>,
 }
 
 impl Attributes {
-    // One more attribute, with its name and the index that it has.
+    /// One more attribute, with its name and the index that it has.
     fn put(
         &mut self,
         alloc: Global,

@@ -14,7 +14,7 @@ use std::fmt;
 /// text or the number of their set.
 #[derive(Debug, Drop, PartialEq, Eq, PartialOrd, Ord)]
 pub enum Semantic {
-    /// An attribute of the application: the text behind the underscore of its name.
+    /// An attribute of the application: the text after the underscore of its name.
     Extras(String),
     /// `POSITION`.
     Positions,
@@ -126,7 +126,7 @@ fn set(name: &str) -> Option<Semantic>
     }
 }
 
-// The number behind a prefix.
+// The number after a prefix.
 fn numbered(name: &str, prefix: &str) -> Option<u32>
     ensures { MatchOption result ((n : ℕ) → n < 2 ^ 32 → name.now ≡ prefix.now ++ decimal n → ⊥)
         (λ n. name.now ≡ prefix.now ++ decimal n) }

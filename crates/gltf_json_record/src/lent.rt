@@ -1,4 +1,4 @@
-//! Members of a record, lent one behind the other, that are copied by one call.
+//! Members of a record, lent one after the other, that are copied by one call.
 use crate::copy::{Copies, map_copy, option_copy};
 use serde_json::{Map, Value};
 use std::alloc::{AllocError, Global};
@@ -10,6 +10,7 @@ pub trait Lent: Copy {
     /// The copy.
     type Owned: Drop;
 
+    /// What a copy has to show.
     ghost is_copied: { Self → Self.Owned → Type 0 };
 
     /// A copy of each, in turn.

@@ -15,14 +15,14 @@ use crate::path::{Path, Step};
 use serde_json::Value;
 use std::alloc::Global;
 
-/// A type that is read from a JSON value. Its `kind` says which values it is the reading of, and
-/// which faults stand in the others.
+/// A type that is read from a JSON value.
 pub trait FromValue: Drop {
     ghost use Rattle.std.specs.Prelude.{IfOk, IfErr};
     ghost use Rattle.serde_json.specs.View.{view};
     ghost use Rattle.gltf_json_record.specs.Fault.{Tells};
     ghost use Rattle.gltf_json_record.specs.Kind.{Kind};
 
+    /// Which values it is the reading of, and which faults stand in the others.
     ghost kind: { Kind Self };
 
     /// The reading of a value, or a fault that stands in it, or out of memory.
@@ -34,7 +34,7 @@ pub trait FromValue: Drop {
 }
 
 /// The reading of a value. It is answered exactly where the value fits its kind, out of memory
-/// aside; otherwise a fault that stands in the value is told.
+/// aside; otherwise the answer is a fault that stands in the value.
 pub fn read<T: FromValue>(alloc: Global, value: &Value) -> Result<T, Error>
     ensures ok { IfOk result (T.kind.is (view value.now)) }
     ensures fits { IfOk result (λ _. T.kind.fits (view value.now)) }

@@ -1,5 +1,5 @@
 //! The rows of the tables of records. A record is read by one call, whose rows stand as in its
-//! table; their names go beside them, one behind the other.
+//! table; their names go beside them, one after the other.
 ghost use Rattle.std.specs.Prelude.{IfOk, IfErr, map};
 ghost use Rattle.serde_json.specs.View.{view};
 ghost use Rattle.gltf_json_record.specs.Fault.{Tells};
@@ -23,6 +23,7 @@ pub trait Row: Copy {
     /// What it is read as.
     type Read: Drop;
 
+    /// The kind of a record with this row alone, for a member of this name.
     ghost row_kind: { Self → List ℕ → Kind Self.Read };
 
     /// Reads the member of this name; or a fault that stands there, or out of memory.
@@ -31,7 +32,7 @@ pub trait Row: Copy {
         ensures err { IfErr result (Tells ((row_kind self.now name.now).fault (view value.now))) };
 }
 
-/// Rows, one behind the other.
+/// Rows, one after the other.
 pub trait Rows: Copy {
     ghost use Rattle.std.specs.Prelude.{IfOk, IfErr, IsSome, List, map, ℕ};
     ghost use Rattle.serde_json.specs.Find.{as_object};
@@ -42,6 +43,7 @@ pub trait Rows: Copy {
     /// What they are read as.
     type Read: Drop;
 
+    /// The kind of a record with these rows, for members of these names.
     ghost rows_kind: { Self → List (List ℕ) → Kind Self.Read };
 
     /// Reads the members of these names of an object, in turn, up to the first fault.

@@ -20,6 +20,7 @@ pub trait Code: Copy {
     ghost use Rattle.serde_json.specs.View.{view};
     ghost use Rattle.gltf_json_record.specs.declared.validation.Checked.{Checked};
 
+    /// What the table has for a value, in contracts.
     ghost reads: { Data → Option (Checked Self) };
 
     /// What the table has for a value; None where the value is of another kind than its codes.

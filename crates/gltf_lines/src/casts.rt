@@ -57,8 +57,8 @@ fn write_casts<E: Casts + Clone + Drop>(
     }
 }
 
-/// Writes what each of these calls casts, behind it. `CALL` is for all items, and `CALL,STEP,..`
-/// for what these steps give.
+/// Writes each of these calls, and after it what it casts. `CALL` is for all items, and
+/// `CALL,STEP,..` for what these steps give.
 fn write_each<E: Casts + Clone + Drop>(read: &E, calls: &str, text: &mut String) -> Written {
     let mut line = Line::new(text);
     for call in calls.split_whitespace() {
@@ -159,8 +159,8 @@ impl Casts for ReadOutputs<'_> {
     }
 }
 
-/// Writes that there is no such call. What was read is dropped here, under a type parameter: a proof
-/// writes out how each variant is dropped, and that of each iterator in it.
+/// Writes that there is no such call. What was read is dropped here, under a type parameter: a
+/// proof writes out how each variant is dropped, and that of each iterator in it.
 fn write_no_cast<T: Drop>(_read: T, line: &mut Line<'_>) {
     line.push_str("no cast");
 }
@@ -181,7 +181,7 @@ where
     }
 }
 
-/// Writes what these steps give, and with `unwrap` behind them what is left, uncast.
+/// Writes what these steps give, and with `unwrap` after them what is left, uncast.
 fn write_walk<E: Castable<A> + Clone + Shown, A>(
     mut items: Casting<E, A>,
     steps: &str,

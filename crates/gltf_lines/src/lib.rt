@@ -1,4 +1,4 @@
-//! Lines of text that tell of the handles of a document: all that the getters of each give, behind
+//! Lines of text that describe the handles of a document: all that the getters of each give, after
 //! their names, what steps over a list of handles give, and what readers give. `gltf_cases` prints
 //! them.
 #![tactic(auto)]

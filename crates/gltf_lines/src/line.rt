@@ -5,8 +5,8 @@ use std::fmt::Display;
 /// What writes into a line answers.
 pub type Written = Result<(), AllocError>;
 
-/// What is written behind a text. Once there is no memory for a part, no other is written behind
-/// it, so that what writes many parts asks once, at the end, whether there was memory for all.
+/// What is written after a text. Once there is no memory for a part, no other is written after it,
+/// so that what writes many parts asks once, at the end, whether there was memory for all.
 #[derive(Drop)]
 pub struct Line<'a> {
     text: &'a mut String,
@@ -14,7 +14,7 @@ pub struct Line<'a> {
 }
 
 impl<'a> Line<'a> {
-    /// What is written behind this text.
+    /// What is written after this text.
     pub(crate) fn new(text: &'a mut String) -> Self {
         Line {
             text,

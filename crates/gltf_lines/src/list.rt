@@ -31,7 +31,7 @@ pub(crate) trait Walked {
     /// The next item.
     fn write_next(&mut self, line: &mut Line<'_>);
 
-    /// The item behind so many others.
+    /// The item after so many others.
     fn write_nth(&mut self, places: usize, line: &mut Line<'_>);
 
     /// The last item, of a copy.

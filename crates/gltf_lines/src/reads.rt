@@ -16,7 +16,7 @@ use gltf_read::mesh::util::{ReadMorphTarget, ReadMorphTargets};
 use gltf_read::{animation, mesh, skin};
 use std::fmt::Debug;
 
-/// Writes what each reader of a primitive gives, behind its name, of this set of attributes.
+/// Writes what each reader of a primitive gives, after its name, of this set of attributes.
 pub fn write_primitive<'s, F: Fn(Buffer) -> Option<&'s [u8]>>(
     reader: &mesh::Reader<'_, 's, F>,
     set: u32,
@@ -50,7 +50,7 @@ fn write_targets<'s, F: Fn(Buffer) -> Option<&'s [u8]>>(
     write_read("second", targets.nth(0), line);
 }
 
-/// Writes what there is behind the last morph target, however far, and how many are left then.
+/// Writes what there is after the last morph target, however far, and how many are left then.
 fn write_behind_targets<'s, F: Fn(Buffer) -> Option<&'s [u8]>>(
     mut targets: ReadMorphTargets<'_, 's, F>,
     line: &mut Line<'_>,
@@ -61,7 +61,7 @@ fn write_behind_targets<'s, F: Fn(Buffer) -> Option<&'s [u8]>>(
     write!(line, " of {}", targets.len());
 }
 
-/// Writes what the reader of a skin gives, behind its name.
+/// Writes what the reader of a skin gives, after its name.
 pub fn write_skin<'s, F: Fn(Buffer) -> Option<&'s [u8]>>(
     reader: &skin::Reader<'_, 's, F>,
     text: &mut String,
@@ -74,7 +74,7 @@ pub fn write_skin<'s, F: Fn(Buffer) -> Option<&'s [u8]>>(
     line.finish()
 }
 
-/// Writes what each reader of a channel gives, behind its name.
+/// Writes what each reader of a channel gives, after its name.
 pub fn write_channel<'s, F: Fn(Buffer) -> Option<&'s [u8]>>(
     reader: &animation::Reader<'_, 's, F>,
     text: &mut String,
@@ -132,7 +132,7 @@ fn write_item<T: Debug + Drop>(is_first: bool, item: T, line: &mut Line<'_>) {
     write!(line, "{item:?}");
 }
 
-/// Writes a name, and behind it what is read.
+/// Writes a name, and after it what is read.
 pub(crate) fn write_named<T: Shown>(name: &str, read: &T, line: &mut Line<'_>) {
     write!(line, "{name} ");
     read.show(line);

@@ -6,7 +6,7 @@ use gltf_scene::scene::{Node, Scene};
 use gltf_scene::skin::Skin;
 
 impl<D: Records> Shown for Node<'_, D> {
-    /// What a node refers to is told by its index: a node may be its own child.
+    /// What a node refers to is shown by its index: a node may be its own child.
     fn show(&self, line: &mut Line<'_>) {
         write!(line, "index {}", self.index());
         write_next("name", self.name(), line);

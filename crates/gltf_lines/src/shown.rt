@@ -1,12 +1,12 @@
-//! What a line tells of a handle.
+//! What a line says of a handle.
 use crate::line::{Line, Written};
 use gltf_handles::list::{Indexed, List};
 use gltf_json::{Map, Value};
 use std::fmt::Debug;
 
-/// What a line can tell of.
+/// What a line can describe.
 pub trait Shown {
-    /// Writes all that its getters give, each behind the name of the getter. Of extensions the one
+    /// Writes all that its getters give, each after the name of the getter. Of extensions the one
     /// named X is looked up.
     fn show(&self, line: &mut Line<'_>);
 }
@@ -67,7 +67,7 @@ where
     line.push_str("]");
 }
 
-/// What is told by its number alone where it stands in a list.
+/// What is shown by its number alone where it stands in a list.
 pub(crate) trait Numbered {
     /// Its index among those of its kind.
     fn number(&self) -> usize;

@@ -89,10 +89,10 @@ pub fn textures<'a>(document: &'a Valid) -> Textures<'a>
     List::new(AllTextures { document })
 }
 
-/// What `Cameras` goes over.
+/// The source that `Cameras` walks over.
 #[derive(Clone, Copy, Debug)]
 pub struct AllCameras<'a> {
-    /// The document that the cameras are of.
+    /// The document of the cameras.
     pub document: &'a Valid,
 }
 
@@ -112,10 +112,10 @@ impl<'a> Indexed for AllCameras<'a> {
     }
 }
 
-/// What `Images` goes over.
+/// The source that `Images` walks over.
 #[derive(Clone, Copy, Debug)]
 pub struct AllImages<'a> {
-    /// The document that the images are of.
+    /// The document of the images.
     pub document: &'a Valid,
 }
 
@@ -135,10 +135,10 @@ impl<'a> Indexed for AllImages<'a> {
     }
 }
 
-/// What `Lights` goes over.
+/// The source that `Lights` walks over.
 #[derive(Clone, Copy, Debug)]
 pub struct AllLights<'a> {
-    /// The document that the lights are of.
+    /// The document of the lights.
     pub document: &'a Valid,
 }
 
@@ -158,10 +158,10 @@ impl<'a> Indexed for AllLights<'a> {
     }
 }
 
-/// What `Variants` goes over.
+/// The source that `Variants` walks over.
 #[derive(Clone, Copy, Debug)]
 pub struct AllVariants<'a> {
-    /// The document that the variants are of.
+    /// The document of the variants.
     pub document: &'a Valid,
 }
 
@@ -181,10 +181,10 @@ impl<'a> Indexed for AllVariants<'a> {
     }
 }
 
-/// What `Samplers` goes over.
+/// The source that `Samplers` walks over.
 #[derive(Clone, Copy, Debug)]
 pub struct AllSamplers<'a> {
-    /// The document that the samplers are of.
+    /// The document of the samplers.
     pub document: &'a Valid,
 }
 
@@ -204,10 +204,10 @@ impl<'a> Indexed for AllSamplers<'a> {
     }
 }
 
-/// What `Textures` goes over.
+/// The source that `Textures` walks over.
 #[derive(Clone, Copy, Debug)]
 pub struct AllTextures<'a> {
-    /// The document that the textures are of.
+    /// The document of the textures.
     pub document: &'a Valid,
 }
 

@@ -17,8 +17,8 @@ use gltf_json::{Map, Value, kinds, texture};
 use gltf_rules::{Records, Valid};
 use std::alloc::AllocError;
 
-/// How a texture is sampled (glTF 2.0, section 5.26, "Sampler"). That of a texture which names none
-/// has no record.
+/// How a texture is sampled (glTF 2.0, section 5.26, "Sampler"). The sampler of a texture that
+/// names none has no record.
 #[derive_where(Debug; D)]
 pub struct Sampler<'a, D: Records = Valid> {
     document: &'a D,
@@ -58,7 +58,7 @@ impl<'a, D: Records> Sampler<'a, D> {
         }
     }
 
-    /// That of a texture which names none: it has no record.
+    /// The sampler of a texture that names none: it has no record.
     pub fn default(document: &'a D) -> Self
         ensures { IsDefaultSampler (D.root document.now) result }
     {

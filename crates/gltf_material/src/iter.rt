@@ -19,10 +19,10 @@ pub fn materials<'a>(document: &'a Valid) -> Materials<'a>
     List::new(AllMaterials { document })
 }
 
-/// What `Materials` goes over.
+/// The source that `Materials` walks over.
 #[derive(Clone, Copy, Debug)]
 pub struct AllMaterials<'a> {
-    /// The document that the materials are of.
+    /// The document of the materials.
     pub document: &'a Valid,
 }
 

@@ -25,7 +25,7 @@ pub struct Info<'a, D: Records = Valid> {
 impl<'a, D: Records> Info<'a, D> {
     ghost use Rattle.gltf_material.specs.Textures.{info_handle, transform_record, IsInfo};
 
-    /// That of a member whose rules hold, where it is there.
+    /// The use that a member names, where the member is there. Its rules hold.
     pub(crate) fn of(document: &'a D, member: &'a Option<texture::Info>) -> Option<Self>
         requires { Hold (optional_rules (info_rules (counts_of (D.root document.now))) member.now) }
         ensures { Follows (IsInfo (D.root document.now)) member.now result }

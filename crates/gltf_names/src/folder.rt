@@ -14,7 +14,7 @@ use std::io;
 use std::io::Read;
 use std::rt::Files;
 
-/// Files by name: [`Name::File`] as it stands, [`Name::Relative`] behind the base, but one that
+/// Files by name: [`Name::File`] as it stands, [`Name::Relative`] after the base, but one that
 /// begins with `/` as it stands.
 ///
 /// It looks at no name: `..` leads out of the folder, and what is there is read to its end, also a
@@ -27,7 +27,7 @@ pub struct Folder<'a, R: Files> {
 }
 
 impl<'a, R: Files> Folder<'a, R> {
-    /// A folder whose relative names stand behind the base, as `models/`: no `/` is put between.
+    /// A folder whose relative names are put after the base, as `models/`: no `/` is put between.
     /// Takes no memory, and opens nothing.
     pub fn new(rt: &'a R, base: &'a str) -> Folder<'a, R>
         ensures base { folder_base result ≡ base.now }
@@ -107,7 +107,7 @@ fn all_of<R: Read>(alloc: Global, reader: &mut R, size: u64) -> Result<Vec<u8>, 
     }
 }
 
-/// Room for so many bytes, and for the read behind the last of them that finds the end.
+/// Room for so many bytes, and for the read after the last of them that finds the end.
 fn room_for(size: u64) -> usize {
     size.saturating_add(PIECE as u64) as usize
 }

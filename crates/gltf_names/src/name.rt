@@ -61,8 +61,8 @@ pub trait NamedBytes {
     /// The bytes of the name.
     ///
     /// Answers [`NamedFault::Io`] exactly where the count of failures rises by one and the last
-    /// failed name is the one that was asked for, else both stand still. An honest source gives the
-    /// bytes that the name holds, and a read leaves what is held as it is.
+    /// failed name is the one that was asked for, else both stay as they are. An honest source
+    /// gives the bytes that the name holds, and a read leaves what is held as it is.
     fn read(&mut self, alloc: Global, name: Name<'_>) -> Result<Vec<u8>, NamedFault>
         ensures failure { NotesFailure result (named name.entry)
             (failures self.old) (failures self.new) }

@@ -54,7 +54,7 @@ impl Shelf {
         }
     }
 
-    /// The read behind the next `k` ones fails, whatever it asks for. A later call takes the place
+    /// The read after the next `k` ones fails, whatever it asks for. A later call takes the place
     /// of an earlier one.
     pub fn fail_at(&mut self, k: usize)
         ensures holds { HoldsTheSame self.old self.new }

@@ -1,4 +1,9 @@
--- The import of what was repacked is that of the bytes before.
+-- The import of what was repacked is that of the bytes before: the law `import_kept`. The lemmas of
+-- the module take each outcome of an import (accepted, or refused for text, rules or buffers) from
+-- a file to one whose parts are alike. They are used in both directions (`turned`). The parts of a
+-- file and its answer are alike by three premises, which are laws: `one_reading` (a file has no
+-- other parts), `reads_back` (the answer has the parts, filled up) and `spaces_behind` (what fills
+-- up the text changes nothing); `filled_blob` is for the zeros that fill up the blob.
 use Rattle.std.proofs.Common.{◌≡◌, ℕ, List, Option, option_map, subst, inl, inr}
 use Rattle.std.proofs.Common.{◌-◌, ◌%◌, length}
 use Rattle.gltf_glb.specs.Bytes.{padded}

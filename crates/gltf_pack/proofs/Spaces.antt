@@ -1,4 +1,9 @@
--- Spaces behind a JSON text change none of its tokens (RFC 8259, sections 2, 6 and 7).
+-- Spaces after a JSON text change none of its tokens (RFC 8259, sections 2, 6 and 7).
+-- `spaces_behind` proves the law of that name, by induction on their number. The step is
+-- `one_more`: one space keeps the text UTF-8, and keeps the lexemes (`lex_space`, by induction on
+-- the text for each mode of the lexer). A string keeps its content (`content_space`, by induction
+-- with a case for each escape), a number its end (`after_number_space`, from sign to exponent), and
+-- a name as `true` its end too (`name_space`).
 use Rattle.std.proofs.Common.{◌≡◌, ℕ, zero, suc, ◌+◌, ◌-◌, List, [], ◌∷◌, ◌++◌, length, take}
 use Rattle.std.proofs.Common.{drop, replicate, Bool, true, false, cond, ◌&&◌, ◌||◌, ◌==◌, nat_lt}
 use Rattle.std.proofs.Common.{nat_eq, Option, Some, None, option_and_then, refl, sym, ap, subst}

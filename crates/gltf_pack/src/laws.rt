@@ -4,7 +4,7 @@ ghost use Rattle.gltf_pack.specs.Laws.{SpacesBehind, OneAnswer, RepackedAgain, I
 
 use gltf_glb::laws::{filled_once, one_reading, reads_back};
 
-/// Spaces behind a JSON text do not change what is read from it: `serde_json` reads a text by its
+/// Spaces after a JSON text do not change what is read from it: `serde_json` reads a text by its
 /// tokens, and such spaces are in none and make none.
 pub fn spaces_behind()
     ensures { SpacesBehind }
@@ -17,7 +17,8 @@ pub fn one_answer()
     one_reading();
 }
 
-/// What was repacked is repacked to the same bytes, and never refused but for want of memory.
+/// What was repacked is repacked to the same bytes, and refused only where there is not enough
+/// memory.
 pub fn repacked_again()
     ensures { RepackedAgain }
 {

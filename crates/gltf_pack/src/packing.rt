@@ -16,11 +16,10 @@ use std::borrow::CowSlice;
 
 /// The JSON text and the blob of a file, written anew as one GLB container (glTF 2.0, section 4.4).
 ///
-/// A file that begins with `glTF` is a container: chunks of unknown type, what stands behind its
-/// BIN chunk and what stands behind its declared length are dropped. Any other file is JSON text
-/// whole. The text is not read: the answer is imported where the file is, with the same document
-/// and the same buffers, and refused with the same faults. Repacking the answer gives the answer
-/// again.
+/// A file that begins with `glTF` is a container: chunks of unknown type, what follows its BIN
+/// chunk and what follows its declared length are dropped. Any other file is JSON text whole. The
+/// text is not read: the answer is imported where the file is, with the same document and the same
+/// buffers, and refused with the same faults. Repacking the answer gives the answer again.
 ///
 /// Answers [`gltf_glb::Error::Binary`] with its one fault for what begins with `glTF` and is no
 /// container, [`gltf_glb::Error::Io`] where the whole would be longer than 4294967295 bytes, before

@@ -1,4 +1,9 @@
--- Documents that show the same are read alike.
+-- Documents that show the same are read alike by each table of readers: one lemma for each of the
+-- laws `items_are_alike` to `outputs_are_alike`. All rest on `member_alike`, by cases on whether
+-- there is an index: the other document has an accessor of the same content there (`also_there`),
+-- so of the same type and dimensions, and the table says of it what it says of the first. The
+-- table's part is its lemma in `Rows`, from the law `alike_documents_are_read_alike` at the item
+-- type of each row (`row_turned`).
 use Rattle.std.proofs.Common.{◌≡◌, ℕ, List, refl, sym, ap, subst, ◌∙◌}
 use Rattle.std.specs.Prelude.{Option, Some, None, slice_get, option_map}
 use Rattle.std.proofs.lemmas.Option.{slice_get-map}

@@ -1,5 +1,9 @@
--- What is said of the items of each row of a table may be said in other words, and then of what was
--- read by the table.
+-- From the rows of a table to the table. A table of readers has a row for each type of component;
+-- that of colours also splits on the dimensions, and that of keyframes on the property. Where a
+-- reading `S` says what `R` says of each row's items (`Turns`), it says the same of what was read
+-- by the table. There is one lemma for each table, by cases on the type; what has no row stays as
+-- it is. `Answered` and `AlikeReadings` use them for the laws `tables_are_by_answers` and
+-- `colors_are_alike` to `outputs_are_alike`.
 use Rattle.std.specs.Prelude.{Option, Some, None}
 use Rattle.gltf_handles.specs.declared.accessor.DataType.{DataType}
 use Rattle.gltf_handles.specs.declared.accessor.DataType.TheVariants.{I8, U8, I16, U16, F32}

@@ -1,4 +1,9 @@
--- Two documents that are readings of one value have the same indices.
+-- Two documents that are readings of one JSON value have the same indices for what readers read:
+-- `same_of_one_value` proves the law `readings_of_one_value_have_the_same_indices`. `AreOne` says
+-- that two records are readings of one value. `elements`, an induction on the array, takes that
+-- from lists to their elements; `within`, `found` and `mapped` take it to parts that may be absent,
+-- by cases on both options. A member is named by its place in its record's table (`x.1.1.1.0` is
+-- the third), so a new row in the middle of a table moves those after it.
 use Rattle.std.proofs.Common.{◌≡◌, ℕ, zero, suc, List, [], ◌∷◌, Vec, Global, refl, sym, ap, subst}
 use Rattle.std.proofs.Common.{◌∙◌, String}
 use Rattle.std.specs.Prelude.{Option, Some, None, MatchOption, slice_get, option_map, ⊤, codes}

@@ -48,7 +48,7 @@ impl<'a, 's, F: Fn(Buffer) -> Option<&'s [u8]>> Reader<'a, 's, F> {
     }
 
     /// The times of the keyframes, in seconds: `input` of the channel's sampler. None where its
-    /// accessor cannot be read as that; so with the values.
+    /// accessor cannot be read as that. The same holds of the values.
     pub fn read_inputs(&self) -> Option<ReadInputs<'s>>
         requires { F.IsAlwaysCallable (closure_of self.now) }
         ensures { let c = channel_of self.now in

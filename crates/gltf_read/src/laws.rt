@@ -21,8 +21,8 @@ use gltf_data::buffer::Buffer;
 use gltf_data::laws::alike_documents_are_read_alike;
 use gltf_items::{F32, Item};
 
-/// The items that are read by a closure which answers one buffer always alike are told by these
-/// answers.
+/// The items that are read by a closure which answers one buffer always alike are determined by
+/// these answers.
 pub fn items_are_by_answers<'s, T: Item, F: Fn(Buffer) -> Option<&'s [u8]>>(get_buffer_data: &F)
     ensures { IsByAnswers (AreItems {X = T} {t = ⟦<T as Item>⟧})
         (λ b o. F.post get_buffer_data.now b o) }

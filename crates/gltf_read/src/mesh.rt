@@ -59,7 +59,7 @@ impl<'a, 's, F: Fn(Buffer) -> Option<&'s [u8]>> Reader<'a, 's, F> {
     }
 
     /// Positions of vertices: `POSITION`. None where the primitive has no such attribute, or its
-    /// accessor cannot be read as that; so with all that is read.
+    /// accessor cannot be read as that. The same holds of each reading below.
     pub fn read_positions(&self) -> Option<ReadPositions<'s>>
         requires { F.IsAlwaysCallable (closure_of self.now) }
         ensures { let p = primitive_of self.now in

@@ -159,7 +159,7 @@ impl<'a, 's, F: Fn(Buffer) -> Option<&'s [u8]>> Iterator for ReadMorphTargets<'a
         self.nth(0)
     }
 
-    /// How many are left, twice. It reads none.
+    /// How many are left, as both bounds. It reads none.
     fn size_hint(&self) -> (usize, Option<usize>)
         ensures lower { IsWithinCount result.0 (at_most (left (targets_left self.now))) }
         ensures upper { IfSome result.1 (UpTo (at_most (left (targets_left self.now)))) }

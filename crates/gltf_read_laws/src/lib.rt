@@ -2,10 +2,10 @@
 //! law is the contract of a function; the calls in a body are laws that its proof stands on, and do
 //! nothing.
 //!
-//! What a reader answers over a closure is told by the closure's answers (`gltf_read::laws`). A law
-//! here says of one import of some bytes, which is what `gltf::import_slice` answers, that what is
-//! told of its document by the bytes of its buffers is told so of every document and buffers that
-//! the same bytes are: of which accessor, which variant, and which items.
+//! What a reader answers over a closure is determined by the closure's answers (`gltf_read::laws`).
+//! A law here starts from one import of some bytes, which is what `gltf::import_slice` answers.
+//! What the bytes of its buffers determine of its document, they determine of every document and
+//! buffers that the same bytes are: the accessor, the variant and the items.
 #![tactic(auto)]
 
 mod laws;

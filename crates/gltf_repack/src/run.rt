@@ -14,7 +14,7 @@ const PRIVATE: u32 = 0o600;
 const PUBLIC: u32 = 0o666;
 
 /// Repacks the file that the first of two words names to the file that the second names, where the
-/// words are the arguments behind the program's name, and gives the exit status.
+/// words are the arguments after the program's name, and gives the exit status.
 ///
 /// - 0: the second file is whole, and a line on `out` says how long it is.
 /// - 1: the first file is refused, the second could not be written, or the line could not; the
@@ -29,7 +29,7 @@ pub fn run<O: Write, E: Write>(
     match answer(rt, words, out) {
         Ok(()) => 0,
         Err(refusal) => {
-            // Where this write fails too, the status alone tells.
+            // Where this write fails too, the status alone says so.
             let _ = writeln!(err, "{refusal}");
             refusal.status()
         }

@@ -28,8 +28,10 @@ pub trait Kind {
     /// What stands in the list.
     type Record;
 
+    /// The list, in contracts.
     ghost list: { Root → List Self.Record };
 
+    /// The rules of a record of the list.
     ghost record_rules: { Counts → Self.Record → Rules };
 
     /// The list.

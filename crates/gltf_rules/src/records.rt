@@ -15,6 +15,7 @@ pub trait Records {
     ghost use Rattle.gltf_validation.specs.Members.{list_rules};
     ghost use Rattle.gltf_validation.specs.Rules.{Hold};
 
+    /// The root of the document.
     ghost root: { Self → Root };
 
     /// How many records the list has that `K` names.

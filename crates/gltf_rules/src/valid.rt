@@ -26,7 +26,7 @@ pub fn validate(alloc: Global, root: &Root) -> Result<Vec<(Path, Error)>, AllocE
 pub enum Refused {
     /// It breaks these rules: all that it breaks, in order.
     Rules(Vec<(Path, Error)>),
-    /// There was not enough memory to tell.
+    /// There was not enough memory.
     Memory,
 }
 
@@ -101,7 +101,7 @@ impl Valid {
         &self.root
     }
 
-    /// The document, given up.
+    /// The document, moved out.
     pub fn into_root(self) -> Root
         ensures same { result ≡ self }
         ensures valid { Faults self ≡ [] }

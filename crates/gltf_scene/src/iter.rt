@@ -64,10 +64,10 @@ pub fn default_scene<'a>(document: &'a Valid) -> Option<Scene<'a>>
     Some(Scene::new(document, index.value()))
 }
 
-/// What `Meshes` goes over.
+/// The source that `Meshes` walks over.
 #[derive(Clone, Copy, Debug)]
 pub struct AllMeshes<'a> {
-    /// The document that the meshes are of.
+    /// The document of the meshes.
     pub document: &'a Valid,
 }
 
@@ -87,10 +87,10 @@ impl<'a> Indexed for AllMeshes<'a> {
     }
 }
 
-/// What `Nodes` goes over.
+/// The source that `Nodes` walks over.
 #[derive(Clone, Copy, Debug)]
 pub struct AllNodes<'a> {
-    /// The document that the nodes are of.
+    /// The document of the nodes.
     pub document: &'a Valid,
 }
 
@@ -110,10 +110,10 @@ impl<'a> Indexed for AllNodes<'a> {
     }
 }
 
-/// What `Scenes` goes over.
+/// The source that `Scenes` walks over.
 #[derive(Clone, Copy, Debug)]
 pub struct AllScenes<'a> {
-    /// The document that the scenes are of.
+    /// The document of the scenes.
     pub document: &'a Valid,
 }
 
@@ -133,10 +133,10 @@ impl<'a> Indexed for AllScenes<'a> {
     }
 }
 
-/// What `Skins` goes over.
+/// The source that `Skins` walks over.
 #[derive(Clone, Copy, Debug)]
 pub struct AllSkins<'a> {
-    /// The document that the skins are of.
+    /// The document of the skins.
     pub document: &'a Valid,
 }
 

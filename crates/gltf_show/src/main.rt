@@ -46,7 +46,7 @@ fn refused<E: Write>(err: &mut E, cause: std::io::Error) -> std::io::Result<Exit
     Ok(ExitCode::from(2))
 }
 
-/// The folders of the path, which relative names stand behind.
+/// The folders of the path: relative names are put after them.
 fn base_of<'w>(words: &[&'w str]) -> &'w str {
     match words {
         [_, path, ..] => gltf::base_of(*path),

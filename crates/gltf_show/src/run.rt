@@ -8,7 +8,7 @@ use gltf::{Glb, Name, NamedBytes, import_from};
 use std::alloc::Global;
 use std::io::{self, Write};
 
-/// Answers the call that the words make, where the words are the arguments behind the program's
+/// Answers the call that the words make, where the words are the arguments after the program's
 /// name, and gives the exit status.
 ///
 /// - 0: the answer stands on `out`.
@@ -25,14 +25,14 @@ pub fn run<S: NamedBytes, O: Write, E: Write>(
     match answer(alloc, source, words, out) {
         Ok(()) => 0,
         Err(refusal) => {
-            // Where this write fails too, the status alone tells.
+            // Where this write fails too, the status alone says so.
             let _ = tell(&refusal, source.last_failed(), err);
             refusal.status()
         }
     }
 }
 
-/// Writes why a call is not answered; where a file was not read, behind the name of that file.
+/// Writes why a call is not answered; where a file was not read, after the name of that file.
 fn tell<E: Write>(refusal: &Refusal, failed: Option<&str>, err: &mut E) -> io::Result<()> {
     match failed {
         Some(name) if refusal.is_failed_read() => writeln!(err, "{name}: {refusal}"),

@@ -33,10 +33,10 @@ impl From<AllocError> for ReadFault {
 /// come.
 pub const PIECE: usize = 8192;
 
-/// Reads until there are this many bytes. What came stands behind what was there, also where the
+/// Reads until there are this many bytes. What came is put after what was there, also where the
 /// answer says why no more did.
 ///
-/// The reader is asked for no more bytes than are wanting, at most 8192 at a time. It may give
+/// The reader is asked for no more bytes than are missing, at most 8192 at a time. It may give
 /// fewer at each read. It is not asked again where a read failed, was interrupted or gave nothing.
 pub fn read_up_to<R: Read>(
     reader: &mut R,
@@ -59,7 +59,7 @@ pub fn read_up_to<R: Read>(
     Ok(())
 }
 
-/// Reads to the end. What came stands behind what was there, also where the answer says why no more
+/// Reads to the end. What came is put after what was there, also where the answer says why no more
 /// did: the reader failed, and is not asked again, or there was not enough memory.
 pub fn read_to_end<R: Read>(reader: &mut R, bytes: &mut Vec<u8>) -> Result<(), ReadFault>
     ensures came { ReadsBehind (R.remaining reader.old) (R.remaining reader.new)
@@ -77,7 +77,7 @@ pub fn read_to_end<R: Read>(reader: &mut R, bytes: &mut Vec<u8>) -> Result<(), R
     }
 }
 
-/// One read of at most so many bytes, which come behind the first `at`; returns how many came. Room
+/// One read of at most so many bytes, which come after the first `at`; returns how many came. Room
 /// for them is made first, so that no byte is lost where there is not enough memory. Where the
 /// answer is `Ok`, the room stays for the next read: no more is cleared than comes.
 fn read_piece<R: Read>(
@@ -114,7 +114,7 @@ fn read_piece<R: Read>(
     }
 }
 
-/// Room for so many bytes behind the first `at`. Where there is not enough memory, those stay.
+/// Room for so many bytes after the first `at`. Where there is not enough memory, those stay.
 fn make_room(bytes: &mut Vec<u8>, at: usize, most: usize) -> Result<(), AllocError>
     requires some { 0 < most }
     requires few { most ≤ 8192 }
@@ -132,7 +132,7 @@ fn make_room(bytes: &mut Vec<u8>, at: usize, most: usize) -> Result<(), AllocErr
     }
 }
 
-/// One read into what stands behind a place.
+/// One read into what follows a place.
 fn read_behind<R: Read>(reader: &mut R, bytes: &mut [u8], at: usize) -> io::Result<usize>
     requires { at < length bytes.old }
     ensures front { take at bytes.new ≡ take at bytes.old }

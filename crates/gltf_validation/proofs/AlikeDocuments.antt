@@ -1,4 +1,8 @@
--- Documents that show the same have the same rules.
+-- Documents that show the same break the same rules: `faults_alike`, for the law
+-- `what_shows_the_same_breaks_the_same_rules`. Rules depend on a document and on the lengths of its
+-- lists, so there are two steps: `counts_of-alike` and `root_rules-alike`. Both go through the
+-- members of the root in the order of `counts_of` and `root_rules`, one line each, by the lemma for
+-- that member's records in the other files `Alike*`. A new list at the root needs its line in both.
 use Rattle.std.proofs.Common.{◌≡◌, Option, Some, None, option_map, refl, ap, ◌∙◌}
 use Rattle.std.specs.Prelude.{codes, [], length}
 use Rattle.gltf_json_record.specs.Scalars.{text}

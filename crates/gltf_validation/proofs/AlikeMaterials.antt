@@ -1,4 +1,8 @@
--- Materials and their extensions that show the same have the same rules.
+-- Materials and their extensions that show the same have the same rules: `material_rules-alike`,
+-- for `AlikeDocuments`. One lemma for each record with rules, from the textures up to the material.
+-- Each goes through the rules of its record in their order (`both`, `at`), and takes a member out
+-- of the content by its place in the record's table (`s.1.1.0` is the third). A new row in the
+-- middle of a table moves the places after it.
 use Rattle.std.proofs.Common.{◌≡◌, ap}
 use Rattle.std.specs.Prelude.{codes}
 use Rattle.gltf_json_material.specs.MaterialExtensions.{material_extensions}

@@ -35,8 +35,8 @@ impl Validate for Indices {
     }
 }
 
-/// Whether a code is one of stored indices, which are unsigned numbers. A text gives no other, a
-/// record that is made may.
+/// Whether a code is one that stored indices may have: that of unsigned numbers. A record that is
+/// read from a text has no other; one that is made in code may.
 fn is_index_type(code: Checked<ComponentType>) -> bool
     ensures { result ≡ is_index_type code }
 {

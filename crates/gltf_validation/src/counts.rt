@@ -42,6 +42,7 @@ pub trait Counted {
     ghost use Rattle.std.specs.Prelude.{ℕ};
     ghost use Rattle.gltf_validation.specs.declared.counts.Counts.{Counts};
 
+    /// The length of the list, in contracts.
     ghost count: { Counts → ℕ };
 
     /// The length of the list.

@@ -67,7 +67,7 @@ impl Validate for Mesh {
     }
 }
 
-/// The attributes that have a meaning, in the order of their meanings.
+/// Reports the broken rules of the attributes that have a meaning, in the order of their meanings.
 fn validate_attributes<T: Validate>(
     attributes: &BTreeMap<Semantic, T>,
     counts: &Counts,
@@ -83,7 +83,7 @@ fn validate_attributes<T: Validate>(
     Ok(())
 }
 
-/// No attribute that has none is in order.
+/// Reports each attribute that has no meaning: none of them is valid.
 fn validate_unknown(
     names: &[String],
     location: &Location<'_>,

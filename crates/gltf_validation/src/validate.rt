@@ -14,6 +14,7 @@ use std::alloc::{AllocError, Global};
 pub trait Validate {
     ghost use Rattle.gltf_validation.specs.declared.counts.Counts.{Counts};
 
+    /// The rules of a value, in a document whose lists have these lengths.
     ghost rules: { Counts → Self → Rules };
 
     /// Reports each broken rule, in order. Takes memory only for a broken one.

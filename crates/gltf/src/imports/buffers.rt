@@ -66,8 +66,8 @@ pub fn import_buffers_from<S: NamedBytes>(
     }
 }
 
-/// [`import_buffers_from`] over the files of the system, where relative references stand behind the
-/// base; or without names, where there is no base.
+/// [`import_buffers_from`] over the files of the system, where relative references are put after
+/// the base; or without names, where there is no base.
 pub fn import_buffers(
     rt: &HostRuntime,
     alloc: Global,

@@ -13,11 +13,11 @@ pub type Channels<'a, D = Valid> = List<ChannelsOf<'a, D>>;
 /// The samplers of an animation, in stored order.
 pub type Samplers<'a, D = Valid> = List<SamplersOf<'a, D>>;
 
-/// What `Channels` goes over.
+/// The source that `Channels` walks over.
 #[derive_where(Clone, Copy)]
 #[derive_where(Debug; D)]
 pub struct ChannelsOf<'a, D: Records = Valid> {
-    /// The animation that the channels are of.
+    /// The animation of the channels.
     pub animation: Animation<'a, D>,
 }
 
@@ -37,11 +37,11 @@ impl<'a, D: Records> Indexed for ChannelsOf<'a, D> {
     }
 }
 
-/// What `Samplers` goes over.
+/// The source that `Samplers` walks over.
 #[derive_where(Clone, Copy)]
 #[derive_where(Debug; D)]
 pub struct SamplersOf<'a, D: Records = Valid> {
-    /// The animation that the samplers are of.
+    /// The animation of the samplers.
     pub animation: Animation<'a, D>,
 }
 

@@ -1,10 +1,10 @@
-//! Zeros behind the bytes of a buffer.
+//! Zeros after the bytes of a buffer.
 ghost use Rattle.std.specs.Prelude.{◌≡◌, ◌+◌, ◌%◌, ◌<◌, OnOk, OnErr, vec_len};
 ghost use Rattle.gltf_buffers.specs.Padding.{padded};
 
 use std::alloc::AllocError;
 
-/// Puts zeros behind the bytes, up to the next multiple of four.
+/// Puts zeros after the bytes, up to the next multiple of four.
 ///
 /// A buffer's bytes may be up to three more than its `byteLength`, as in the BIN chunk of a GLB
 /// (glTF 2.0, section 3.6.1.2). Where there is not enough memory, the bytes stay as they are.

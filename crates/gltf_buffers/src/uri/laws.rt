@@ -8,7 +8,7 @@ pub fn cuts_at_first()
     ensures { CutsAtFirst }
 {}
 
-/// What is left of a text behind a prefix is what follows it, and nothing is left exactly where the
+/// What is left of a text after a prefix is what follows it, and nothing is left exactly where the
 /// text begins otherwise.
 pub fn strips_prefix()
     ensures { StripsPrefix }

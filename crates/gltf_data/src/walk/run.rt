@@ -45,7 +45,7 @@ fn take_end<T: Item>(items: &mut Iter<'_, T>, end: End) -> Ended<T>
 }
 
 /// Takes a list of steps and then the end over items that the caller keeps. It gives what `walk`
-/// gives; the counts are how much those of `items` grew by it. Behind it `items` has what the steps
+/// gives; the counts are how much those of `items` grew by it. After it `items` has what the steps
 /// and the end leave, and where memory ran out what some of the steps leave.
 pub fn walk_on<T: Item>(
     alloc: Global,

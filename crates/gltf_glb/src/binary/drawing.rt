@@ -14,8 +14,8 @@ use std::io;
 use std::io::Read;
 
 /// Reads the bytes of a container up to the length that its header declares, and no further than
-/// the header where that is refused. Up to four of them may be there already. What came stands
-/// behind these, also where the answer is an error.
+/// the header where that is refused. Up to four of them may be there already. What came is put
+/// after these, also where the answer is an error.
 ///
 /// Nothing but the header is looked at. A read that fails, for whatever cause, is not tried again:
 /// [`binary::Error::Io`] says that the reader failed or ended too early, and [`Error::Memory`] that

@@ -32,8 +32,8 @@ impl<'a> Glb<'a> {
     /// The parts of the container that the bytes are, both lent. Takes no memory.
     ///
     /// The chunks stand between the header and the length that it declares; what follows is not
-    /// looked at. The first chunk is JSON. Whole chunks of unknown type behind it are skipped;
-    /// behind a BIN chunk anything may stand.
+    /// looked at. The first chunk is JSON. Whole chunks of unknown type after it are skipped; after
+    /// a BIN chunk anything may follow.
     ///
     /// Otherwise the answer is [`Error::Binary`] with the one fault that the bytes have.
     pub fn from_slice(bytes: &'a [u8]) -> Result<Glb<'a>>
@@ -48,8 +48,8 @@ impl<'a> Glb<'a> {
         })
     }
 
-    /// The same of bytes that are given up: both parts are owned. The binary buffer is handed on in
-    /// the room that the bytes had; memory is taken for the JSON alone.
+    /// [`Glb::from_slice`] of bytes that are given up: both parts are owned. The binary buffer is
+    /// handed on in the room that the bytes had; memory is taken for the JSON alone.
     ///
     /// Answers [`Error::Binary`] with the one fault that the bytes have, or [`Error::Memory`] where
     /// they have none.
@@ -144,7 +144,7 @@ impl<'a> Glb<'a> {
         }
     }
 
-    /// The same parts again: what is lent stays lent, what is owned is copied.
+    /// A copy of the parts: what is lent stays lent, what is owned is copied.
     pub fn clone(&self, alloc: Global) -> Result<Glb<'a>, AllocError>
         ensures copy { IfOk result (IsCopy self.now) }
         ensures lent { IfOk result (StaysLent self.now) }

@@ -1,4 +1,4 @@
-//! A container out of bytes: the header, the JSON chunk, and what stands behind it.
+//! A container out of bytes: the header, the JSON chunk, and what follows it.
 ghost use Rattle.std.specs.Prelude.{◌≡◌, ◌≤◌, ◌+◌, length, None, Some, Ok, Err, MatchResult};
 ghost use Rattle.std.specs.Prelude.{IfOk, IfSome, Result};
 ghost use Rattle.gltf_glb.specs.Bytes.{word_at, tag_at};
@@ -89,7 +89,7 @@ pub(crate) fn header_of(bytes: &[u8]) -> Result<(Header, &[u8]), Error>
     Ok((header, body))
 }
 
-/// The bytes of a BIN chunk, and what stands behind them up to the declared end.
+/// The bytes of a BIN chunk, and what follows them up to the declared end.
 #[derive(Clone, Copy)]
 pub(crate) struct Blob<'a> {
     pub(crate) contents: &'a [u8],
@@ -108,7 +108,7 @@ pub(crate) fn parts_of(body: &[u8]) -> Result<(&[u8], Option<Blob<'_>>), Error>
     Ok((json, blob))
 }
 
-/// The bytes of the JSON chunk, and what stands behind it.
+/// The bytes of the JSON chunk, and what follows it.
 #[tactic(auto, unfolding(crate::specs::Faults::json_fault))]
 fn json_of(body: &[u8]) -> Result<(&[u8], &[u8]), Error>
     ensures { MatchResult result
@@ -138,7 +138,7 @@ fn json_of(body: &[u8]) -> Result<(&[u8], &[u8]), Error>
     }
 }
 
-/// The BIN chunk among the chunks behind the JSON chunk: those of unknown type are skipped.
+/// The BIN chunk among the chunks after the JSON chunk: those of unknown type are skipped.
 #[tactic(auto, using(crate::proofs::Chunks::later_here, crate::proofs::Chunks::later_skip))]
 fn blob_of(chunks: &[u8]) -> Result<Option<Blob<'_>>, Error>
     ensures later { MatchResult result
@@ -156,13 +156,13 @@ fn blob_of(chunks: &[u8]) -> Result<Option<Blob<'_>>, Error>
     }
 }
 
-/// What one look at the chunks that are left tells.
+/// What one look at the chunks that are left finds.
 enum Next<'a> {
     /// No chunk is left.
     End,
     /// A BIN chunk.
     Bin(Blob<'a>),
-    /// A chunk of unknown type, and what stands behind it.
+    /// A chunk of unknown type, and what follows it.
     Skip(&'a [u8]),
 }
 

@@ -51,7 +51,7 @@ pub struct Sparse<'a, D: Records = Valid> {
 impl<'a, D: Records> Sparse<'a, D> {
     ghost use Rattle.gltf_handles.specs.Accessors.{sparse_handle, IsSparse, IsIndices, IsValues};
 
-    /// That of an accessor.
+    /// The sparse part of an accessor.
     pub(crate) fn new(document: &'a D, json: &'a sparse::Sparse) -> Self
         requires { Hold (sparse_rules (counts_of (D.root document.now)) json.now) }
         ensures { IsSparse (D.root document.now) json.now result }

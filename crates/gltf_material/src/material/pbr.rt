@@ -19,8 +19,8 @@ use gltf_rules::{Records, Valid};
 use std::alloc::AllocError;
 
 /// The base colour, metalness and roughness of a material (glTF 2.0, section 5.22, "Material PBR
-/// Metallic Roughness"). That of a material without one has no record: its getters give what they
-/// give where a member is absent.
+/// Metallic Roughness"). Where the material has no such member, the handle has no record: its
+/// getters give what they give where a member is absent.
 #[derive_where(Debug; D)]
 pub struct PbrMetallicRoughness<'a, D: Records = Valid> {
     pub(super) document: &'a D,

@@ -28,11 +28,11 @@ pub type MorphTargets<'a, D = Valid> = List<MorphTargetsOf<'a, D>>;
 /// The mappings from variants to materials of a primitive.
 pub type Mappings<'a, D = Valid> = List<MappingsOf<'a, D>>;
 
-/// What `Primitives` goes over.
+/// The source that `Primitives` walks over.
 #[derive_where(Clone, Copy)]
 #[derive_where(Debug; D)]
 pub struct PrimitivesOf<'a, D: Records = Valid> {
-    /// The mesh that the primitives are of.
+    /// The mesh of the primitives.
     pub mesh: Mesh<'a, D>,
 }
 
@@ -63,11 +63,11 @@ impl<'a, D: Records> Indexed for PrimitivesOf<'a, D> {
     }
 }
 
-/// What `MorphTargets` goes over.
+/// The source that `MorphTargets` walks over.
 #[derive_where(Clone, Copy)]
 #[derive_where(Debug; D)]
 pub struct MorphTargetsOf<'a, D: Records = Valid> {
-    /// The primitive that the morph targets are of.
+    /// The primitive of the morph targets.
     pub primitive: Primitive<'a, D>,
 }
 
@@ -98,11 +98,11 @@ impl<'a, D: Records> Indexed for MorphTargetsOf<'a, D> {
     }
 }
 
-/// What `Mappings` goes over.
+/// The source that `Mappings` walks over.
 #[derive_where(Clone, Copy)]
 #[derive_where(Debug; D)]
 pub struct MappingsOf<'a, D: Records = Valid> {
-    /// The primitive that the mappings are of.
+    /// The primitive of the mappings.
     pub primitive: Primitive<'a, D>,
 }
 
@@ -210,7 +210,7 @@ impl<'a, D: Records> Iterator for Attributes<'a, D> {
         Some((semantic, Accessor::new(self.document, index.value())))
     }
 
-    /// How many attributes are left, twice.
+    /// How many attributes are left, as both bounds.
     fn size_hint(&self) -> (usize, Option<usize>)
         ensures lower { IsWithinCount result.0
             (at_most (length (attributes_left self.now).entries)) }

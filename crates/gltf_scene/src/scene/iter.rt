@@ -20,7 +20,7 @@ pub type Children<'a, D = Valid> = List<NamedNodes<'a, D>>;
 /// What lists of nodes go over that indices name: `Nodes`, `Children` and the joints of a skin.
 #[derive_where(Debug; D)]
 pub struct NamedNodes<'a, D: Records = Valid> {
-    /// The document that the nodes are of.
+    /// The document of the nodes.
     pub document: &'a D,
     /// The indices, in stored order.
     pub nodes: &'a [Index<kinds::Node>],
@@ -42,7 +42,7 @@ impl<'a, D: Records> Clone for NamedNodes<'a, D> {
 }
 
 impl<'a, D: Records> NamedNodes<'a, D> {
-    /// Those of indices below the number of nodes.
+    /// The nodes of these indices, which are below the number of nodes.
     pub fn new(document: &'a D, nodes: &'a [Index<kinds::Node>]) -> Self
         requires { Hold
             (list_rules (index_rules (counts_of (D.root document.now)).nodes) nodes.now) }

@@ -6,7 +6,7 @@ ghost use Rattle.gltf_items.specs.Sparse.{digits};
 
 use gltf_items::{Count, Item, ItemIter, SparseIter};
 
-/// The item at a place among items that stand one behind the other.
+/// The item at a place among items that stand one after the other.
 pub fn item_at<T: Item>(bytes: &[u8], place: usize) -> Option<T>
     requires { T.size < 2 ^ 64 - 1 }
     ensures { result ≡ slice_get (plain T.size T.value bytes.now T.size) place }

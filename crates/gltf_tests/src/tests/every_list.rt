@@ -60,7 +60,7 @@ fn compare(rt: &impl Abort, indices: &[u8]) {
     }
 }
 
-/// Compares a jump from a position, and the step behind it.
+/// Compares a jump from a position, and the step after it.
 fn compare_jump(rt: &impl Abort, indices: &[u8], position: usize, n: usize) {
     let mut jumped = after(indices, position);
     let (item, next) = (jumped.nth(n), jumped.next());

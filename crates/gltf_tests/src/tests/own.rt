@@ -9,7 +9,9 @@ use gltf_items::Item;
 /// Two bytes, the second one first.
 #[derive(Clone, Copy, Debug, PartialEq, Eq)]
 pub struct Swapped {
+    /// The second byte.
     pub first: u8,
+    /// The first byte.
     pub second: u8,
 }
 
@@ -46,6 +48,7 @@ impl Item for Swapped {
 /// An item of so many bytes that four of them do not fit a `usize`. Its first byte decides it.
 #[derive(Clone, Copy, Debug, PartialEq, Eq)]
 pub struct Huge {
+    /// The first byte.
     pub first: u8,
 }
 

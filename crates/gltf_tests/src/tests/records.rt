@@ -47,7 +47,7 @@ fn change_indices(root: &mut Root, code: ComponentType) {
     }
 }
 
-/// What is told of records that are validated.
+/// What is reported of records that are validated.
 fn told_of(alloc: Global, root: Root) -> Result<String, Fail> {
     match &Document::from_json(alloc, root) {
         Ok(_) => Ok(String::from_str(alloc, "accepted")?),

@@ -1,4 +1,8 @@
--- `into_bare` hands the box to `into_raw`, and keeps the pointer and what it owns.
+-- The contract of `into_bare`: the result has the value of the box. The proof is by hand, because
+-- `Bare` owns memory at its pointer. It finds the machine word of the box (`box_out`), enters the
+-- code and calls `Box::into_raw`, which gives a pointer into a block with the value and the right
+-- to free it (`in_a_block`). `bare_in` makes the result of these. A comment in brackets lists what
+-- is held at that step, in the order by which `move !` and `keep !` count.
 use Rattle.std.proofs.Common.{◌≡◌, List, [], ◌∷◌, ◌++◌, refl, sym, ap, ◌∙◌, subst}
 use mir.Syntax.{a_type, dcons, dnil, Fn, Args}
 use mir.Raw.{raw as bits}

@@ -1,4 +1,9 @@
--- `into_box` hands the pointer to `from_raw`, with the program's allocator.
+-- The contract of `into_box`: the box has the value that stood at the pointer. The proof is by
+-- hand, because `Bare` owns memory at its pointer. It takes the allocator and the `Bare` apart
+-- (`handle_tells`, `bare_out`), enters the code, and calls `Box::from_raw` with the program's
+-- allocator, which takes over what the pointer owns. The box that comes back is returned as it is
+-- (`box_out`, `box_in`). A comment in brackets lists what is held at that step, in the order by
+-- which `move !` and `keep !` count.
 use Rattle.std.proofs.Common.{◌≡◌, List, [], ◌∷◌, ◌++◌, refl, sym, ap, ◌∙◌, subst}
 use mir.Syntax.{a_type, dcons, dnil, Fn, Args}
 use mir.Raw.{raw as bits}

@@ -1,4 +1,8 @@
--- `opened` compares the pointer with null, and makes it one to what the handle held.
+-- The contract of `opened`: None of a closed handle, else a `Bare` with the file of the handle. The
+-- proof is by hand, because both own memory at their pointer. It goes by cases on what the handle
+-- holds (`by_value` of `Held`): the pointer is null and owns nothing, or it owns the file and may
+-- be compared with null. Each case enters the code and follows the branch that `is_null` takes; the
+-- other branch is absurd. `bare_in` makes a `Bare` of the pointer and what it owns.
 use Rattle.std.proofs.Common.{◌≡◌, List, [], ◌∷◌, ◌++◌, refl, sym, ap, ◌∙◌, subst, lit<}
 use mir.Val.{Val, vcons, vnil}
 use base.Fml.{ftrue}
