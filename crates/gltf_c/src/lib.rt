@@ -1,6 +1,6 @@
 //! The loader as a library for C: one export for each call of `gltf_calls`, with its contract.
-//! `c/gltf.h` says how each function is called, and the call of that name in `gltf_calls::calls` what
-//! it answers and when.
+//! `c/gltf.h` says how each function is called, and the call of that name in `gltf_calls::calls`
+//! what it answers and when.
 //!
 //! No function here asks anything of its arguments: what a caller has to keep is what C cannot say
 //! in a type, and stands in the header.

@@ -8,7 +8,8 @@ use Rattle.gltf_calls.specs.declared.status.Status.{Status}
 use Rattle.gltf_calls.specs.declared.status.Status.TheVariants.{Success, NoMemory, BadContainer}
 use Rattle.gltf_calls.specs.declared.status.Status.TheVariants.{BadJson, BrokenRules, BadBase64}
 use Rattle.gltf_calls.specs.declared.status.Status.TheVariants.{ShortBuffer, MissingBlob}
-use Rattle.gltf_calls.specs.declared.status.Status.TheVariants.{ExternalReference, UnsupportedScheme}
+use Rattle.gltf_calls.specs.declared.status.Status.TheVariants.{ExternalReference}
+use Rattle.gltf_calls.specs.declared.status.Status.TheVariants.{UnsupportedScheme}
 use Rattle.gltf_calls.specs.declared.status.Status.TheVariants.{InputOutput, Closed, NoSuchIndex}
 use Rattle.gltf_calls.specs.declared.status.Status.TheVariants.{Unreadable, NoRoom, OutOfRange}
 

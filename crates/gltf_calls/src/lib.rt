@@ -1,4 +1,4 @@
-//! What the library for C is over: each of its calls, over what a file holds. `gltf_c` exports them.
+//! The calls of the library for C, over what an open file holds. `gltf_c` exports them.
 #![tactic(auto)]
 
 mod bare;

@@ -3,7 +3,8 @@
 ghost use Rattle.std.specs.Prelude.{◌≡◌};
 ghost use Rattle.std.specs.Option.{option_copied};
 ghost use Rattle.serde_json.specs.View.{view};
-ghost use Rattle.gltf_calls.specs.Nodes.{node_at, node_shown, shown_node_of, child_of, scene_node_of};
+ghost use Rattle.gltf_calls.specs.Nodes.{node_at, node_shown, shown_node_of, child_of};
+ghost use Rattle.gltf_calls.specs.Nodes.{scene_node_of};
 ghost use Rattle.gltf_calls.specs.Nodes.{member_of, member_value, number_in, number_of};
 
 use crate::file::File;
