@@ -5,9 +5,9 @@ that it proved and built. The last line adds up the results of all: `N passed, M
 Each of them ends with such a line of its own. Where one ends otherwise, it counts as one that
 failed; where `rt ci` fails, the scripts are run nevertheless, since what it built stands there.
 
-    gate.py             runs them
-    gate.py --write     the same, and where nothing failed writes docs/GATE.md: the processor
-                        seconds of each part, and of each crate's proof, tests and wrong bodies"""
+    gate.py             runs them, and prints the processor seconds of each part, and of each
+                        crate's proof, tests and wrong bodies
+    gate.py --write     the same, and where nothing failed writes that page as docs/GATE.md"""
 import collections
 import datetime
 import os
@@ -147,7 +147,7 @@ def toolchain():
     return ran.stdout.strip()
 
 
-def tell_toolchains(here):
+def note_toolchains(here):
     """Says which pages name another toolchain than the one that is here."""
     for page in [TOP / "README.md", *sorted((TOP / "docs").glob("*.md"))]:
         for named in sorted(set(TOOLCHAIN.findall(page.read_text(encoding="utf-8")))):
@@ -207,7 +207,7 @@ def main(words):
         return 2
     os.environ.setdefault("RT_JOBS", str(checks_at_once()))
     here = toolchain()
-    tell_toolchains(here)
+    note_toolchains(here)
     results, parts, sums, began = [], [], collections.Counter(), time.time()
     for part in PARTS:
         watch, before = Watch(), seconds_of_children()
@@ -223,14 +223,16 @@ def main(words):
         parts.append((part, max(0.0, seconds_of_children() - before - sum(seen.values()))))
     passed = sum(result[0] for result in results)
     failed = sum(result[1] for result in results)
+    about = [
+        f"- {datetime.date.today()}: `{passed} passed, {failed} failed`, in "
+        f"{(time.time() - began) / 60:.0f} minutes.",
+        f"- {machine()}; `RT_JOBS={os.environ['RT_JOBS']}`.",
+        f"- `{here}`.",
+    ]
+    page = page_of(sums, parts, about)
+    print(page)
     if words and not failed:
-        about = [
-            f"- {datetime.date.today()}: `{passed} passed, 0 failed`, in "
-            f"{(time.time() - began) / 60:.0f} minutes.",
-            f"- {machine()}; `RT_JOBS={os.environ['RT_JOBS']}`.",
-            f"- `{here}`.",
-        ]
-        PAGE.write_text(page_of(sums, parts, about), encoding="utf-8")
+        PAGE.write_text(page, encoding="utf-8")
         print(f"{PAGE.relative_to(TOP)} has what each part used")
     print(f"{passed} passed, {failed} failed")
     return 1 if failed else 0
