@@ -1,9 +1,10 @@
 #!/usr/bin/env python3
 """Builds the static library for C and tries it: `make c`, and, after `rt ci`, `make test`.
 
-The prover proves `crates/gltf_c` before a byte of it is built. `out/c/libgltf.a` is that library
-and the few lines of the toolchain over malloc, joined, and shows the exports alone. With the word
-`after-ci` it uses the libraries as `rt ci` left them, and proves only `crates/gltf_c` again.
+The prover proves `crates/gltf_c` before a byte of it is built: the exports, over the calls in
+`crates/gltf_calls`. `out/c/libgltf.a` is that library and the few lines of the toolchain over
+malloc, joined, and shows the exports alone. With the word `after-ci` it uses the libraries as
+`rt ci` left them, and proves only the exports again.
 
 A test whose tool is not there is reported as not tried, and counts neither as passed nor as failed.
 The last line is `N passed, M failed`."""
@@ -22,6 +23,8 @@ import crates
 import programs
 
 CRATE = crates.TOP / "crates" / "gltf_c"
+# What has the code that C sees: the exports, and the types that they take.
+SOURCES = (CRATE, crates.TOP / "crates" / "gltf_calls")
 C = crates.TOP / "c"
 OUT = crates.TOP / "out" / "c"
 LIBRARY = OUT / "libgltf.a"
@@ -73,7 +76,7 @@ def kit():
 
 
 def source():
-    files = sorted((CRATE / "src").rglob("*.rt"))
+    files = [file for crate in SOURCES for file in sorted((crate / "src").rglob("*.rt"))]
     return "".join(file.read_text("utf-8") for file in files)
 
 
