@@ -1,6 +1,6 @@
 -- Each buffer's own answer, and the bytes of all.
 use Rattle.std.proofs.Common.{ℕ, ◌≡◌, ◌<◌, List, [], ◌∷◌, ◌++◌, zero, suc, Result, Ok, Err}
-use Rattle.std.proofs.Common.{length, map, get_or, refl, arith}
+use Rattle.std.proofs.Common.{length, map, get_or, refl, sym, subst, ◌∙◌, arith}
 use Rattle.std.proofs.lemmas.List.{append-nil, length-map}
 use Rattle.std.specs.Prelude.{Option, Some, slice_get}
 use Rattle.std.specs.Option.{option_to_list}
@@ -33,10 +33,21 @@ bytes_before names sources blob n before after are = record {
   each = λ i s l at. are.each i s (Ok (get_or before i [])) at (in_front before after i l);
 }
 
+counted : (answers : List (Result (List ℕ) Error)) (buffers : List (List ℕ))
+    → answers ≡ map Ok buffers → length answers ≡ length buffers
+counted answers buffers e = rw e (length-map buffers Ok)
+
+no_more : (names : Names) (sources : List Source) (blob : Option (List ℕ)) (n : ℕ)
+    (answers : List (Result (List ℕ) Error)) → AreAnswers names sources blob n answers
+    → AreAnswers names sources blob n (answers ++ [])
+no_more names sources blob n answers are = rw (append-nil answers) are
+
 pub are_bytes_of_all : AreBytesOfAll
 are_bytes_of_all names sources blob n buffers are =
-    let count : length buffers ≡ n = omega (arith, length-map Ok buffers, are.count) in
-    rw count at bytes_before names sources blob n buffers [] (rw append-nil (map Ok buffers) are)
+    let count : length buffers ≡ n = sym (counted (map Ok buffers) buffers refl) ∙ are.count in
+    subst (λ m. AreBytes names sources blob m buffers) count
+    (bytes_before names sources blob n buffers []
+    (no_more names sources blob n (map Ok buffers) are))
 
 pub first_error_is_that_of_all : FirstErrorIsThatOfAll
 first_error_is_that_of_all names sources blob n before e after s are there =
