@@ -10,3 +10,4 @@ mod items;
 mod iterators;
 mod own;
 mod records;
+mod texts;
