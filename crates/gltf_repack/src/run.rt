@@ -48,7 +48,10 @@ fn answer<'w, O: Write>(
     let packed = repack(rt.alloc(), &bytes)?;
     put(rt, place_of(rt, *to)?, &packed)?;
     let length = packed.len();
-    writeln!(out, "{to}: {length} bytes").map_err(Refusal::Line)
+    match writeln!(out, "{to}: {length} bytes") {
+        Ok(()) => Ok(()),
+        Err(cause) => Err(Refusal::Line(cause)),
+    }
 }
 
 /// Writes the bytes to a file at that place, by way of one beside it.
