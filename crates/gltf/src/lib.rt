@@ -10,6 +10,9 @@ mod items;
 pub mod iter;
 pub mod json;
 pub mod khr_materials_variants;
+pub mod laws;
+mod listing;
+mod primitives;
 mod reading;
 mod slice;
 pub mod texture;
@@ -35,6 +38,7 @@ pub use imports::{
 pub use items::{imported_items, read_items};
 pub use material::Material;
 pub use mesh::{Attribute, Mesh, Primitive, Semantic};
+pub use primitives::{imported_indices, imported_positions, read_indices, read_positions};
 pub use scene::{Node, Scene};
 pub use skin::Skin;
 pub use texture::Texture;

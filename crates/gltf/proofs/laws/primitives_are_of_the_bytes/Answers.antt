@@ -6,8 +6,8 @@ use Rattle.gltf_read.specs.Members.{attribute_at, indices_at}
 use Rattle.gltf_read.specs.Reading.{AreItems}
 use Rattle.gltf_read.specs.TexCoords.{AreTexCoords}
 use Rattle.gltf_read.specs.Weights.{AreWeights}
-use Rattle.gltf_read_laws.proofs.OfBytes.{of_bytes}
-use Rattle.gltf_read_laws.proofs.laws.primitives_are_of_the_bytes.Goals as goal
+use Rattle.gltf.proofs.OfBytes.{of_bytes}
+use Rattle.gltf.proofs.laws.primitives_are_of_the_bytes.Goals as goal
 
 pub returns-clause-positions : goal.returns-clause-positions
 returns-clause-positions c m p =

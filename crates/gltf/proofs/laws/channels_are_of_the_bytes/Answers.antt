@@ -2,8 +2,8 @@ use Rattle.std.proofs.Common.{subst}
 use Rattle.gltf_read.specs.Members.{input_at, output_at, property_at}
 use Rattle.gltf_read.specs.Outputs.{AreOutputs}
 use Rattle.gltf_read.specs.Reading.{AreItems, IsMember}
-use Rattle.gltf_read_laws.proofs.OfBytes.{of_bytes}
-use Rattle.gltf_read_laws.proofs.laws.channels_are_of_the_bytes.Goals as goal
+use Rattle.gltf.proofs.OfBytes.{of_bytes}
+use Rattle.gltf.proofs.laws.channels_are_of_the_bytes.Goals as goal
 
 pub returns-clause-inputs : goal.returns-clause-inputs
 returns-clause-inputs c a k =

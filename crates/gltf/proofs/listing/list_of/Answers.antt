@@ -1,5 +1,5 @@
 use Rattle.std.proofs.Common.{length, ap, arith, append_assoc, append-nil}
-use Rattle.gltf.proofs.items.list_of.Goals as goal
+use Rattle.gltf.proofs.listing.list_of.Goals as goal
 
 pub push_reserved-requires : goal.push_reserved-requires
 push_reserved-requires g c =

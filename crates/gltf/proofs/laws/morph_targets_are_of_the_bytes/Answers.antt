@@ -2,8 +2,8 @@ use Rattle.std.proofs.Common.{ap}
 use Rattle.std.specs.Option.{option_and_then}
 use Rattle.gltf_read.specs.Members.{displacements_at}
 use Rattle.gltf_read.specs.Reading.{AreItems}
-use Rattle.gltf_read_laws.proofs.OfBytes.{of_bytes}
-use Rattle.gltf_read_laws.proofs.laws.morph_targets_are_of_the_bytes.Goals as goal
+use Rattle.gltf.proofs.OfBytes.{of_bytes}
+use Rattle.gltf.proofs.laws.morph_targets_are_of_the_bytes.Goals as goal
 
 pub returns-clause-positions : goal.returns-clause-positions
 returns-clause-positions c m p t =

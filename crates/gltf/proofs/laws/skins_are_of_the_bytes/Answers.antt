@@ -1,7 +1,7 @@
 use Rattle.gltf_read.specs.Members.{matrices_at}
 use Rattle.gltf_read.specs.Reading.{AreItems}
-use Rattle.gltf_read_laws.proofs.OfBytes.{of_bytes}
-use Rattle.gltf_read_laws.proofs.laws.skins_are_of_the_bytes.Goals as goal
+use Rattle.gltf.proofs.OfBytes.{of_bytes}
+use Rattle.gltf.proofs.laws.skins_are_of_the_bytes.Goals as goal
 
 pub returns : goal.returns
 returns c k =

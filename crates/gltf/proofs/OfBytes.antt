@@ -15,7 +15,7 @@ use Rattle.gltf_read.specs.Laws.{IsAlike}
 use Rattle.gltf_read.specs.Members.{HaveSameIndices}
 use Rattle.gltf_read.specs.Reading.{Table, IsMember}
 use Rattle.gltf.specs.Import.{AreParts, IsDocument}
-use Rattle.gltf_read_laws.specs.Files.{IsOfBytes}
+use Rattle.gltf.specs.OfBytes.{IsOfBytes}
 
 -- ---- one text, and one value
 
@@ -62,12 +62,18 @@ pub of_bytes : {E : Type 0} (Are : Root → Table E) (index : Root → Option �
     (result : Option E) → IsMember (Are r) s answer i result → IsMember (Are s) s answer i result)
     → IsOfBytes Are index
 of_bytes Are index once members value alike same_index same_table bytes r buffers imported result
-    told s others accepts =
-    let one = one_value bytes r s imported.accepted.blob accepts.blob once
-    imported.accepted.valid.document accepts.valid.document in
-    let have = value one.0 r s one.1 one.2 in
-    let same = imported.only s others accepts in
-    same_table r s have (slice_get others) (index s) result
-    (subst (λ ds. IsMember (Are r) s (slice_get ds) (index s) result) (sym same.1)
-    (subst (λ i. IsMember (Are r) s (slice_get buffers) i result) (same_index r s have)
-    (alike r r s (members r s (sym same.0)) (slice_get buffers) (index r) result told)))
+    told =
+    record {
+      root = r;
+      buffers = buffers;
+      accepted = imported.accepted;
+      each = λ s others accepts.
+          let one = one_value bytes r s imported.accepted.blob accepts.blob once
+          imported.accepted.valid.document accepts.valid.document in
+          let have = value one.0 r s one.1 one.2 in
+          let same = imported.only s others accepts in
+          same_table r s have (slice_get others) (index s) result
+          (subst (λ ds. IsMember (Are r) s (slice_get ds) (index s) result) (sym same.1)
+          (subst (λ i. IsMember (Are r) s (slice_get buffers) i result) (same_index r s have)
+          (alike r r s (members r s (sym same.0)) (slice_get buffers) (index r) result told)));
+    }

@@ -1,4 +1,11 @@
-//! The laws, a function for each reader.
+//! Laws of readers over files: what is read of an imported file depends on its bytes alone. Each
+//! law is the contract of a function; the calls in a body are laws that its proof stands on, and do
+//! nothing.
+//!
+//! What a reader answers over a closure follows from the closure's answers (`gltf_read::laws`). A
+//! law here starts from one import of some bytes, as [`crate::import_slice`] returns it, and what a
+//! reader gives of its document over its buffers. The same is then given of every document and
+//! buffers that these bytes are: of the same accessor, as the same variant, and with the same items.
 
 ghost use Rattle.std.specs.Prelude.{ℕ};
 ghost use Rattle.std.specs.Option.{option_and_then};
@@ -12,7 +19,7 @@ ghost use Rattle.gltf_read.specs.Outputs.{AreOutputs};
 ghost use Rattle.gltf_read.specs.Reading.{AreItems};
 ghost use Rattle.gltf_read.specs.TexCoords.{AreTexCoords};
 ghost use Rattle.gltf_read.specs.Weights.{AreWeights};
-ghost use Rattle.gltf_read_laws.specs.Files.{IsOfBytes};
+ghost use Rattle.gltf.specs.OfBytes.{IsOfBytes};
 
 use gltf_glb::laws::one_reading;
 use gltf_items::{F32, Item};
