@@ -4,3 +4,5 @@ pub mod Firsts
 pub mod Texts
 pub mod Asked
 pub mod Buffers
+pub mod Each
+pub mod EachLaws

@@ -7,4 +7,6 @@ pub mod Names
 pub mod Buffers
 pub mod Errors
 pub mod ErrorLaws
+pub mod Each
+pub mod EachLaws
 pub mod Shown

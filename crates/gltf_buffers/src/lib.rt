@@ -4,6 +4,7 @@
 
 mod asking;
 mod data;
+pub mod laws;
 pub mod payload;
 mod reading;
 mod reference;
@@ -11,4 +12,4 @@ pub mod uri;
 
 pub use asking::{Ask, NoNames};
 pub use data::Data;
-pub use reading::read_buffers;
+pub use reading::{read_buffers, read_each_buffer};
