@@ -30,11 +30,19 @@ part_fits which p (Some bytes) h = record {
 pub part_holds : (which : part.Part) (p : Part) (given : Option (List ℕ)) → FitsIn p given
     → AllHold (part_conditions which p given)
 part_holds which p None h = absurd h
-part_holds which p (Some bytes) h =
-    (lt-ltb 0 p.count h.some, (le-leb p.size (stride p.view p.size) h.apart, (refl, (
-      le-leb (view_offset p.view + p.view.byte_length) (length bytes) h.view_within,
-      (le-leb (items_end p) p.view.byte_length h.items_within, tt),
-    ))))
+part_holds which p (Some bytes) h = (
+  lt-ltb 0 p.count h.some,
+  (
+    le-leb p.size (stride p.view p.size) h.apart,
+    (
+      refl,
+      (
+        le-leb (view_offset p.view + p.view.byte_length) (length bytes) h.view_within,
+        (le-leb (items_end p) p.view.byte_length h.items_within, tt),
+      ),
+    ),
+  ),
+)
 
 pub viewed_fits : (which : part.Part) (part : Option Part) (given : Option (List ℕ))
     → AllHold (viewed_conditions which part given) → PartReadable part given
