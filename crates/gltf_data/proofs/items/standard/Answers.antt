@@ -9,7 +9,7 @@ returns g c =
     let r = c.args.accessor.inner.document.now in
     let a = c.args.accessor.inner.json.now in
     let at = base_part_is g.T.Item.size r a
-    c.in-Some.view c.offset.result c.count.result (search rules) (search rules)
+    c.in-Some.view c.offset-offset.result c.count-count.result (search rules) (search rules)
     (search rules) in
     whole g.T.Item.value Items (base_part g.T.Item.size r a) at.0
     (in_document c.in-Some.view.inner.document.now r at.1 c.items.ensures)
