@@ -33,7 +33,8 @@ pub use gltf_rules::{Records, Refused, Valid};
 pub use gltf_scene::scene;
 pub use image::Image;
 pub use imports::{
-    base_of, import, import_buffers, import_buffers_from, import_from, import_slice,
+    base_of, import, import_buffers, import_buffers_from, import_each_buffer,
+    import_each_buffer_from, import_from, import_slice,
 };
 pub use items::{imported_items, read_items};
 pub use material::Material;
