@@ -6,3 +6,5 @@ pub mod WithBuffers
 pub mod Files
 pub mod Readers
 mod Imported
+mod OfBytes
+mod Vertices

@@ -16,7 +16,9 @@ use crate::document::Document;
 use crate::reading::document_in;
 use crate::slice::document_of;
 use buffers::with_buffers;
-pub use buffers::{import_buffers, import_buffers_from};
+pub use buffers::{
+    import_buffers, import_buffers_from, import_each_buffer, import_each_buffer_from,
+};
 use gltf_buffers::{Ask, NoNames};
 use gltf_glb::Result;
 use gltf_json::laws::what_shows_the_same_is_alike_in_each_member;

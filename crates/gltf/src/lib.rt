@@ -10,6 +10,9 @@ mod items;
 pub mod iter;
 pub mod json;
 pub mod khr_materials_variants;
+pub mod laws;
+mod listing;
+mod primitives;
 mod reading;
 mod slice;
 pub mod texture;
@@ -30,11 +33,13 @@ pub use gltf_rules::{Records, Refused, Valid};
 pub use gltf_scene::scene;
 pub use image::Image;
 pub use imports::{
-    base_of, import, import_buffers, import_buffers_from, import_from, import_slice,
+    base_of, import, import_buffers, import_buffers_from, import_each_buffer,
+    import_each_buffer_from, import_from, import_slice,
 };
 pub use items::{imported_items, read_items};
 pub use material::Material;
 pub use mesh::{Attribute, Mesh, Primitive, Semantic};
+pub use primitives::{imported_indices, imported_positions, read_indices, read_positions};
 pub use scene::{Node, Scene};
 pub use skin::Skin;
 pub use texture::Texture;

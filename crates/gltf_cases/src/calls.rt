@@ -66,6 +66,7 @@ fn of_container(alloc: Global, asked: Asked<'_>, line: &mut String) -> Written {
 /// - `root MEMBER`: the records of a text; `document` the same, validated.
 /// - `file MEMBER`, `records MEMBER`: the document of a file, with the rules and without.
 /// - `read TYPE INDEX`: the items of an accessor.
+/// - `read_positions MESH PRIMITIVE`, `read_indices MESH PRIMITIVE`: those of a primitive.
 /// - `by WAY MEMBER`: the records of a text that come by another way.
 /// - `streamed glb`, `streamed records MEMBER`, `streamed file MEMBER`: the same as those calls, by
 ///   a reader that gives a byte a call; `drawn PACE CALL ..`: by one of another pace.
@@ -100,6 +101,7 @@ fn of_one(alloc: Global, asked: Asked<'_>, bytes: &[u8], line: &mut String) -> W
         "records" => documents::tell_records(alloc, asked, bytes, line),
         "by" => documents::tell_by(alloc, asked, bytes, line),
         "read" => items::read(alloc, asked, bytes, line),
+        "read_positions" | "read_indices" => items::read_vertices(alloc, asked, bytes, line),
         "streamed" => streamed::tell_streamed(alloc, asked, bytes, line),
         "drawn" => streamed::tell_drawn(alloc, asked, bytes, line),
         "written" => streamed::tell_written(alloc, asked, bytes, line),

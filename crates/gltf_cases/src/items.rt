@@ -2,7 +2,7 @@
 use crate::told::{Told, tell};
 use gltf::accessor::{Item, Iter, Step};
 use gltf::buffer::Data;
-use gltf::{Buffer, Document, imported_items, read_items};
+use gltf::{Buffer, Document, imported_items, read_indices, read_items, read_positions};
 use gltf_case::asked::Asked;
 use gltf_case::by_type;
 use gltf_case::shown::{Written, show};
@@ -28,6 +28,24 @@ fn read_as<T: Item + Debug>(
         read_items::<T>(alloc, bytes, asked.number(1)),
         line,
     )
+}
+
+/// Writes the indices of a primitive, from the bytes of a file, or with the call `read_positions`
+/// its positions.
+pub(crate) fn read_vertices(
+    alloc: Global,
+    asked: Asked<'_>,
+    bytes: &[u8],
+    line: &mut String,
+) -> Written {
+    let (mesh, primitive) = (asked.number(0), asked.number(1));
+    if asked.call == "read_positions" {
+        let positions = read_positions(alloc, bytes, mesh, primitive);
+        tell(alloc, asked, positions, line)
+    } else {
+        let indices = read_indices(alloc, bytes, mesh, primitive);
+        tell(alloc, asked, indices, line)
+    }
 }
 
 impl<T: Debug> Told for Option<Vec<T>> {

@@ -1,6 +1,8 @@
 mod Lefts
 mod Positions
 mod Bounds
+mod Conditions
+mod Readables
 mod Addressed
 mod Wholes
 mod Accessors

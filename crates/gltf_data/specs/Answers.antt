@@ -1,5 +1,5 @@
 -- What a closure that gives the bytes of buffers answered, and what was read by that.
-use Rattle.std.specs.Prelude.{◌≡◌, ℕ, List, Option, Some, None, SomeIff, ⊤}
+use Rattle.std.specs.Prelude.{◌≡◌, ℕ, List, Option, Some, None, SomeIff, ⊤, Result}
 use Rattle.std.specs.Option.{option_copied}
 use Rattle.std.specs.Borrow.{Bor}
 use Rattle.gltf_json.specs.declared.root.Root.{Root}
@@ -10,9 +10,11 @@ use Rattle.gltf_handles.specs.declared.buffer.Buffer.{Buffer}
 use Rattle.gltf_handles.specs.Buffers.{IsBuffer}
 use Rattle.gltf_handles.specs.Sizes.{item_size}
 use Rattle.gltf_items.specs.declared.item.Item.{Ghosts}
-use Rattle.gltf_data.specs.Parts.{Part, FitsIn, items_in, Answers, base_part, index_part}
-use Rattle.gltf_data.specs.Parts.{value_part, BaseReadable, PartReadable, PartsReadable, Readable}
-use Rattle.gltf_data.specs.Parts.{items_with, items}
+use Rattle.gltf_data.specs.Parts.{Part, Answers, base_part, index_part, value_part}
+use Rattle.gltf_data.specs.Parts.{BaseReadable, PartReadable, Readable, items_with, items}
+use Rattle.gltf_data.specs.Unreadable.{Condition, where_all_hold, parts_conditions}
+use Rattle.gltf_data.specs.Unreadable.{items_or_reason}
+use Rattle.gltf_data.specs.declared.unreadable.Unreadable.{Unreadable}
 
 -- what a closure may answer for a handle of a buffer
 abbrev pub Results : Type 1
@@ -26,25 +28,19 @@ pub record IsAnswered (Gives : Results) (r : Root) (i : ℕ) (answer : Option (L
   pub result : Gives buffer given
   pub is_answer : option_copied given ≡ answer
 
--- a part that is there was read, by one answer
-pub record ReadsPart {X : Type 0} (Gives : Results) (r : Root) (value : List ℕ → X) (p : Part)
-    (result : Option (List X)) : Type 0 where
-  pub answer : Option (List ℕ)
-  pub answered : IsAnswered Gives r p.view.buffer answer
-  pub exactly : SomeIff result (FitsIn p answer) (items_in value p answer)
-
 -- where there is a part, that was answered for its buffer
 abbrev pub IsAnsweredFor : Results → Root → Option Part → Option (List ℕ) → Type 0
 IsAnsweredFor Gives r None answer = ⊤
 IsAnsweredFor Gives r (Some p) answer = IsAnswered Gives r p.view.buffer answer
 
--- a part, where there is one, was read by one answer
+-- a part, where there is one, was read by one answer: what is read where its conditions hold, else
+-- what the first that fails reports
 pub record ReadsAny {Y : Type 0} (Gives : Results) (r : Root) (part : Option Part)
-    (Ready : Option (List ℕ) → Type 0) (read : Option (List ℕ) → Y)
-    (result : Option Y) : Type 0 where
+    (conditions : Option (List ℕ) → List Condition) (read : Option (List ℕ) → Y)
+    (result : Result Y Unreadable) : Type 0 where
   pub answer : Option (List ℕ)
   pub answered : IsAnsweredFor Gives r part answer
-  pub exactly : SomeIff result (Ready answer) (read answer)
+  pub outcome : result ≡ where_all_hold (conditions answer) (read answer)
 
 -- the closure answered for the parts that were reached: the base, then the indices, then the
 -- values, up to the first that can't be read
@@ -67,10 +63,19 @@ IsAsked Gives size r a o = size ≡ item_size a → ArePartsAsked Gives size r a
 
 -- the parts of an accessor were read, by the answers for them
 pub record ReadsParts {X : Type 0} (Gives : Results) (t : Ghosts X) (r : Root) (a : Accessor)
-    (s : Option Sparse) (result : Option (List X)) : Type 0 where
+    (s : Option Sparse) (result : Result (List X) Unreadable) : Type 0 where
   pub answers : Answers
   pub asked : ArePartsAsked Gives t.size r a s answers
-  pub exactly : SomeIff result (PartsReadable t.size r a s answers) (items_with t r a s answers)
+  pub outcome : result
+      ≡ where_all_hold (parts_conditions t.size r a s answers) (items_with t r a s answers)
+
+-- an accessor was read, by the answers for its parts: its items where all conditions hold, else
+-- what the first that fails reports
+pub record Tries {X : Type 0} (Gives : Results) (t : Ghosts X) (r : Root) (a : Accessor)
+    (result : Result (List X) Unreadable) : Type 0 where
+  pub answers : Answers
+  pub asked : IsAsked Gives t.size r a answers
+  pub outcome : result ≡ items_or_reason t r a answers
 
 -- an accessor was read, by the answers for its parts: its items where it can be read by these, else
 -- none
@@ -113,3 +118,9 @@ ReadsAlike Gives t r a result =
     (answer : ℕ → Option (List ℕ)) → AlwaysAnswers Gives r answer
     → SomeIff result (Readable t.size r a (answers_by answer t.size r a))
     (items t r a (answers_by answer t.size r a))
+
+abbrev pub TriesAlike : {X : Type 0} → Results → Ghosts X → Root → Accessor
+    → Result (List X) Unreadable → Type 0
+TriesAlike Gives t r a result =
+    (answer : ℕ → Option (List ℕ)) → AlwaysAnswers Gives r answer
+    → result ≡ items_or_reason t r a (answers_by answer t.size r a)

@@ -1,6 +1,7 @@
 //! Accessors and their items (glTF 2.0, section 3.6.2, "Accessors").
 
 pub use crate::accessor_iter::Iter;
+pub use crate::unreadable::{Part, Unreadable};
 pub use crate::walk::{Answer, End, Ended, Step, Walked, walk, walk_on};
 pub use gltf_handles::accessor::{Accessor, DataType, Dimensions, sparse};
 pub use gltf_items::{Count, F32, Item, ItemIter, SparseIndicesIter, SparseIter};

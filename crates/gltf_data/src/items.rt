@@ -1,22 +1,27 @@
 //! How the items of an accessor are found.
 
-ghost use Rattle.std.specs.Prelude.{◌≡◌, ◌<◌, IfSome, Some, is_some};
+ghost use Rattle.std.specs.Prelude.{◌≡◌, ◌<◌, IfSome, Some, IfOk, is_some};
 ghost use Rattle.std.specs.Option.{option_map};
+ghost use Rattle.std.specs.Result.{result_ok, result_map_both};
 ghost use Rattle.byteorder.specs.Endian.{little_number};
 ghost use Rattle.gltf_handles.specs.Accessors.{accessor_handle, sparse_handle};
 ghost use Rattle.gltf_handles.specs.Buffers.{view_handle};
 ghost use Rattle.gltf_handles.specs.Sizes.{index_size};
 ghost use Rattle.gltf_items.specs.ItemIter.{items_left};
 ghost use Rattle.gltf_items.specs.SparseIndicesIter.{indices_left};
-ghost use Rattle.gltf_data.specs.Answers.{ReadsPart, ReadsAny, ReadsParts, Reads, ReadsAlike};
+ghost use Rattle.gltf_items.specs.Counted.{IsFresh};
+ghost use Rattle.gltf_data.specs.Answers.{ReadsAny, ReadsParts, Reads, ReadsAlike};
+ghost use Rattle.gltf_data.specs.Answers.{Tries, TriesAlike};
 ghost use Rattle.gltf_data.specs.Iter.{counted_items, is_sparse};
 ghost use Rattle.gltf_data.specs.Parts.{part_of, base_part, index_part, value_part, index_items};
-ghost use Rattle.gltf_items.specs.Counted.{IsFresh};
-ghost use Rattle.gltf_data.specs.Parts.{base_items, part_items, stored_count, PartReadable};
-ghost use Rattle.gltf_data.specs.Parts.{BaseReadable};
+ghost use Rattle.gltf_data.specs.Parts.{base_items, part_items, stored_count};
+ghost use Rattle.gltf_data.specs.Unreadable.{viewed_conditions, base_conditions};
+ghost use Rattle.gltf_data.specs.declared.unreadable.Part.TheVariants.{Items, SparseIndices};
+ghost use Rattle.gltf_data.specs.declared.unreadable.Part.TheVariants.{SparseValues};
 
 use crate::accessor_iter::Iter;
 use crate::part;
+use crate::unreadable::{Part, Unreadable};
 use gltf_handles::accessor::Accessor;
 use gltf_handles::accessor::sparse::{IndexType, Sparse};
 use gltf_handles::buffer::{Buffer, View};
@@ -29,27 +34,32 @@ fn indices_at<'s, F: Fn(Buffer) -> Option<&'s [u8]>>(
     count: usize,
     index_type: IndexType,
     get_buffer_data: &F,
-) -> Option<SparseIndicesIter<'s>>
+) -> Result<SparseIndicesIter<'s>, Unreadable>
     requires { F.IsAlwaysCallable get_buffer_data.now }
-    ensures { ReadsPart (λ b o. F.post get_buffer_data.now b o) (view_handle view.entry).document
-        (little_number (index_size index_type))
-        (part_of (view_handle view.entry).json offset count (index_size index_type))
-        (option_map indices_left result) }
+    ensures { let size = index_size index_type in
+        let part = Some (part_of (view_handle view.entry).json offset count size) in
+        ReadsAny (λ b o. F.post get_buffer_data.now b o) (view_handle view.entry).document part
+        (viewed_conditions SparseIndices part) (part_items (little_number size) part)
+        (result_map_both indices_left (λ e. e) result) }
 {
+    let which = Part::SparseIndices;
     match index_type {
-        IndexType::U8 => Some(SparseIndicesIter::U8(part::items(
+        IndexType::U8 => Ok(SparseIndicesIter::U8(part::items(
+            which,
             view,
             offset,
             count,
             get_buffer_data,
         )?)),
-        IndexType::U16 => Some(SparseIndicesIter::U16(part::items(
+        IndexType::U16 => Ok(SparseIndicesIter::U16(part::items(
+            which,
             view,
             offset,
             count,
             get_buffer_data,
         )?)),
-        IndexType::U32 => Some(SparseIndicesIter::U32(part::items(
+        IndexType::U32 => Ok(SparseIndicesIter::U32(part::items(
+            which,
             view,
             offset,
             count,
@@ -62,12 +72,13 @@ fn indices_at<'s, F: Fn(Buffer) -> Option<&'s [u8]>>(
 fn indices<'s, F: Fn(Buffer) -> Option<&'s [u8]>>(
     sparse: Sparse,
     get_buffer_data: &F,
-) -> Option<SparseIndicesIter<'s>>
+) -> Result<SparseIndicesIter<'s>, Unreadable>
     requires { F.IsAlwaysCallable get_buffer_data.now }
     ensures { let s = sparse_handle sparse.entry in
         let part = index_part s.document s.json in
-        ReadsAny (λ b o. F.post get_buffer_data.now b o) s.document part (PartReadable part)
-        (index_items s.document s.json) (option_map indices_left result) }
+        ReadsAny (λ b o. F.post get_buffer_data.now b o) s.document part
+        (viewed_conditions SparseIndices part) (index_items s.document s.json)
+        (result_map_both indices_left (λ e. e) result) }
 {
     let indices = sparse.indices();
     indices_at(
@@ -83,16 +94,18 @@ fn indices<'s, F: Fn(Buffer) -> Option<&'s [u8]>>(
 fn values<'s, T: Item, F: Fn(Buffer) -> Option<&'s [u8]>>(
     sparse: Sparse,
     get_buffer_data: &F,
-) -> Option<ItemIter<'s, T>>
+) -> Result<ItemIter<'s, T>, Unreadable>
     requires callable { F.IsAlwaysCallable get_buffer_data.now }
     requires fits { T.size < usize.MAX }
     ensures { let s = sparse_handle sparse.entry in
         let part = value_part T.size s.document s.json in
-        ReadsAny (λ b o. F.post get_buffer_data.now b o) s.document part (PartReadable part)
-        (part_items T.value part) (option_map items_left result) }
+        ReadsAny (λ b o. F.post get_buffer_data.now b o) s.document part
+        (viewed_conditions SparseValues part) (part_items T.value part)
+        (result_map_both items_left (λ e. e) result) }
 {
     let values = sparse.values();
     part::items(
+        Part::SparseValues,
         values.view(),
         values.offset(),
         sparse.count(),
@@ -104,37 +117,45 @@ fn values<'s, T: Item, F: Fn(Buffer) -> Option<&'s [u8]>>(
 fn standard<'s, T: Item, F: Fn(Buffer) -> Option<&'s [u8]>>(
     accessor: Accessor,
     get_buffer_data: &F,
-) -> Option<ItemIter<'s, T>>
+) -> Result<ItemIter<'s, T>, Unreadable>
     requires callable { F.IsAlwaysCallable get_buffer_data.now }
     requires fits { T.size < usize.MAX }
     ensures { let a = accessor_handle accessor.entry in
         let part = base_part T.size a.document a.json in
-        ReadsAny (λ b o. F.post get_buffer_data.now b o) a.document part (PartReadable part)
-        (part_items T.value part) (option_map items_left result) }
+        ReadsAny (λ b o. F.post get_buffer_data.now b o) a.document part
+        (viewed_conditions Items part) (part_items T.value part)
+        (result_map_both items_left (λ e. e) result) }
 {
-    let view = accessor.view()?;
-    part::items(view, accessor.offset(), accessor.count(), get_buffer_data)
+    let Some(view) = accessor.view() else {
+        return Err(Unreadable::NoView);
+    };
+    let (offset, count) = (accessor.offset(), accessor.count());
+    part::items(Part::Items, view, offset, count, get_buffer_data)
 }
 
 /// What the values of a sparse accessor are put over: the items of its view, or zeros without one.
 fn base<'s, T: Item, F: Fn(Buffer) -> Option<&'s [u8]>>(
     accessor: Accessor,
     get_buffer_data: &F,
-) -> Option<Option<ItemIter<'s, T>>>
+) -> Result<Option<ItemIter<'s, T>>, Unreadable>
     requires callable { F.IsAlwaysCallable get_buffer_data.now }
     requires fits { T.size < usize.MAX }
     ensures { let a = accessor_handle accessor.entry in
         let part = base_part T.size a.document a.json in
         ReadsAny (λ b o. F.post get_buffer_data.now b o) a.document part
-        (BaseReadable a.json.count part) (base_items T.value part)
-        (option_map (λ base. option_map items_left base) result) }
+        (base_conditions a.json.count part) (base_items T.value part)
+        (result_map_both (λ base. option_map items_left base) (λ e. e) result) }
 {
     let count = accessor.count();
-    match accessor.view() {
-        Some(view) => part::items(view, accessor.offset(), count, get_buffer_data).map(Some),
-        None if count == 0 => None,
-        None => Some(None),
-    }
+    let Some(view) = accessor.view() else {
+        return if count == 0 {
+            Err(Unreadable::NoItems { part: Part::Items })
+        } else {
+            Ok(None)
+        };
+    };
+    let items = part::items(Part::Items, view, accessor.offset(), count, get_buffer_data)?;
+    Ok(Some(items))
 }
 
 /// The items of a sparse accessor.
@@ -142,43 +163,47 @@ fn sparse_items<'s, T: Item, F: Fn(Buffer) -> Option<&'s [u8]>>(
     accessor: Accessor,
     sparse: Sparse,
     get_buffer_data: &F,
-) -> Option<SparseIter<'s, T>>
+) -> Result<SparseIter<'s, T>, Unreadable>
     requires callable { F.IsAlwaysCallable get_buffer_data.now }
     requires fits { T.size < usize.MAX }
     requires one_document { (sparse_handle sparse).document
         ≡ (accessor_handle accessor).document }
     ensures items { ReadsParts (λ b o. F.post get_buffer_data.now b o) ⟦<T as Item>⟧
         (accessor_handle accessor.entry).document (accessor_handle accessor.entry).json
-        (Some (sparse_handle sparse.entry).json) (option_map (λ it. it.items) result) }
-    ensures fresh { IfSome result (λ it. IsFresh it (sparse_handle sparse.entry).json.count) }
+        (Some (sparse_handle sparse.entry).json)
+        (result_map_both (λ it. it.items) (λ e. e) result) }
+    ensures fresh { IfOk result (λ it. IsFresh it (sparse_handle sparse.entry).json.count) }
 {
     let base = base(accessor, get_buffer_data)?;
     let indices = indices(sparse, get_buffer_data)?;
     let values = values(sparse, get_buffer_data)?;
     let count = accessor.count();
-    Some(SparseIter::with_base_count(base, count, indices, values))
+    Ok(SparseIter::with_base_count(base, count, indices, values))
 }
 
 /// The items of an accessor, by the answers of the closure.
 fn read<'s, T: Item, F: Fn(Buffer) -> Option<&'s [u8]>>(
     accessor: Accessor,
     get_buffer_data: &F,
-) -> Option<Iter<'s, T>>
+) -> Result<Iter<'s, T>, Unreadable>
     requires callable { F.IsAlwaysCallable get_buffer_data.now }
-    ensures items { Reads (λ b o. F.post get_buffer_data.now b o) ⟦<T as Item>⟧
+    ensures outcome { Tries (λ b o. F.post get_buffer_data.now b o) ⟦<T as Item>⟧
         (accessor_handle accessor.entry).document (accessor_handle accessor.entry).json
-        (option_map (λ it. (counted_items it).items) result) }
-    ensures fresh { IfSome result (λ it. IsFresh (counted_items it)
+        (result_map_both (λ it. (counted_items it).items) (λ e. e) result) }
+    ensures fresh { IfOk result (λ it. IsFresh (counted_items it)
         (stored_count (accessor_handle accessor.entry).json.sparse)) }
-    ensures variant { IfSome result (λ it. is_sparse it
+    ensures variant { IfOk result (λ it. is_sparse it
         ≡ is_some (accessor_handle accessor.entry).json.sparse) }
 {
     if T::size() != accessor.size() {
-        return None;
+        return Err(Unreadable::ItemSize {
+            wanted: T::size(),
+            found: accessor.size(),
+        });
     }
     match accessor.sparse() {
-        None => Some(Iter::Standard(standard(accessor, get_buffer_data)?)),
-        Some(sparse) => Some(Iter::Sparse(sparse_items(accessor, sparse, get_buffer_data)?)),
+        None => Ok(Iter::Standard(standard(accessor, get_buffer_data)?)),
+        Some(sparse) => Ok(Iter::Sparse(sparse_items(accessor, sparse, get_buffer_data)?)),
     }
 }
 
@@ -208,6 +233,36 @@ impl<'s, T: Item> Iter<'s, T> {
         ensures fresh { IfSome result (λ it. IsFresh (counted_items it)
             (stored_count (accessor_handle accessor.entry).json.sparse)) }
         ensures variant { IfSome result (λ it. is_sparse it
+            ≡ is_some (accessor_handle accessor.entry).json.sparse) }
+    {
+        match Self::try_new(accessor, get_buffer_data) {
+            Ok(items) => Some(items),
+            Err(_) => None,
+        }
+    }
+
+    /// The same as `new`, but with the reason where the accessor cannot be read: the first
+    /// condition that fails, in the order of `Unreadable`.
+    pub fn try_new<F: Fn(Buffer) -> Option<&'s [u8]>>(
+        accessor: Accessor,
+        get_buffer_data: &F,
+    ) -> Result<Self, Unreadable>
+        requires { F.IsAlwaysCallable get_buffer_data.now }
+        ensures outcome { Tries (λ b o. F.post get_buffer_data.now b o) ⟦<T as Item>⟧
+            (accessor_handle accessor.entry).document (accessor_handle accessor.entry).json
+            (result_map_both (λ it. (counted_items it).items) (λ e. e) result) }
+        ensures outcome_alike { TriesAlike (λ b o. F.post get_buffer_data.now b o) ⟦<T as Item>⟧
+            (accessor_handle accessor.entry).document (accessor_handle accessor.entry).json
+            (result_map_both (λ it. (counted_items it).items) (λ e. e) result) }
+        ensures items { Reads (λ b o. F.post get_buffer_data.now b o) ⟦<T as Item>⟧
+            (accessor_handle accessor.entry).document (accessor_handle accessor.entry).json
+            (option_map (λ it. (counted_items it).items) (result_ok result)) }
+        ensures alike { ReadsAlike (λ b o. F.post get_buffer_data.now b o) ⟦<T as Item>⟧
+            (accessor_handle accessor.entry).document (accessor_handle accessor.entry).json
+            (option_map (λ it. (counted_items it).items) (result_ok result)) }
+        ensures fresh { IfOk result (λ it. IsFresh (counted_items it)
+            (stored_count (accessor_handle accessor.entry).json.sparse)) }
+        ensures variant { IfOk result (λ it. is_sparse it
             ≡ is_some (accessor_handle accessor.entry).json.sparse) }
     {
         read(accessor, get_buffer_data)

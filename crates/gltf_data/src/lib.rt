@@ -6,6 +6,7 @@ mod accessor_iter;
 mod items;
 pub mod laws;
 mod part;
+mod unreadable;
 mod walk;
 
 pub use gltf_handles::{buffer, iter, list};

@@ -1,18 +1,19 @@
 //! The bytes of the buffers of a document.
-ghost use Rattle.std.specs.Prelude.{◌≡◌, [], List, Some, None, IfOk, IfErr, OnOk, length};
+ghost use Rattle.std.specs.Prelude.{◌≡◌, [], List, Some, None, IfOk, IfErr, OnOk, OnErr, length};
 ghost use Rattle.gltf_buffers.specs.Buffers.{sources_of, AreBytes, HasBufferFault, IsAskedFor};
+ghost use Rattle.gltf_buffers.specs.Each.{AreAnswers, NotesEach};
 ghost use Rattle.gltf_buffers.specs.Errors.{FailsOrNames};
 ghost use Rattle.gltf_buffers.specs.Names.{names_in, names_left, failures_in, failures_left};
 ghost use Rattle.gltf_names.specs.Named.{Named};
 ghost use Rattle.gltf.specs.Files.{names_behind};
-ghost use Rattle.gltf.specs.Shown.{blob_bytes, bytes_of_each};
+ghost use Rattle.gltf.specs.Shown.{answer_of_each, blob_bytes, bytes_of_each};
 
 use crate::buffer::Data;
 use crate::document::Document;
-use gltf_buffers::{Ask, NoNames, read_buffers};
+use gltf_buffers::{Ask, NoNames, read_buffers, read_each_buffer};
 use gltf_glb::Result;
 use gltf_names::{Folder, NamedBytes};
-use std::alloc::Global;
+use std::alloc::{AllocError, Global};
 use std::rt::HostRuntime;
 
 /// The document with the bytes of its buffers.
@@ -88,5 +89,56 @@ pub fn import_buffers(
             read_buffers(alloc, &document.as_json().buffers, &mut folder, blob)
         }
         None => read_buffers(alloc, &document.as_json().buffers, &mut NoNames, blob),
+    }
+}
+
+/// Each buffer's own answer, by index: its bytes, or the error that [`import_buffers_from`] returns
+/// where it is the first buffer that has one (glTF 2.0, section 3.6.1). No error ends the walk.
+///
+/// A name is asked for once for each buffer that leads to it, in order, also after one that failed.
+/// The first buffer without URI gets the blob. No other one does, also where the first has an error.
+///
+/// The error of the call says that there is no memory for the list; then nothing was asked for.
+/// [`gltf_glb::Error::Memory`] in the list is about that buffer alone.
+pub fn import_each_buffer_from<S: NamedBytes>(
+    alloc: Global,
+    document: &Document,
+    names: Option<&mut S>,
+    blob: Option<Vec<u8>>,
+) -> Result<Vec<Result<Data>>, AllocError>
+    ensures ok { IfOk result (λ all. AreAnswers (names_in S.bytes_by_name names.entry)
+        (sources_of document.now) (blob_bytes blob) (length (sources_of document.now))
+        (answer_of_each all.items)) }
+    ensures noted { IfOk result (λ all. NotesEach (sources_of document.now)
+        (answer_of_each all.items)
+        (failures_in S.failures names.entry) (failures_left S.failures names.exit)) }
+    ensures err { OnErr result (failures_left S.failures names.exit
+        ≡ failures_in S.failures names.entry) }
+    ensures kept { names_left S.bytes_by_name names.exit ≡ names_in S.bytes_by_name names.entry }
+{
+    match names {
+        Some(names) => read_each_buffer(alloc, &document.as_json().buffers, names, blob),
+        None => read_each_buffer(alloc, &document.as_json().buffers, &mut NoNames, blob),
+    }
+}
+
+/// [`import_each_buffer_from`] over the files of the system, with relative references looked for
+/// under the base; or without names, where there is no base.
+pub fn import_each_buffer(
+    rt: &HostRuntime,
+    alloc: Global,
+    document: &Document,
+    base: Option<&str>,
+    blob: Option<Vec<u8>>,
+) -> Result<Vec<Result<Data>>, AllocError>
+    ensures { IfOk result (λ all. AreAnswers (names_behind base.entry) (sources_of document.now)
+        (blob_bytes blob) (length (sources_of document.now)) (answer_of_each all.items)) }
+{
+    match base {
+        Some(base) => {
+            let mut folder = Folder::new(rt, base);
+            read_each_buffer(alloc, &document.as_json().buffers, &mut folder, blob)
+        }
+        None => read_each_buffer(alloc, &document.as_json().buffers, &mut NoNames, blob),
     }
 }

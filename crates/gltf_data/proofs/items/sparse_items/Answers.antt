@@ -10,7 +10,7 @@ pub returns-in_err-base-clause-items : goal.returns-in_err-base-clause-items
 returns-in_err-base-clause-items g c =
     let a = c.args.accessor.inner in
     no_base g.T.Item a.document.now a.json.now c.args.sparse.inner.json.now _ c.base.ensures
-    (search rules) (search rules)
+    c.in_err-base.field-0.0 (search rules) (search rules)
 
 pub returns-in_err-indices-clause-items : goal.returns-in_err-indices-clause-items
 returns-in_err-indices-clause-items g c =
@@ -18,6 +18,7 @@ returns-in_err-indices-clause-items g c =
     let r = c.args.accessor.inner.document.now in
     no_indices g.T.Item r c.args.accessor.inner.json.now s _ c.base.ensures
     (indices_in s c.args.sparse.inner.document.now r c.requires.one_document c.indices.ensures)
+    (option_map items_left c.in_ok-base.base) (search rules) c.in_err-indices.field-0.0
     (search rules) (search rules)
 
 pub returns-in_err-values-clause-items : goal.returns-in_err-values-clause-items
@@ -26,8 +27,10 @@ returns-in_err-values-clause-items g c =
     let r = c.args.accessor.inner.document.now in
     no_values g.T.Item r c.args.accessor.inner.json.now s _ c.base.ensures
     (indices_in s c.args.sparse.inner.document.now r c.requires.one_document c.indices.ensures)
+    (option_map items_left c.in_ok-base.base) (search rules)
     (values_in g.T.Item.size g.T.Item.value s c.args.sparse.inner.document.now r
-    c.requires.one_document c.values.ensures) (search rules) (search rules)
+    c.requires.one_document c.values.ensures) (indices_left c.in_ok-indices.indices) (search rules)
+    c.in_err-values.field-0.0 (search rules) (search rules)
 
 pub returns-clause-items : goal.returns-clause-items
 returns-clause-items g c =
@@ -35,10 +38,10 @@ returns-clause-items g c =
     let r = c.args.accessor.inner.document.now in
     all_read g.T.Item r c.args.accessor.inner.json.now s _ c.base.ensures
     (indices_in s c.args.sparse.inner.document.now r c.requires.one_document c.indices.ensures)
+    (option_map items_left c.in_ok-base.base) (search rules)
     (values_in g.T.Item.size g.T.Item.value s c.args.sparse.inner.document.now r
-    c.requires.one_document c.values.ensures) (option_map items_left c.in_ok-base.base)
-    (indices_left c.in_ok-indices.indices) (items_left c.in_ok-values.values) (search rules)
-    (search rules) (search rules) (search rules)
+    c.requires.one_document c.values.ensures) (indices_left c.in_ok-indices.indices) (search rules)
+    (items_left c.in_ok-values.values) (search rules) (search rules)
 
 pub returns-clause-fresh : goal.returns-clause-fresh
 returns-clause-fresh g c = record {

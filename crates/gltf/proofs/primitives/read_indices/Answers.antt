@@ -1,0 +1,30 @@
+use Rattle.std.proofs.lemmas.Result.{err_from_is_err_and}
+use Rattle.gltf.specs.Primitives.{IndicesAt, counted_indices}
+use Rattle.gltf.specs.Shown.{bytes_of_each}
+use Rattle.gltf.proofs.Imported.{list_read, memory_refuses, only_memory}
+use Rattle.gltf.proofs.primitives.read_indices.Goals as goal
+
+pub returns-in_err-document-clause-exact : goal.returns-in_err-document-clause-exact
+returns-in_err-document-clause-exact c =
+    let passed = err_from_is_err_and c.from_residual.result c.from_residual.ensures.1 in
+    rw (passed.1, passed.2) c.in_err-document.ensures.exact
+
+pub returns-clause-read : goal.returns-clause-read
+returns-clause-read c =
+    list_read (λ indices. (counted_indices indices).items) (IndicesAt c.args.mesh c.args.primitive)
+    c.args.bytes.now c.imported_indices.result c.listed_indices.result
+    (c.primitives_are_of_the_bytes.ensures.indices c.args.mesh c.args.primitive
+    c.args.bytes.now c.in_ok-document.document (bytes_of_each c.in_ok-document.buffers.items)
+    (record {
+      accepted = c.in_ok-document.ensures.accepted;
+      only = c.in_ok-document.ensures.only;
+    })
+    c.imported_indices.result
+    (rw c.deref.ensures.value at c.imported_indices.ensures.indices))
+    c.listed_indices.ensures.ok
+
+pub returns-clause-refused : goal.returns-clause-refused
+returns-clause-refused c = memory_refuses c.args.bytes.now c.listed_indices.result c.listed_indices.ensures.refused
+
+pub returns-clause-exact : goal.returns-clause-exact
+returns-clause-exact c = only_memory c.args.bytes.now c.listed_indices.result c.listed_indices.ensures.refused
