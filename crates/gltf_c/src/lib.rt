@@ -1,66 +1,32 @@
-//! The loader as a library for C. `c/gltf.h` says how each function is called.
+//! The loader as a library for C: one export for each call of `gltf_calls`, with its contract.
+//! `c/gltf.h` says how each function is called, and the call of that name in `gltf_calls::calls`
+//! what it answers and when.
 //!
 //! No function here asks anything of its arguments: what a caller has to keep is what C cannot say
 //! in a type, and stands in the header.
 #![tactic(auto)]
 
 ghost use Rattle.std.specs.Prelude.{◌≡◌, None};
-ghost use Rattle.gltf_c.specs.Calls.{IsOpened, HasCount, Gives, GivesText, ReadsItems};
-ghost use Rattle.gltf_c.specs.Calls.{CopiesBuffer};
-ghost use Rattle.gltf_c.specs.Images.{shown_image_of, uri_of, mime_type_of};
-ghost use Rattle.gltf_c.specs.Info.{accessor_of};
-ghost use Rattle.gltf_c.specs.Names.{name_of};
-ghost use Rattle.gltf_c.specs.Nodes.{shown_node_of, child_of, scene_node_of, number_of};
-ghost use Rattle.gltf_c.specs.Primitives.{primitive_count_of, shown_primitive_of};
-ghost use Rattle.gltf_c.specs.Primitives.{attribute_accessor_of};
-ghost use Rattle.gltf_c.specs.Read.{buffer_size_of};
+ghost use Rattle.gltf_calls.specs.Calls.{IsOpened, HasCount, Gives, GivesText, ReadsItems};
+ghost use Rattle.gltf_calls.specs.Calls.{CopiesBuffer};
+ghost use Rattle.gltf_calls.specs.Images.{shown_image_of, uri_of, mime_type_of};
+ghost use Rattle.gltf_calls.specs.Info.{accessor_of};
+ghost use Rattle.gltf_calls.specs.Names.{name_of};
+ghost use Rattle.gltf_calls.specs.Nodes.{shown_node_of, child_of, scene_node_of, number_of};
+ghost use Rattle.gltf_calls.specs.Primitives.{primitive_count_of, shown_primitive_of};
+ghost use Rattle.gltf_calls.specs.Primitives.{attribute_accessor_of};
+ghost use Rattle.gltf_calls.specs.Read.{buffer_size_of};
 
-mod bare;
-mod bytes;
-pub mod file;
-mod given;
-pub mod handle;
-pub mod images;
-pub mod info;
-mod message;
-mod names;
-pub mod nodes;
-mod numbers;
-mod open;
-pub mod primitives;
-mod read;
-pub mod status;
-
-use crate::given::{give, give_text};
-use crate::handle::GltfFile;
-use crate::images::GltfImage;
-use crate::info::{GltfAccessor, Kind};
-use crate::nodes::GltfNode;
-use crate::open::open;
-use crate::primitives::GltfPrimitive;
-use crate::status::Status;
+use gltf_calls::calls;
+use gltf_calls::handle::GltfFile;
+use gltf_calls::images::GltfImage;
+use gltf_calls::info::GltfAccessor;
+use gltf_calls::nodes::GltfNode;
+use gltf_calls::primitives::GltfPrimitive;
 use std::alloc::Global;
 
-/// The number of what a call makes of an open file, which is open again behind it; of a closed one
-/// that it is closed.
-macro_rules! answer {
-    ($alloc:ident, $handle:ident, $file:ident => $status:expr) => {{
-        let Some($file) = handle::take($alloc, $handle) else {
-            return Status::Closed.code();
-        };
-        let status = $status;
-        handle::put($alloc, $handle, $file);
-        status.code()
-    }};
-}
-
 /// Opens a file from its bytes: a GLB container where they begin with `glTF`, else JSON text (glTF
-/// 2.0, sections 2.8, 3.6.1 and 4.4). A copy is made of what is needed. What `file` held is let go.
-///
-/// Answers 0 where the bytes are accepted, and then `file` holds their document and buffers; else
-/// `file` is closed, and the number is that of the first layer at fault, from
-/// [`Status::BadContainer`] to [`Status::UnsupportedScheme`], or [`Status::NoMemory`]. `message` is
-/// given the error's text or an empty one, cut to its room, with a zero byte behind it.
+/// 2.0, sections 2.8, 3.6.1 and 4.4).
 #[unsafe(no_mangle)]
 pub extern "C" fn gltf_open(
     alloc: Global,
@@ -70,26 +36,15 @@ pub extern "C" fn gltf_open(
 ) -> u32
     ensures { IsOpened bytes.now result file.new.value message.old message.new }
 {
-    match open(alloc, bytes) {
-        Ok(held) => {
-            handle::put(alloc, file, held);
-            message::put(b"", message);
-            Status::Success.code()
-        }
-        Err(error) => {
-            handle::take(alloc, file);
-            message::tell(alloc, &error, message);
-            Status::of(&error).code()
-        }
-    }
+    calls::open(alloc, bytes, file, message)
 }
 
-/// Gives back all that a file took. A closed one stays closed.
+/// Gives back all that a file took.
 #[unsafe(no_mangle)]
 pub extern "C" fn gltf_close(alloc: Global, file: &mut GltfFile)
     ensures { file.new.value ≡ None }
 {
-    handle::take(alloc, file);
+    calls::close(alloc, file);
 }
 
 /// How many records of a kind there are; none in a closed file, nor of a number that has no kind.
@@ -98,20 +53,10 @@ pub extern "C" fn gltf_count(alloc: Global, file: &mut GltfFile, kind: u32) -> u
     ensures same { file.new.value ≡ file.old.value }
     ensures count { HasCount file.old.value kind result }
 {
-    let Some(held) = handle::take(alloc, file) else {
-        return 0;
-    };
-    let count = match Kind::of(kind) {
-        Some(kind) => info::count(&held, kind),
-        None => 0,
-    };
-    handle::put(alloc, file, held);
-    count
+    calls::count(alloc, file, kind)
 }
 
-/// What the accessor at an index is (glTF 2.0, section 5.1). As each call below, it answers the
-/// number of a [`Status`], and one that is not 0 leaves all as it was: [`Status::Closed`], or
-/// [`Status::NoSuchIndex`] where there is no such accessor.
+/// What the accessor at an index is (glTF 2.0, section 5.1).
 #[unsafe(no_mangle)]
 pub extern "C" fn gltf_accessor_info(
     alloc: Global,
@@ -122,14 +67,11 @@ pub extern "C" fn gltf_accessor_info(
     ensures same { file.new.value ≡ file.old.value }
     ensures described { Gives (accessor_of index) file.old.value result out.old out.new }
 {
-    answer!(alloc, file, held => give(info::accessor(&held, index), out))
+    calls::accessor_info(alloc, file, index, out)
 }
 
 /// The items of the accessor at an index as bytes, one behind the other, with the sparse overrides
 /// (glTF 2.0, section 3.6.2), at the front of the room.
-///
-/// [`Status::Closed`]; [`Status::NoSuchIndex`]; [`Status::Unreadable`] where the accessor cannot be
-/// read over the buffers; [`Status::NoRoom`] where there are more bytes than room.
 #[unsafe(no_mangle)]
 pub extern "C" fn gltf_accessor_read(
     alloc: Global,
@@ -140,11 +82,10 @@ pub extern "C" fn gltf_accessor_read(
     ensures same { file.new.value ≡ file.old.value }
     ensures read { ReadsItems file.old.value index result out.old out.new }
 {
-    answer!(alloc, file, held => read::read(&held, index, out))
+    calls::accessor_read(alloc, file, index, out)
 }
 
-/// How many bytes the buffer at an index has, with the zeros behind them. [`Status::Closed`] or
-/// [`Status::NoSuchIndex`].
+/// How many bytes the buffer at an index has, with the zeros behind them.
 #[unsafe(no_mangle)]
 pub extern "C" fn gltf_buffer_size(
     alloc: Global,
@@ -155,11 +96,10 @@ pub extern "C" fn gltf_buffer_size(
     ensures same { file.new.value ≡ file.old.value }
     ensures size { Gives (buffer_size_of index) file.old.value result out.old out.new }
 {
-    answer!(alloc, file, held => give(read::size(&held, index), out))
+    calls::buffer_size(alloc, file, index, out)
 }
 
-/// Fills the room with the bytes of the buffer at an index, from an offset on. [`Status::Closed`],
-/// [`Status::NoSuchIndex`], or [`Status::OutOfRange`] where the buffer has not so many.
+/// Fills the room with the bytes of the buffer at an index, from an offset on.
 #[unsafe(no_mangle)]
 pub extern "C" fn gltf_buffer_read(
     alloc: Global,
@@ -171,10 +111,10 @@ pub extern "C" fn gltf_buffer_read(
     ensures same { file.new.value ≡ file.old.value }
     ensures copied { CopiesBuffer file.old.value index offset result out.old out.new }
 {
-    answer!(alloc, file, held => read::copy(&held, index, offset, out))
+    calls::buffer_read(alloc, file, index, offset, out)
 }
 
-/// How many primitives the mesh at an index has. [`Status::Closed`] or [`Status::NoSuchIndex`].
+/// How many primitives the mesh at an index has.
 #[unsafe(no_mangle)]
 pub extern "C" fn gltf_primitive_count(
     alloc: Global,
@@ -185,11 +125,10 @@ pub extern "C" fn gltf_primitive_count(
     ensures same { file.new.value ≡ file.old.value }
     ensures count { Gives (primitive_count_of mesh) file.old.value result out.old out.new }
 {
-    answer!(alloc, file, held => give(primitives::count(&held, mesh), out))
+    calls::primitive_count(alloc, file, mesh, out)
 }
 
-/// What a primitive of a mesh is (glTF 2.0, section 5.24). [`Status::Closed`], or
-/// [`Status::NoSuchIndex`] where there is no such mesh, or no such primitive in it.
+/// What a primitive of a mesh is (glTF 2.0, section 5.24).
 #[unsafe(no_mangle)]
 pub extern "C" fn gltf_primitive_info(
     alloc: Global,
@@ -202,12 +141,11 @@ pub extern "C" fn gltf_primitive_info(
     ensures described { Gives (shown_primitive_of mesh primitive)
         file.old.value result out.old out.new }
 {
-    answer!(alloc, file, held => give(primitives::shown(&held, mesh, primitive), out))
+    calls::primitive_info(alloc, file, mesh, primitive, out)
 }
 
 /// The index of the accessor of an attribute of a primitive, by the number of its meaning and that
-/// of its set (glTF 2.0, section 3.7.2.1). [`Status::Closed`], or [`Status::NoSuchIndex`] where
-/// there is no such mesh, primitive, meaning or attribute.
+/// of its set (glTF 2.0, section 3.7.2.1).
 #[unsafe(no_mangle)]
 pub extern "C" fn gltf_attribute(
     alloc: Global,
@@ -222,13 +160,10 @@ pub extern "C" fn gltf_attribute(
     ensures found { Gives (attribute_accessor_of mesh primitive meaning set)
         file.old.value result out.old out.new }
 {
-    answer!(alloc, file, held => {
-        give(primitives::attribute(&held, mesh, primitive, meaning, set), out)
-    })
+    calls::attribute(alloc, file, mesh, primitive, meaning, set, out)
 }
 
-/// What the node at an index is (glTF 2.0, section 5.25). [`Status::Closed`] or
-/// [`Status::NoSuchIndex`].
+/// What the node at an index is (glTF 2.0, section 5.25).
 #[unsafe(no_mangle)]
 pub extern "C" fn gltf_node_info(
     alloc: Global,
@@ -239,11 +174,10 @@ pub extern "C" fn gltf_node_info(
     ensures same { file.new.value ≡ file.old.value }
     ensures described { Gives (shown_node_of index) file.old.value result out.old out.new }
 {
-    answer!(alloc, file, held => give(nodes::shown(&held, index), out))
+    calls::node_info(alloc, file, index, out)
 }
 
-/// The index of the child of a node at a position among its children. [`Status::Closed`], or
-/// [`Status::NoSuchIndex`] where there is no such node, or it has not so many.
+/// The index of the child of a node at a position among its children.
 #[unsafe(no_mangle)]
 pub extern "C" fn gltf_node_child(
     alloc: Global,
@@ -255,12 +189,11 @@ pub extern "C" fn gltf_node_child(
     ensures same { file.new.value ≡ file.old.value }
     ensures found { Gives (child_of node position) file.old.value result out.old out.new }
 {
-    answer!(alloc, file, held => give(nodes::child(&held, node, position), out))
+    calls::node_child(alloc, file, node, position, out)
 }
 
 /// The number at a position of a member of a node, its matrix, translation, rotation, scale or
-/// weights (glTF 2.0, section 3.5.3), as the nearest double. [`Status::Closed`], or
-/// [`Status::NoSuchIndex`] where there is no such node, member or position.
+/// weights (glTF 2.0, section 3.5.3), as the nearest double.
 #[unsafe(no_mangle)]
 pub extern "C" fn gltf_node_number(
     alloc: Global,
@@ -274,12 +207,10 @@ pub extern "C" fn gltf_node_number(
     ensures found { Gives (number_of node member position)
         file.old.value result out.old out.new }
 {
-    answer!(alloc, file, held => give(nodes::number(&held, node, member, position), out))
+    calls::node_number(alloc, file, node, member, position, out)
 }
 
 /// The index of the node of a scene at a position among its root nodes (glTF 2.0, section 5.27).
-/// [`Status::Closed`], or [`Status::NoSuchIndex`] where there is no such scene, or it has not so
-/// many.
 #[unsafe(no_mangle)]
 pub extern "C" fn gltf_scene_node(
     alloc: Global,
@@ -291,12 +222,11 @@ pub extern "C" fn gltf_scene_node(
     ensures same { file.new.value ≡ file.old.value }
     ensures found { Gives (scene_node_of scene position) file.old.value result out.old out.new }
 {
-    answer!(alloc, file, held => give(nodes::scene_node(&held, scene, position), out))
+    calls::scene_node(alloc, file, scene, position, out)
 }
 
 /// Where the bytes of the image at an index are (glTF 2.0, section 3.8.3): in which buffer, from
-/// which offset on, and how many, as the document says it. [`Status::Closed`] or
-/// [`Status::NoSuchIndex`].
+/// which offset on, and how many, as the document says it.
 #[unsafe(no_mangle)]
 pub extern "C" fn gltf_image_info(
     alloc: Global,
@@ -307,12 +237,11 @@ pub extern "C" fn gltf_image_info(
     ensures same { file.new.value ≡ file.old.value }
     ensures described { Gives (shown_image_of index) file.old.value result out.old out.new }
 {
-    answer!(alloc, file, held => give(images::shown(&held, index), out))
+    calls::image_info(alloc, file, index, out)
 }
 
 /// The URI of the image at an index (glTF 2.0, section 5.18.1): as much of it as there is room for
-/// before a zero byte, and the length of the whole. [`Status::Closed`], or [`Status::NoSuchIndex`]
-/// where there is no such image, or it has none.
+/// before a zero byte, and the length of the whole.
 #[unsafe(no_mangle)]
 pub extern "C" fn gltf_image_uri(
     alloc: Global,
@@ -325,7 +254,7 @@ pub extern "C" fn gltf_image_uri(
     ensures text { GivesText (uri_of index) file.old.value result text.old text.new
         length.old length.new }
 {
-    answer!(alloc, file, held => give_text(images::uri(&held, index), text, length))
+    calls::image_uri(alloc, file, index, text, length)
 }
 
 /// The media type of the image at an index (glTF 2.0, section 5.18.2), as [`gltf_image_uri`] gives
@@ -342,11 +271,10 @@ pub extern "C" fn gltf_image_mime_type(
     ensures text { GivesText (mime_type_of index) file.old.value result text.old text.new
         length.old length.new }
 {
-    answer!(alloc, file, held => give_text(images::mime_type(&held, index), text, length))
+    calls::image_mime_type(alloc, file, index, text, length)
 }
 
 /// The name of the record of a kind at an index, as [`gltf_image_uri`] gives a URI.
-/// [`Status::NoSuchIndex`] is answered for a number that has no kind too.
 #[unsafe(no_mangle)]
 pub extern "C" fn gltf_name(
     alloc: Global,
@@ -360,5 +288,5 @@ pub extern "C" fn gltf_name(
     ensures text { GivesText (name_of kind index) file.old.value result text.old text.new
         length.old length.new }
 {
-    answer!(alloc, file, held => give_text(names::name(&held, kind, index), text, length))
+    calls::name(alloc, file, kind, index, text, length)
 }
