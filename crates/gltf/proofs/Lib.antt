@@ -1,6 +1,6 @@
 pub mod Answered
 pub mod Parts
-pub mod Layers
+pub mod LayerLaws
 pub mod Once
 pub mod WithBuffers
 pub mod Files

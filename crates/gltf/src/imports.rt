@@ -13,8 +13,7 @@ mod buffers;
 
 use crate::buffer::Data;
 use crate::document::Document;
-use crate::reading::document_in;
-use crate::slice::document_of;
+use crate::layers::document_of;
 use buffers::with_buffers;
 pub use buffers::{
     import_buffers, import_buffers_from, import_each_buffer, import_each_buffer_from,
@@ -24,6 +23,7 @@ use gltf_glb::Result;
 use gltf_json::laws::what_shows_the_same_is_alike_in_each_member;
 use gltf_names::{Folder, Name, NamedBytes};
 use std::alloc::Global;
+use std::borrow::CowSlice;
 use std::rt::HostRuntime;
 
 /// The document and the bytes of its buffers, by index, from the bytes of a file: a GLB container
@@ -43,7 +43,7 @@ pub fn import_slice(alloc: Global, bytes: &[u8]) -> Result<(Document, Vec<Data>)
 {
     // A law that the proof stands on; the call does nothing.
     what_shows_the_same_is_alike_in_each_member();
-    let (document, blob) = document_of(alloc, bytes)?;
+    let (document, blob) = document_of(alloc, CowSlice::Borrowed(bytes))?;
     with_buffers(alloc, document, &mut NoNames, blob)
 }
 
@@ -76,7 +76,7 @@ pub fn import_from<S: NamedBytes>(
     // A law that the proof stands on; the call does nothing.
     what_shows_the_same_is_alike_in_each_member();
     let bytes = source.ask(alloc, Name::File(path))?;
-    let (document, blob) = document_in(alloc, bytes)?;
+    let (document, blob) = document_of(alloc, CowSlice::Owned(bytes))?;
     with_buffers(alloc, document, source, blob)
 }
 

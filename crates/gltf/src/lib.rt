@@ -11,10 +11,10 @@ pub mod iter;
 pub mod json;
 pub mod khr_materials_variants;
 pub mod laws;
+mod layers;
 mod listing;
 mod primitives;
 mod reading;
-mod slice;
 pub mod texture;
 
 pub use accessor::Accessor;

@@ -1,0 +1,127 @@
+//! The layers of a document over its bytes, which are lent or given up. What is lent is copied
+//! where it has to be owned; what is given up is handed on.
+ghost use Rattle.std.specs.Prelude.{◌≡◌, ◌≢◌, ℕ, List, Option, IfOk, IfErr};
+ghost use Rattle.std.specs.Cow.{cow_slice_items};
+ghost use Rattle.gltf_glb.specs.Glb.{items_of, IsTakenFrom, RefusesOrRunsOut};
+ghost use Rattle.gltf_glb.specs.declared.error.Error.TheVariants.{Memory};
+ghost use Rattle.gltf.specs.Errors.{OutOfMemoryOr};
+ghost use Rattle.gltf.specs.Import.{AreParts, IsDocument, IsValidDocument};
+ghost use Rattle.gltf.specs.Import.{IsOnlyDocument, IsNoDocument, IsNoValidDocument};
+ghost use Rattle.gltf.specs.Import.{RefusesContainer, RefusesRecords, RefusesDocument};
+ghost use Rattle.gltf.specs.Shown.{blob_bytes};
+
+use crate::document::{Document, RawDocument};
+use gltf_glb::{Glb, Result};
+use gltf_json::root::Root;
+use gltf_json_deserialize::deserialize;
+use gltf_rules::laws::what_shows_the_same_breaks_the_same_rules;
+use std::alloc::{AllocError, Global};
+use std::borrow::CowSlice;
+
+/// The document, and the blob.
+pub(crate) fn document_of(
+    alloc: Global,
+    bytes: CowSlice<'_, u8>,
+) -> Result<(Document, Option<Vec<u8>>)>
+    ensures valid { IfOk result (λ read. IsValidDocument (cow_slice_items bytes.entry) read.0
+        (blob_bytes read.1)) }
+    ensures only { IfOk result (λ read. IsOnlyDocument (cow_slice_items bytes.entry) read.0
+        (blob_bytes read.1)) }
+    ensures refused { IfErr result (OutOfMemoryOr (RefusesDocument (cow_slice_items bytes.entry))) }
+    ensures exact { IfErr result (λ e. e ≢ Memory
+        → IsNoValidDocument (cow_slice_items bytes.entry)) }
+{
+    // A law that the proof stands on; the call does nothing.
+    what_shows_the_same_breaks_the_same_rules();
+    let (root, blob) = root_of(alloc, bytes)?;
+    let document = Document::from_json(alloc, root)?;
+    let blob = owned(alloc, blob)?;
+    Ok((document, blob))
+}
+
+/// The records without the rules, and the blob.
+pub(crate) fn raw_document_of(
+    alloc: Global,
+    bytes: CowSlice<'_, u8>,
+) -> Result<(RawDocument, Option<Vec<u8>>)>
+    ensures document { IfOk result (λ read. IsDocument (cow_slice_items bytes.entry) read.0
+        (blob_bytes read.1)) }
+    ensures only { IfOk result (λ read. IsOnlyDocument (cow_slice_items bytes.entry) read.0
+        (blob_bytes read.1)) }
+    ensures refused { IfErr result (OutOfMemoryOr (RefusesRecords (cow_slice_items bytes.entry))) }
+    ensures exact { IfErr result (λ e. e ≢ Memory → IsNoDocument (cow_slice_items bytes.entry)) }
+{
+    let (root, blob) = root_of(alloc, bytes)?;
+    let blob = owned(alloc, blob)?;
+    Ok((Document::from_json_without_validation(root), blob))
+}
+
+/// The records, and the blob.
+fn root_of(alloc: Global, bytes: CowSlice<'_, u8>) -> Result<(Root, Option<CowSlice<'_, u8>>)>
+    ensures document { IfOk result (λ read. IsDocument (cow_slice_items bytes.entry) read.0
+        (items_of read.1)) }
+    ensures only { IfOk result (λ read. IsOnlyDocument (cow_slice_items bytes.entry) read.0
+        (items_of read.1)) }
+    ensures refused { IfErr result (OutOfMemoryOr (RefusesRecords (cow_slice_items bytes.entry))) }
+    ensures exact { IfErr result (λ e. e ≢ Memory → IsNoDocument (cow_slice_items bytes.entry)) }
+{
+    let (text, blob) = parts_of(alloc, bytes)?;
+    let root = deserialize::from_slice(alloc, text.as_slice())?;
+    Ok((root, blob))
+}
+
+/// The JSON text and the blob.
+#[tactic(auto, unfolding(crate::specs::Import::AreParts))]
+fn parts_of(
+    alloc: Global,
+    bytes: CowSlice<'_, u8>,
+) -> Result<(CowSlice<'_, u8>, Option<CowSlice<'_, u8>>)>
+    ensures parts { IfOk result (λ parts. AreParts (cow_slice_items bytes.entry)
+        (cow_slice_items parts.0) (items_of parts.1)) }
+    ensures only { IfOk result (λ parts. (text : List ℕ) (blob : Option (List ℕ))
+        → AreParts (cow_slice_items bytes.entry) text blob
+        → (text ≡ cow_slice_items parts.0) × (blob ≡ items_of parts.1)) }
+    ensures refused { IfErr result
+        (OutOfMemoryOr (RefusesContainer (cow_slice_items bytes.entry))) }
+    ensures exact { IfErr result (λ e. e ≢ Memory → (text : List ℕ) (blob : Option (List ℕ))
+        → AreParts (cow_slice_items bytes.entry) text blob → ⊥) }
+{
+    if bytes.as_slice().starts_with(b"glTF") {
+        let glb = container_of(alloc, bytes)?;
+        Ok((glb.json, glb.bin))
+    } else {
+        Ok((bytes, None))
+    }
+}
+
+/// The container that the bytes are.
+fn container_of(alloc: Global, bytes: CowSlice<'_, u8>) -> Result<Glb<'_>>
+    ensures parts { IfOk result (IsTakenFrom (cow_slice_items bytes.entry)) }
+    ensures fault { IfErr result (RefusesOrRunsOut (cow_slice_items bytes.entry)) }
+{
+    match bytes {
+        CowSlice::Borrowed(bytes) => Glb::from_slice(bytes),
+        CowSlice::Owned(bytes) => Glb::from_vec(alloc, bytes),
+    }
+}
+
+/// The blob, owned.
+fn owned(alloc: Global, blob: Option<CowSlice<'_, u8>>) -> Result<Option<Vec<u8>>>
+    ensures ok { IfOk result (λ copy. blob_bytes copy ≡ items_of blob.entry) }
+    ensures refused { IfErr result (λ e. e ≡ Memory) }
+{
+    match blob {
+        Some(CowSlice::Borrowed(lent)) => Ok(Some(copied(alloc, lent)?)),
+        Some(CowSlice::Owned(blob)) => Ok(Some(blob)),
+        None => Ok(None),
+    }
+}
+
+/// A copy that is made once: there is room for the zeros that may follow a blob.
+fn copied(alloc: Global, blob: &[u8]) -> Result<Vec<u8>, AllocError>
+    ensures { IfOk result (λ copy. copy.items ≡ blob.now) }
+{
+    let mut copy = Vec::with_capacity(alloc, blob.len().saturating_add(3))?;
+    copy.extend_from_slice(blob)?;
+    Ok(copy)
+}
