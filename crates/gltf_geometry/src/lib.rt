@@ -3,16 +3,16 @@
 //! given in the order that the standard states.
 #![tactic(auto)]
 
+mod cubic_spline;
 mod items;
 mod line;
 mod point;
-mod cubic_spline;
 mod triangle;
 mod vertices;
 
+pub use cubic_spline::{Keyframe, KeyframeSequence, Spline, spline};
 pub use items::{Items, Sequence};
 pub use line::{LineSequence, Lines, lines};
 pub use point::{PointSequence, Points, points};
-pub use cubic_spline::{Keyframe, KeyframeSequence, Spline, spline};
 pub use triangle::{TriangleSequence, Triangles, triangles};
 pub use vertices::{Vertices, indices_in_range};

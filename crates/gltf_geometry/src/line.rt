@@ -31,13 +31,7 @@ impl LineTopology {
         match self {
             LineTopology::Separate => vertices / 2,
             LineTopology::Strip => vertices.saturating_sub(1),
-            LineTopology::Loop => {
-                if vertices < 2 {
-                    0
-                } else {
-                    vertices
-                }
-            }
+            LineTopology::Loop => { if vertices < 2 { 0 } else { vertices } }
         }
     }
 

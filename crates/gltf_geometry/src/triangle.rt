@@ -70,7 +70,11 @@ impl Sequence for TriangleSequence<'_> {
 
     fn get(&self, index: usize) -> [u32; 3] {
         let (first, second, third) = self.topology.corners(self.vertices.len(), index);
-        [self.vertices.at(first), self.vertices.at(second), self.vertices.at(third)]
+        [
+            self.vertices.at(first),
+            self.vertices.at(second),
+            self.vertices.at(third),
+        ]
     }
 }
 

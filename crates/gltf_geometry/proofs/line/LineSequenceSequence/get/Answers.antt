@@ -1,4 +1,4 @@
-use Rattle.std.proofs.Common.{◌≡◌, ◌<◌, ℕ, List, length, ap, ◌∙◌}
+use Rattle.std.proofs.Common.{◌<◌, ℕ, List, length, ap, ◌∙◌}
 use Rattle.gltf_geometry.specs.Vertices.{in_order}
 use Rattle.gltf_geometry.specs.Topologies.{line, line_count, ends}
 use Rattle.gltf_geometry.proofs.Ranges.{slice_get-each, below_each}

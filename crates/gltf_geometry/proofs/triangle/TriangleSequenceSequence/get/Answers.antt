@@ -1,4 +1,4 @@
-use Rattle.std.proofs.Common.{◌≡◌, ◌<◌, ℕ, List, length, ◌∙◌}
+use Rattle.std.proofs.Common.{◌<◌, ℕ, List, length, ◌∙◌}
 use Rattle.gltf_geometry.specs.Vertices.{in_order}
 use Rattle.gltf_geometry.specs.Topologies.{triangle, triangle_count}
 use Rattle.gltf_geometry.proofs.Ranges.{slice_get-each, below_each}
