@@ -1,6 +1,6 @@
 -- The lines of a loop are those of a strip and the one that closes it.
 use Rattle.std.proofs.Common.{◌≡◌, ℕ, ◌+◌, ◌-◌, ◌<◌, ◌≤◌, List, [], ◌∷◌, ◌++◌, map, length}
-use Rattle.std.proofs.Common.{refl, inl, inr, sym, ap, ◌∙◌, arith}
+use Rattle.std.proofs.Common.{refl, inl, inr, sym, ◌∙◌, arith}
 use Rattle.std.specs.Prelude.{slice_index}
 use Rattle.std.specs.List.{range_with_len}
 use Rattle.std.proofs.lemmas.List.{same_lists}
@@ -8,7 +8,7 @@ use Rattle.std.proofs.lemmas.List.FromFn.{length-map-range_with_len, get_or-map-
 use Rattle.std.proofs.lemmas.List.FromFn.{map-range_with_len_more}
 use Rattle.std.proofs.lemmas.Bool.{cases_lt}
 use Rattle.std.proofs.lemmas.Bool.Decides.{nat_tests}
-use Rattle.gltf_geometry.specs.Modes.{line_loop, line_strip, closing}
+use Rattle.gltf_geometry.specs.Modes.{line_loop, closing}
 use Rattle.gltf_geometry.specs.Topologies.{line, line_count, lines_by}
 use Rattle.gltf_geometry.specs.declared.line.LineTopology.TheVariants.{Loop, Strip}
 

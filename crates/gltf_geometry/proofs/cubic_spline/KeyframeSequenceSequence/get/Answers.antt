@@ -1,4 +1,3 @@
-use Rattle.std.proofs.Common.{arith}
 use Rattle.gltf_geometry.proofs.Keyframes.{keyframe_within, slice_get-keyframes}
 use Rattle.gltf_geometry.proofs.cubic_spline.KeyframeSequenceSequence.get.Goals as goal
 
