@@ -1,3 +1,6 @@
 pub mod Rests
 pub mod Costs
 pub mod Slices
+pub mod Keeping
+pub mod Reaching
+pub mod Stepping

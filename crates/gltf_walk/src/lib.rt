@@ -2,6 +2,7 @@
 //! nodes share children or be their own ancestors.
 #![tactic(auto)]
 
+pub mod laws;
 mod marks;
 mod step;
 mod walking;

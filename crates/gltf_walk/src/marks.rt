@@ -11,7 +11,7 @@ pub(crate) fn mark(marked: &mut Vec<bool>, number: usize) -> Result<bool, AllocE
     ensures keeps { IfOk result (λ b. (k : ℕ) → k ≢ number
         → slice_index_or marked.new.items k false ≡ slice_index_or marked.old.items k false) }
 {
-    while marked.len() <= number {
+    'longer: while marked.len() <= number {
         marked.push(false)?;
     }
     let before = marked[number];

@@ -43,7 +43,7 @@ pub fn walk<'a, D: Records>(
         parent: None,
         depth: 0,
     })?;
-    while let Some(mut level) = open.pop() {
+    'levels: while let Some(mut level) = open.pop() {
         if let Some(node) = level.nodes.next() {
             let (parent, depth) = (level.parent, level.depth);
             open.push(level)?;

@@ -1,0 +1,213 @@
+-- What the loop of a walk keeps, of the values of the code.
+use Rattle.std.proofs.Common.{◌≡◌, ◌≢◌, ℕ, suc, ◌+◌, ◌<◌, ◌≤◌, Bool, true, false, List, [], ◌∷◌, ◌++◌, map}
+use Rattle.std.proofs.Common.{length, refl, sym, ap, ◌∙◌, subst, Some, None, arith, length-append}
+use Rattle.std.specs.Prelude.{Option, All, IsSomeAnd, slice_get, slice_range, slice_index_or, reverse}
+use Rattle.std.proofs.lemmas.List.{map-append, reverse-append}
+use Rattle.std.proofs.lemmas.List.Elements.{All-push, All-pop, All-weaker, All-nil}
+use Rattle.std.specs.Option.{option_map}
+use Rattle.std.proofs.lemmas.Option.{slice_get-map, get_or_from_slice_get}
+use Rattle.gltf_json.specs.declared.root.Root.{Root}
+use Rattle.gltf_rules.specs.declared.records.Records.{Ghosts}
+use Rattle.gltf_handles.specs.Lists.{position}
+use Rattle.gltf_handles.specs.Positions.{Position, Nth, IsWhole}
+use Rattle.gltf_scene.specs.Nodes.{IsNode, IsNamed, AreNamed, node_handle}
+use Rattle.gltf_scene.specs.declared.scene.Node.{Node}
+use Rattle.gltf_scene.specs.declared.scene.iter.NamedNodes.{NamedNodes}
+use Rattle.gltf_walk.specs.DepthFirst.{Visit, DepthFirst}
+use Rattle.gltf_walk.specs.Walks.{children_lists, children_of, document_of, nodes_left, visit, IsStep}
+use Rattle.gltf_walk.specs.Walks.{IsWalk}
+use Rattle.gltf_walk.specs.declared.step.Step.{Step}
+use Rattle.gltf_walk.specs.declared.walking.Level.{Level}
+use Rattle.gltf_walk.proofs.Rests.{Siblings, level_of}
+use Rattle.gltf_walk.proofs.Slices.{left_first, none_left, all_left}
+use Rattle.gltf_walk.proofs.Keeping.{Kept, Marks, kept_start, kept_closed, kept_again, kept_first}
+use Rattle.gltf_walk.proofs.Keeping.{kept_whole}
+
+-- which numbers are marked
+abbrev pub is_marked : List Bool → ℕ → Bool
+is_marked reached k = slice_index_or reached k false
+
+module _ {D : Type 0} {G : Ghosts D} where
+  abbrev pub siblings_of : Level D G → Siblings
+  siblings_of l = level_of (nodes_left (position l.nodes)) l.parent l.depth
+
+  -- the deepest level stands last in the code
+  abbrev pub levels_of : List (Level D G) → List Siblings
+  levels_of open = reverse (map siblings_of open)
+
+  pub levels_more : (open : List (Level D G)) (level : Level D G)
+      → levels_of (open ++ level ∷ []) ≡ siblings_of level ∷ levels_of open
+  levels_more open level =
+      ap reverse (map-append siblings_of open (level ∷ []))
+      ∙ reverse-append (map siblings_of open) (siblings_of level ∷ [])
+
+  pub record IsLevel (r : Root) (steps : ℕ) (l : Level D G) : Type 0 where
+    pub document : document_of (position l.nodes) ≡ r
+    pub shallow : l.depth ≤ steps
+
+  pub record Keeps (r : Root) (roots : List ℕ) (steps : List (Step D G)) (reached : List Bool)
+      (open : List (Level D G)) : Type 0 where
+    pub kept : Kept (children_of r) roots (map visit steps) (is_marked reached) (levels_of open)
+    pub handles : All (IsStep r) steps
+    pub levels : All (IsLevel r (length steps)) open
+
+  -- a node is taken from the siblings of a level
+  pub record Taken (r : Root) (old new : Position (NamedNodes D G)) (node : Node D G) : Type 0 where
+    pub left : nodes_left old ≡ (node_handle node).index ∷ nodes_left new
+    pub document : document_of new ≡ r
+    pub is_node : IsNode r (node_handle node).index node
+
+  named_at : (r : Root) (o : Option ℕ) (node : Node D G) → IsSomeAnd o (λ k. IsNode r k node)
+      → (o ≡ Some (node_handle node).index) × IsNode r (node_handle node).index node
+  named_at r None node h = absurd h
+  named_at r (Some k) node h =
+      (ap Some (sym h.index), record {
+        document = h.document;
+        index = refl;
+        json = ap (slice_get r.nodes.items) h.index ∙ h.json;
+      })
+
+  pub taken : (r : Root) (old new : Position (NamedNodes D G)) (node : Node D G)
+      → document_of old ≡ r
+      → Nth (λ s i n. IsNamed (G.root s.document.now) s.nodes.now i n) old 0 (Some node) new
+      → Taken r old new node
+  taken r old new node document nth =
+      let here : old.next + 0 ≡ old.next = omega arith in
+      let named : IsNamed (document_of old) old.source.nodes.now old.next node =
+      subst (λ (k : ℕ). IsNamed (document_of old) old.source.nodes.now k node) here nth.item.1 in
+      let at = named_at (document_of old) (slice_get old.source.nodes.now old.next) node named in
+      record {
+        left =
+            left_first old.source.nodes.now old.next old.end (node_handle node).index
+            (omega arith) at.0
+            ∙ ap (λ (k : ℕ). (node_handle node).index ∷ slice_range old.source.nodes.now k old.end)
+            (omega arith)
+            ∙ ap (λ (k : ℕ). (node_handle node).index ∷ slice_range old.source.nodes.now new.next k)
+            (sym nth.end)
+            ∙ ap (λ (s : NamedNodes D G). (node_handle node).index
+            ∷ slice_range s.nodes.now new.next new.end) (sym nth.source);
+        document = ap (λ (s : NamedNodes D G). G.root s.document.now) nth.source ∙ document;
+        is_node = subst (λ (x : Root). IsNode x (node_handle node).index node) document at.1;
+      }
+
+  pub nothing_left : (old new : Position (NamedNodes D G))
+      → Nth (λ s i n. IsNamed (G.root s.document.now) s.nodes.now i n) old 0 None new
+      → nodes_left old ≡ []
+  nothing_left old new nth = none_left old.source.nodes.now old.next old.end (omega arith)
+
+  -- the children of a node are all left
+  pub children_left : (r : Root) (node : Node D G) (p : Position (NamedNodes D G))
+      → IsNode r (node_handle node).index node
+      → AreNamed (node_handle node).document (node_handle node).json.children.items p
+      → (nodes_left p ≡ children_of r (node_handle node).index) × (document_of p ≡ r)
+  children_left r node p is_node named =
+      let nodes : List ℕ = (node_handle node).json.children.items in
+      let all : nodes_left p ≡ nodes =
+      ap (λ (xs : List ℕ). slice_range xs p.next p.end) named.source.1
+      ∙ ap (λ (k : ℕ). slice_range nodes k p.end) named.next
+      ∙ ap (slice_range nodes 0) named.end ∙ all_left nodes in
+      let listed : slice_get (children_lists r) (node_handle node).index ≡ Some nodes =
+      slice_get-map (λ n. n.children.items) r.nodes.items (node_handle node).index
+      ∙ ap (option_map (λ n. n.children.items)) is_node.json in
+      (all ∙ sym (get_or_from_slice_get (children_lists r) (node_handle node).index nodes []
+      listed), named.source.0 ∙ is_node.document)
+
+  pub keeps_start : (roots : Level D G) → roots.parent ≡ None → roots.depth ≡ 0
+      → Keeps (document_of (position roots.nodes)) (nodes_left (position roots.nodes)) [] []
+      (roots ∷ [])
+  keeps_start roots parent depth = record {
+    kept = rw (parent, depth) (kept_start (children_of (document_of (position roots.nodes)))
+        (nodes_left (position roots.nodes)) (is_marked []) (λ k. refl));
+    handles = All-nil (IsStep (document_of (position roots.nodes)));
+    levels = All-push (IsLevel (document_of (position roots.nodes)) 0) [] roots
+        (All-nil (IsLevel (document_of (position roots.nodes)) 0))
+        (record { document = refl; shallow = omega arith });
+  }
+
+  module _ (r : Root) (roots : List ℕ) (steps : List (Step D G)) (old : List Bool)
+      (all open : List (Level D G)) (level : Level D G) (is : all ≡ open ++ level ∷ [])
+      (keeps : Keeps r roots steps old all) where
+    -- what holds of the level that is popped, and of the others
+    pub popped : All (IsLevel r (length steps)) open × IsLevel r (length steps) level
+    popped = All-pop (IsLevel r (length steps)) all open (Some level) is keeps.levels
+
+    kept_popped : (ns : List ℕ) → nodes_left (position level.nodes) ≡ ns
+        → Kept (children_of r) roots (map visit steps) (is_marked old)
+        (level_of ns level.parent level.depth ∷ levels_of open)
+    kept_popped ns left =
+        subst (λ (levels : List Siblings).
+        Kept (children_of r) roots (map visit steps) (is_marked old) levels)
+        (ap levels_of is ∙ levels_more open level
+        ∙ ap (λ (xs : List ℕ). level_of xs level.parent level.depth ∷ levels_of open) left)
+        keeps.kept
+
+    pub keeps_closed : nodes_left (position level.nodes) ≡ [] → Keeps r roots steps old open
+    keeps_closed none = record {
+      kept = kept_closed (children_of r) roots (map visit steps) (is_marked old) level.parent
+          level.depth (levels_of open) (kept_popped [] none);
+      handles = keeps.handles;
+      levels = popped.0;
+    }
+
+    module _ (rest : Level D G) (step : Step D G) (new : List Bool)
+        (parent : rest.parent ≡ level.parent) (depth : rest.depth ≡ level.depth)
+        (step_parent : step.parent ≡ level.parent) (step_depth : step.depth ≡ level.depth)
+        (took : Taken r (position level.nodes) (position rest.nodes) step.node)
+        (marks : Marks (is_marked old) (is_marked new) (node_handle step.node).index) where
+      more : length (steps ++ step ∷ []) ≡ length steps + 1
+      more = length-append steps (step ∷ [])
+
+      handles_more : All (IsStep r) (steps ++ step ∷ [])
+      handles_more = All-push (IsStep r) steps step keeps.handles took.is_node
+
+      levels_rest : All (IsLevel r (length (steps ++ step ∷ []))) (open ++ rest ∷ [])
+      levels_rest =
+          All-push (IsLevel r (length (steps ++ step ∷ []))) open rest
+          (All-weaker (IsLevel r (length steps)) (IsLevel r (length (steps ++ step ∷ [])))
+          (λ l h. record { document = h.document; shallow = omega (arith, more, h.shallow) }) open
+          popped.0)
+          (record { document = took.document; shallow = omega (arith, more, popped.1.shallow) })
+
+      pub keeps_again : step.again ≡ true
+          → is_marked old (node_handle step.node).index ≡ true
+          → Keeps r roots (steps ++ step ∷ []) new (open ++ rest ∷ [])
+      keeps_again again before = record {
+        kept = rw (map-append visit steps (step ∷ []), levels_more open rest, parent, depth,
+            step_parent, step_depth, again)
+            (kept_again (children_of r) roots (map visit steps) (is_marked old) (is_marked new)
+            (node_handle step.node).index (nodes_left (position rest.nodes)) level.parent
+            level.depth (levels_of open) (kept_popped _ took.left) before marks);
+        handles = handles_more;
+        levels = levels_rest;
+      }
+
+      pub keeps_first : (child : Level D G) → step.again ≡ false
+          → is_marked old (node_handle step.node).index ≡ false
+          → child.parent ≡ Some (node_handle step.node).index → child.depth ≡ level.depth + 1
+          → AreNamed (node_handle step.node).document (node_handle step.node).json.children.items
+          (position child.nodes)
+          → Keeps r roots (steps ++ step ∷ []) new ((open ++ rest ∷ []) ++ child ∷ [])
+      keeps_first child again before child_parent child_depth named =
+          let below = children_left r step.node (position child.nodes) took.is_node named in
+          record {
+            kept = rw (map-append visit steps (step ∷ []), levels_more (open ++ rest ∷ []) child,
+                levels_more open rest, parent, depth, step_parent, step_depth, again, child_parent,
+                child_depth, below.0)
+                (kept_first (children_of r) roots (map visit steps) (is_marked old)
+                (is_marked new) (node_handle step.node).index (nodes_left (position rest.nodes))
+                level.parent level.depth (levels_of open) (kept_popped _ took.left) before marks);
+            handles = handles_more;
+            levels = All-push (IsLevel r (length (steps ++ step ∷ []))) (open ++ rest ∷ []) child
+                levels_rest
+                (record {
+                  document = below.1;
+                  shallow = omega (arith, more, child_depth, popped.1.shallow);
+                });
+          }
+
+  pub keeps_whole : (r : Root) (roots : List ℕ) (steps : List (Step D G)) (reached : List Bool)
+      → Keeps r roots steps reached [] → IsWalk r roots steps
+  keeps_whole r roots steps reached keeps = record {
+    order = kept_whole (children_of r) roots (map visit steps) (is_marked reached) keeps.kept;
+    handles = keeps.handles;
+  }
