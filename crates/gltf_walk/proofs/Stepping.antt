@@ -1,7 +1,8 @@
 -- What the loop of a walk keeps, of the values of the code.
 use Rattle.std.proofs.Common.{◌≡◌, ◌≢◌, ℕ, suc, ◌+◌, ◌<◌, ◌≤◌, Bool, true, false, List, [], ◌∷◌, ◌++◌, map}
-use Rattle.std.proofs.Common.{length, refl, sym, ap, ◌∙◌, subst, Some, None, arith, length-append}
+use Rattle.std.proofs.Common.{length, refl, sym, ap, ◌∙◌, subst, inl, inr, Some, None, arith, length-append}
 use Rattle.std.specs.Prelude.{Option, All, IsSomeAnd, slice_get, slice_range, slice_index_or, reverse}
+use Rattle.std.proofs.lemmas.Bool.{cases_eq}
 use Rattle.std.proofs.lemmas.List.{map-append, reverse-append}
 use Rattle.std.proofs.lemmas.List.Elements.{All-push, All-pop, All-weaker, All-nil}
 use Rattle.std.specs.Option.{option_map}
@@ -18,6 +19,7 @@ use Rattle.gltf_walk.specs.Walks.{children_lists, children_of, document_of, node
 use Rattle.gltf_walk.specs.Walks.{IsWalk}
 use Rattle.gltf_walk.specs.declared.step.Step.{Step}
 use Rattle.gltf_walk.specs.declared.walking.Level.{Level}
+use Rattle.gltf_walk.proofs.Costs.{cost, cost_reached, cost_same, open_cost}
 use Rattle.gltf_walk.proofs.Rests.{Siblings, level_of}
 use Rattle.gltf_walk.proofs.Slices.{left_first, none_left, all_left}
 use Rattle.gltf_walk.proofs.Keeping.{Kept, Marks, kept_start, kept_closed, kept_again, kept_first}
@@ -96,21 +98,30 @@ module _ {D : Type 0} {G : Ghosts D} where
   nothing_left old new nth = none_left old.source.nodes.now old.next old.end (omega arith)
 
   -- the children of a node are all left
+  children_all : (node : Node D G) (p : Position (NamedNodes D G))
+      → AreNamed (node_handle node).document (node_handle node).json.children.items p
+      → nodes_left p ≡ (node_handle node).json.children.items
+  children_all node p named =
+      let nodes : List ℕ = (node_handle node).json.children.items in
+      ap (λ (xs : List ℕ). slice_range xs p.next p.end) named.source.1
+      ∙ ap (λ (k : ℕ). slice_range nodes k p.end) named.next
+      ∙ ap (slice_range nodes 0) named.end ∙ all_left nodes
+
+  children_listed : (r : Root) (node : Node D G) → IsNode r (node_handle node).index node
+      → slice_get (children_lists r) (node_handle node).index
+      ≡ Some (node_handle node).json.children.items
+  children_listed r node is_node =
+      slice_get-map (λ n. n.children.items) r.nodes.items (node_handle node).index
+      ∙ ap (option_map (λ n. n.children.items)) is_node.json
+
   pub children_left : (r : Root) (node : Node D G) (p : Position (NamedNodes D G))
       → IsNode r (node_handle node).index node
       → AreNamed (node_handle node).document (node_handle node).json.children.items p
       → (nodes_left p ≡ children_of r (node_handle node).index) × (document_of p ≡ r)
   children_left r node p is_node named =
-      let nodes : List ℕ = (node_handle node).json.children.items in
-      let all : nodes_left p ≡ nodes =
-      ap (λ (xs : List ℕ). slice_range xs p.next p.end) named.source.1
-      ∙ ap (λ (k : ℕ). slice_range nodes k p.end) named.next
-      ∙ ap (slice_range nodes 0) named.end ∙ all_left nodes in
-      let listed : slice_get (children_lists r) (node_handle node).index ≡ Some nodes =
-      slice_get-map (λ n. n.children.items) r.nodes.items (node_handle node).index
-      ∙ ap (option_map (λ n. n.children.items)) is_node.json in
-      (all ∙ sym (get_or_from_slice_get (children_lists r) (node_handle node).index nodes []
-      listed), named.source.0 ∙ is_node.document)
+      (children_all node p named ∙ sym (get_or_from_slice_get (children_lists r)
+      (node_handle node).index (node_handle node).json.children.items []
+      (children_listed r node is_node)), named.source.0 ∙ is_node.document)
 
   pub keeps_start : (roots : Level D G) → roots.parent ≡ None → roots.depth ≡ 0
       → Keeps (document_of (position roots.nodes)) (nodes_left (position roots.nodes)) [] []
@@ -149,6 +160,16 @@ module _ {D : Type 0} {G : Ghosts D} where
       levels = popped.0;
     }
 
+    cost_all : open_cost (levels_of all)
+        ≡ suc (length (nodes_left (position level.nodes))) + open_cost (levels_of open)
+    cost_all = ap (λ (levels : List (Level D G)). open_cost (levels_of levels)) is
+        ∙ ap open_cost (levels_more open level)
+
+    pub smaller_closed : (lists : List (List ℕ))
+        → open_cost (levels_of open) + cost (is_marked old) 0 lists
+        < open_cost (levels_of all) + cost (is_marked old) 0 lists
+    smaller_closed lists = omega (arith, cost_all)
+
     module _ (rest : Level D G) (step : Step D G) (new : List Bool)
         (parent : rest.parent ≡ level.parent) (depth : rest.depth ≡ level.depth)
         (step_parent : step.parent ≡ level.parent) (step_depth : step.depth ≡ level.depth)
@@ -167,6 +188,52 @@ module _ {D : Type 0} {G : Ghosts D} where
           (λ l h. record { document = h.document; shallow = omega (arith, more, h.shallow) }) open
           popped.0)
           (record { document = took.document; shallow = omega (arith, more, popped.1.shallow) })
+
+      cost_rest : open_cost (levels_of (open ++ rest ∷ []))
+          ≡ suc (length (nodes_left (position rest.nodes))) + open_cost (levels_of open)
+      cost_rest = ap open_cost (levels_more open rest)
+
+      one_less : length (nodes_left (position level.nodes))
+          ≡ suc (length (nodes_left (position rest.nodes)))
+      one_less = ap length took.left
+
+      pub smaller_again : is_marked old (node_handle step.node).index ≡ true
+          → open_cost (levels_of (open ++ rest ∷ [])) + cost (is_marked new) 0 (children_lists r)
+          < open_cost (levels_of all) + cost (is_marked old) 0 (children_lists r)
+      smaller_again before =
+          let unchanged : (k : ℕ) → 0 ≤ k → is_marked new k ≡ is_marked old k =
+          λ k h. elim (cases_eq k (node_handle step.node).index) [
+            | inl same ↦ rw same (marks.at ∙ sym before)
+            | inr other ↦ marks.others k other
+          ] in
+          let same : cost (is_marked old) 0 (children_lists r)
+          ≡ cost (is_marked new) 0 (children_lists r) =
+          cost_same (is_marked old) (is_marked new) 0 (children_lists r) unchanged in
+          omega (arith, cost_all, cost_rest, one_less, same)
+
+      pub smaller_first : (child : Level D G)
+          → is_marked old (node_handle step.node).index ≡ false
+          → AreNamed (node_handle step.node).document (node_handle step.node).json.children.items
+          (position child.nodes)
+          → open_cost (levels_of ((open ++ rest ∷ []) ++ child ∷ []))
+          + cost (is_marked new) 0 (children_lists r)
+          < open_cost (levels_of all) + cost (is_marked old) 0 (children_lists r)
+      smaller_first child before named =
+          let n : ℕ = (node_handle step.node).index in
+          let more_levels : open_cost (levels_of ((open ++ rest ∷ []) ++ child ∷ []))
+          ≡ suc (length (nodes_left (position child.nodes)))
+          + open_cost (levels_of (open ++ rest ∷ [])) =
+          ap open_cost (levels_more (open ++ rest ∷ []) child) in
+          let below : length (nodes_left (position child.nodes))
+          ≡ length (node_handle step.node).json.children.items =
+          ap length (children_all step.node (position child.nodes) named) in
+          let fewer : cost (is_marked old) 0 (children_lists r)
+          ≡ suc (length (node_handle step.node).json.children.items)
+          + cost (is_marked new) 0 (children_lists r) =
+          cost_reached (is_marked old) (is_marked new) 0 n n (children_lists r)
+          (node_handle step.node).json.children.items before marks.at marks.others (omega arith)
+          (children_listed r step.node took.is_node) in
+          omega (arith, cost_all, cost_rest, one_less, more_levels, below, fewer)
 
       pub keeps_again : step.again ≡ true
           → is_marked old (node_handle step.node).index ≡ true

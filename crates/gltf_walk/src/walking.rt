@@ -44,24 +44,24 @@ pub fn walk<'a, D: Records>(
         depth: 0,
     })?;
     'levels: while let Some(mut level) = open.pop() {
-        if let Some(node) = level.nodes.next() {
-            let (parent, depth) = (level.parent, level.depth);
-            open.push(level)?;
-            let again = mark(&mut reached, node.index())?;
-            steps.push(Step {
-                node,
-                parent,
-                depth,
-                again,
-            })?;
-            if !again {
-                open.push(Level {
-                    nodes: node.children(),
-                    parent: Some(node.index()),
-                    depth: depth + 1,
-                })?;
-            }
+        let Some(node) = level.nodes.next() else { continue };
+        let (parent, depth) = (level.parent, level.depth);
+        open.push(level)?;
+        let again = mark(&mut reached, node.index())?;
+        steps.push(Step {
+            node,
+            parent,
+            depth,
+            again,
+        })?;
+        if again {
+            continue;
         }
+        open.push(Level {
+            nodes: node.children(),
+            parent: Some(node.index()),
+            depth: depth + 1,
+        })?;
     }
     Ok(steps)
 }
