@@ -99,27 +99,27 @@ module _ (children : ℕ → List ℕ) where
   sound none k has = absurd (contains_none k has)
   sound (again {node = n} {others = os} reached walk) k has =
       more_roots os (n ∷ os) (λ j. contains_tail n j os) (sound walk k has)
-  sound (first {node = n} {others = os} {below = bs} {after = as} new inner outer) k has =
-      elim (contains_cases n k (firsts (bs ++ as)) has) [
+  sound (first {node = n} {others = os} {below = bs} {after = ws} new inner outer) k has =
+      elim (contains_cases n k (firsts (bs ++ ws)) has) [
         | inl same ↦ root (subst (λ (j : ℕ). Contains (n ∷ os) j) same (contains_head n os))
-        | inr more ↦ elim (in_firsts bs as k more) [
+        | inr more ↦ elim (in_firsts bs ws k more) [
               | inl below ↦ through (n ∷ os) n (root (contains_head n os)) (sound inner k below)
               | inr after ↦ more_roots os (n ∷ os) (λ j. contains_tail n j os) (sound outer k after)
             ]
       ]
 
   -- of a node that was reached before, or is this one, or is first below this one
-  so_far : (before : List ℕ) (n k : ℕ) (bs as : List Visit)
+  so_far : (before : List ℕ) (n k : ℕ) (bs ws : List Visit)
       → Contains (before ++ n ∷ []) k ⊎ Contains (firsts bs) k
-      → Contains before k ⊎ Contains (n ∷ firsts (bs ++ as)) k
-  so_far before n k bs as has =
+      → Contains before k ⊎ Contains (n ∷ firsts (bs ++ ws)) k
+  so_far before n k bs ws has =
       elim has [
         | inl earlier ↦ elim (Contains-push_cases before n k earlier) [
               | inl old ↦ inl old
-              | inr same ↦ inr (subst (λ (j : ℕ). Contains (n ∷ firsts (bs ++ as)) j) same
-                  (contains_head n (firsts (bs ++ as))))
+              | inr same ↦ inr (subst (λ (j : ℕ). Contains (n ∷ firsts (bs ++ ws)) j) same
+                  (contains_head n (firsts (bs ++ ws))))
             ]
-        | inr below ↦ inr (contains_tail n k (firsts (bs ++ as)) (firsts_left bs as k below))
+        | inr below ↦ inr (contains_tail n k (firsts (bs ++ ws)) (firsts_left bs ws k below))
       ]
 
   again_before : (before : List ℕ) (n k : ℕ) (vs : List Visit) → Contains before n
@@ -139,25 +139,25 @@ module _ (children : ℕ → List ℕ) where
       → DepthFirst children before p d ns steps → (k : ℕ) → Contains (nodes_of steps) k
       → Contains before k ⊎ Contains (firsts steps) k
   given none k has = absurd (contains_none k has)
-  given (again {before = before} {node = n} {after = as} reached walk) k has =
-      elim (contains_cases n k (nodes_of as) has) [
+  given (again {before = before} {node = n} {after = ws} reached walk) k has =
+      elim (contains_cases n k (nodes_of ws) has) [
         | inl same ↦ inl (subst (λ (j : ℕ). Contains before j) same reached)
-        | inr more ↦ again_before before n k as reached (given walk k more)
+        | inr more ↦ again_before before n k ws reached (given walk k more)
       ]
-  given (first {before = before} {node = n} {below = bs} {after = as} new inner outer) k has =
-      elim (contains_cases n k (nodes_of (bs ++ as)) has) [
-        | inl same ↦ inr (subst (λ (j : ℕ). Contains (n ∷ firsts (bs ++ as)) j) same
-            (contains_head n (firsts (bs ++ as))))
-        | inr more ↦ elim (in_nodes bs as k more) [
-              | inl below ↦ so_far before n k bs as (given inner k below)
+  given (first {before = before} {node = n} {below = bs} {after = ws} new inner outer) k has =
+      elim (contains_cases n k (nodes_of (bs ++ ws)) has) [
+        | inl same ↦ inr (subst (λ (j : ℕ). Contains (n ∷ firsts (bs ++ ws)) j) same
+            (contains_head n (firsts (bs ++ ws))))
+        | inr more ↦ elim (in_nodes bs ws k more) [
+              | inl below ↦ so_far before n k bs ws (given inner k below)
               | inr after ↦ elim (given outer k after) [
-                    | inl earlier ↦ so_far before n k bs as
+                    | inl earlier ↦ so_far before n k bs ws
                         (elim (Contains-append_cases (before ++ n ∷ []) (nodes_of bs) k earlier) [
                           | inl old ↦ inl old
                           | inr below ↦ given inner k below
                         ])
-                    | inr later ↦ inr (contains_tail n k (firsts (bs ++ as))
-                        (firsts_right bs as k later))
+                    | inr later ↦ inr (contains_tail n k (firsts (bs ++ ws))
+                        (firsts_right bs ws k later))
                   ]
             ]
       ]
@@ -167,18 +167,18 @@ module _ (children : ℕ → List ℕ) where
       → DepthFirst children before p d ns steps → (k : ℕ) → Contains ns k
       → Contains (nodes_of steps) k
   siblings_given none k has = has
-  siblings_given (again {node = n} {others = os} {after = as} reached walk) k has =
+  siblings_given (again {node = n} {others = os} {after = ws} reached walk) k has =
       elim (contains_cases n k os has) [
-        | inl same ↦ subst (λ (j : ℕ). Contains (n ∷ nodes_of as) j) same
-            (contains_head n (nodes_of as))
-        | inr more ↦ contains_tail n k (nodes_of as) (siblings_given walk k more)
+        | inl same ↦ subst (λ (j : ℕ). Contains (n ∷ nodes_of ws) j) same
+            (contains_head n (nodes_of ws))
+        | inr more ↦ contains_tail n k (nodes_of ws) (siblings_given walk k more)
       ]
-  siblings_given (first {node = n} {others = os} {below = bs} {after = as} new inner outer) k has =
+  siblings_given (first {node = n} {others = os} {below = bs} {after = ws} new inner outer) k has =
       elim (contains_cases n k os has) [
-        | inl same ↦ subst (λ (j : ℕ). Contains (n ∷ nodes_of (bs ++ as)) j) same
-            (contains_head n (nodes_of (bs ++ as)))
-        | inr more ↦ contains_tail n k (nodes_of (bs ++ as))
-            (nodes_right bs as k (siblings_given outer k more))
+        | inl same ↦ subst (λ (j : ℕ). Contains (n ∷ nodes_of (bs ++ ws)) j) same
+            (contains_head n (nodes_of (bs ++ ws)))
+        | inr more ↦ contains_tail n k (nodes_of (bs ++ ws))
+            (nodes_right bs ws k (siblings_given outer k more))
       ]
 
   -- each child of a node that is first in a step was reached before, or is first in a step
@@ -186,23 +186,23 @@ module _ (children : ℕ → List ℕ) where
       → DepthFirst children before p d ns steps → (m k : ℕ) → Contains (firsts steps) m
       → Contains (children m) k → Contains before k ⊎ Contains (firsts steps) k
   children_given none m k has named = absurd (contains_none m has)
-  children_given (again {before = before} {node = n} {after = as} reached walk) m k has named =
-      again_before before n k as reached (children_given walk m k has named)
-  children_given (first {before = before} {node = n} {below = bs} {after = as} new inner outer) m k
+  children_given (again {before = before} {node = n} {after = ws} reached walk) m k has named =
+      again_before before n k ws reached (children_given walk m k has named)
+  children_given (first {before = before} {node = n} {below = bs} {after = ws} new inner outer) m k
       has named =
-      elim (contains_cases n m (firsts (bs ++ as)) has) [
-        | inl same ↦ so_far before n k bs as (given inner k (siblings_given inner k
+      elim (contains_cases n m (firsts (bs ++ ws)) has) [
+        | inl same ↦ so_far before n k bs ws (given inner k (siblings_given inner k
             (subst (λ (j : ℕ). Contains (children j) k) (sym same) named)))
-        | inr more ↦ elim (in_firsts bs as m more) [
-              | inl below ↦ so_far before n k bs as (children_given inner m k below named)
+        | inr more ↦ elim (in_firsts bs ws m more) [
+              | inl below ↦ so_far before n k bs ws (children_given inner m k below named)
               | inr after ↦ elim (children_given outer m k after named) [
-                    | inl earlier ↦ so_far before n k bs as
+                    | inl earlier ↦ so_far before n k bs ws
                         (elim (Contains-append_cases (before ++ n ∷ []) (nodes_of bs) k earlier) [
                           | inl old ↦ inl old
                           | inr below ↦ given inner k below
                         ])
-                    | inr later ↦ inr (contains_tail n k (firsts (bs ++ as))
-                        (firsts_right bs as k later))
+                    | inr later ↦ inr (contains_tail n k (firsts (bs ++ ws))
+                        (firsts_right bs ws k later))
                   ]
             ]
       ]
@@ -214,10 +214,10 @@ module _ (children : ℕ → List ℕ) where
   new_ones none k has old = contains_none k has
   new_ones (again {before = before} {node = n} reached walk) k has old =
       new_ones walk k has (Contains-append_left before (n ∷ []) k old)
-  new_ones (first {before = before} {node = n} {below = bs} {after = as} new inner outer) k has old =
-      elim (contains_cases n k (firsts (bs ++ as)) has) [
+  new_ones (first {before = before} {node = n} {below = bs} {after = ws} new inner outer) k has old =
+      elim (contains_cases n k (firsts (bs ++ ws)) has) [
         | inl same ↦ new (subst (λ (j : ℕ). Contains before j) (sym same) old)
-        | inr more ↦ elim (in_firsts bs as k more) [
+        | inr more ↦ elim (in_firsts bs ws k more) [
               | inl below ↦ new_ones inner k below (Contains-append_left before (n ∷ []) k old)
               | inr after ↦ new_ones outer k after (Contains-append_left (before ++ n ∷ [])
                   (nodes_of bs) k (Contains-append_left before (n ∷ []) k old))
@@ -228,13 +228,13 @@ module _ (children : ℕ → List ℕ) where
       → DepthFirst children before p d ns steps → NoneTwice (firsts steps)
   once none = tt
   once (again reached walk) = once walk
-  once (first {before = before} {node = n} {below = bs} {after = as} new inner outer) =
-      (λ has. elim (in_firsts bs as n has) [
+  once (first {before = before} {node = n} {below = bs} {after = ws} new inner outer) =
+      (λ has. elim (in_firsts bs ws n has) [
         | inl below ↦ new_ones inner n below (Contains-push before n)
         | inr after ↦ new_ones outer n after (Contains-append_left (before ++ n ∷ []) (nodes_of bs) n
             (Contains-push before n))
-      ], subst NoneTwice (sym (firsts-append bs as))
-      (twice-append (firsts bs) (firsts as) (once inner) (once outer) (λ k below after.
+      ], subst NoneTwice (sym (firsts-append bs ws))
+      (twice-append (firsts bs) (firsts ws) (once inner) (once outer) (λ k below after.
       new_ones outer k after (Contains-append_right (before ++ n ∷ []) (nodes_of bs) k
       (firsts_are_nodes bs k below)))))
 
@@ -259,8 +259,8 @@ module _ (children : ℕ → List ℕ) where
     once = once walk;
   }
 
-  joined : (v : Visit) (as bs cs ds : List Visit) → as ≡ cs → bs ≡ ds → v ∷ as ++ bs ≡ v ∷ cs ++ ds
-  joined v as bs cs ds same others = cc
+  joined : (v : Visit) (xs bs cs ds : List Visit) → xs ≡ cs → bs ≡ ds → v ∷ xs ++ bs ≡ v ∷ cs ++ ds
+  joined v xs bs cs ds same others = cc
 
   pub one_walk : {before : List ℕ} {p : Option ℕ} {d : ℕ} {ns : List ℕ} {steps others : List Visit}
       → DepthFirst children before p d ns steps → DepthFirst children before p d ns others
@@ -272,11 +272,11 @@ module _ (children : ℕ → List ℕ) where
   one_walk (again reached walk) (first new inner outer) = absurd (new reached)
   one_walk (first new inner outer) (again reached walk) = absurd (new reached)
   one_walk (first {before = before} {parent = p} {depth = d} {node = n} {others = os} {below = bs}
-      {after = as} new inner outer)
-      (first {below = bs'} {after = as'} new' inner' outer') =
+      {after = ws} new inner outer)
+      (first {below = bs'} {after = ws'} new' inner' outer') =
       let below : bs ≡ bs' = one_walk inner inner' in
-      let moved : DepthFirst children ((before ++ n ∷ []) ++ nodes_of bs) p d os as' =
+      let moved : DepthFirst children ((before ++ n ∷ []) ++ nodes_of bs) p d os ws' =
       subst (λ (vs : List Visit).
-      DepthFirst children ((before ++ n ∷ []) ++ nodes_of vs) p d os as') (sym below) outer' in
-      joined (record { node = n; parent = p; depth = d; again = false }) bs as bs' as' below
+      DepthFirst children ((before ++ n ∷ []) ++ nodes_of vs) p d os ws') (sym below) outer' in
+      joined (record { node = n; parent = p; depth = d; again = false }) bs ws bs' ws' below
       (one_walk outer moved)

@@ -11,11 +11,11 @@ pub record Siblings : Type 0 where
   pub parent : Option ℕ
   pub depth : ℕ
 
-pub visit_of : ℕ → Option ℕ → ℕ → Bool → Visit
-abbrev visit_of n p d b = record { node = n; parent = p; depth = d; again = b }
+abbrev pub visit_of : ℕ → Option ℕ → ℕ → Bool → Visit
+visit_of n p d b = record { node = n; parent = p; depth = d; again = b }
 
-pub level_of : List ℕ → Option ℕ → ℕ → Siblings
-abbrev level_of ns p d = record { nodes = ns; parent = p; depth = d }
+abbrev pub level_of : List ℕ → Option ℕ → ℕ → Siblings
+level_of ns p d = record { nodes = ns; parent = p; depth = d }
 
 module _ (children : ℕ → List ℕ) where
   abbrev pub Rest : List ℕ → List Siblings → List Visit → Type 0

@@ -18,7 +18,8 @@ use Rattle.gltf_walk.specs.DepthFirst.{Visit, DepthFirst}
 use Rattle.gltf_walk.specs.Walks.{children_lists, children_of, document_of, nodes_left, visit, IsStep}
 use Rattle.gltf_walk.specs.Walks.{IsWalk}
 use Rattle.gltf_walk.specs.declared.step.Step.{Step}
-use Rattle.gltf_walk.specs.declared.walking.Level.{Level}
+use Rattle.gltf_handles.specs.declared.list.Indexed.{Ghosts as Indexes}
+use Rattle.gltf_handles.specs.declared.list.List.{List as Handles}
 use Rattle.gltf_walk.proofs.Costs.{cost, cost_reached, cost_same, open_cost}
 use Rattle.gltf_walk.proofs.Rests.{Siblings, level_of}
 use Rattle.gltf_walk.proofs.Slices.{left_first, none_left, all_left}
@@ -29,30 +30,11 @@ use Rattle.gltf_walk.proofs.Keeping.{kept_whole}
 abbrev pub is_marked : List Bool → ℕ → Bool
 is_marked reached k = slice_index_or reached k false
 
+-- what the code keeps of a level
+abbrev pub Level : (D : Type 0) (G : Ghosts D) → Indexes (NamedNodes D G) (Node D G) → Type 0
+Level D G I = Handles (NamedNodes D G) (Node D G) I × Option ℕ × ℕ
+
 module _ {D : Type 0} {G : Ghosts D} where
-  abbrev pub siblings_of : Level D G → Siblings
-  siblings_of l = level_of (nodes_left (position l.nodes)) l.parent l.depth
-
-  -- the deepest level stands last in the code
-  abbrev pub levels_of : List (Level D G) → List Siblings
-  levels_of open = reverse (map siblings_of open)
-
-  pub levels_more : (open : List (Level D G)) (level : Level D G)
-      → levels_of (open ++ level ∷ []) ≡ siblings_of level ∷ levels_of open
-  levels_more open level =
-      ap reverse (map-append siblings_of open (level ∷ []))
-      ∙ reverse-append (map siblings_of open) (siblings_of level ∷ [])
-
-  pub record IsLevel (r : Root) (steps : ℕ) (l : Level D G) : Type 0 where
-    pub document : document_of (position l.nodes) ≡ r
-    pub shallow : l.depth ≤ steps
-
-  pub record Keeps (r : Root) (roots : List ℕ) (steps : List (Step D G)) (reached : List Bool)
-      (open : List (Level D G)) : Type 0 where
-    pub kept : Kept (children_of r) roots (map visit steps) (is_marked reached) (levels_of open)
-    pub handles : All (IsStep r) steps
-    pub levels : All (IsLevel r (length steps)) open
-
   -- a node is taken from the siblings of a level
   pub record Taken (r : Root) (old new : Position (NamedNodes D G)) (node : Node D G) : Type 0 where
     pub left : nodes_left old ≡ (node_handle node).index ∷ nodes_left new
@@ -123,57 +105,82 @@ module _ {D : Type 0} {G : Ghosts D} where
       (node_handle node).index (node_handle node).json.children.items []
       (children_listed r node is_node)), named.source.0 ∙ is_node.document)
 
-  pub keeps_start : (roots : Level D G) → roots.parent ≡ None → roots.depth ≡ 0
-      → Keeps (document_of (position roots.nodes)) (nodes_left (position roots.nodes)) [] []
+module _ {D : Type 0} {G : Ghosts D}
+    {I : Indexes (NamedNodes D G) (Node D G)} where
+  abbrev pub siblings_of : Level D G I → Siblings
+  siblings_of l = level_of (nodes_left (position l.0)) l.1 l.2
+
+  -- the deepest level stands last in the code
+  abbrev pub levels_of : List (Level D G I) → List Siblings
+  levels_of ls = reverse (map siblings_of ls)
+
+  pub levels_more : (ls : List (Level D G I)) (level : Level D G I)
+      → levels_of (ls ++ level ∷ []) ≡ siblings_of level ∷ levels_of ls
+  levels_more ls level =
+      ap reverse (map-append siblings_of ls (level ∷ []))
+      ∙ reverse-append (map siblings_of ls) (siblings_of level ∷ [])
+
+  pub record IsLevel (r : Root) (steps : ℕ) (l : Level D G I) : Type 0 where
+    pub document : document_of (position l.0) ≡ r
+    pub shallow : l.2 ≤ steps
+
+  pub record Keeps (r : Root) (roots : List ℕ) (steps : List (Step D G)) (reached : List Bool)
+      (ls : List (Level D G I)) : Type 0 where
+    pub kept : Kept (children_of r) roots (map visit steps) (is_marked reached) (levels_of ls)
+    pub handles : All (IsStep r) steps
+    pub levels : All (IsLevel r (length steps)) ls
+
+  pub keeps_start : (roots : Level D G I) → roots.1 ≡ None → roots.2 ≡ 0
+      → Keeps (document_of (position roots.0)) (nodes_left (position roots.0)) [] []
       (roots ∷ [])
   keeps_start roots parent depth = record {
-    kept = rw (parent, depth) (kept_start (children_of (document_of (position roots.nodes)))
-        (nodes_left (position roots.nodes)) (is_marked []) (λ k. refl));
-    handles = All-nil (IsStep (document_of (position roots.nodes)));
-    levels = All-push (IsLevel (document_of (position roots.nodes)) 0) [] roots
-        (All-nil (IsLevel (document_of (position roots.nodes)) 0))
+    kept = rw (parent, depth) (kept_start (children_of (document_of (position roots.0)))
+        (nodes_left (position roots.0)) (is_marked []) (λ k. refl));
+    handles = All-nil (IsStep (document_of (position roots.0)));
+    levels = All-push (IsLevel (document_of (position roots.0)) 0) [] roots
+        (All-nil (IsLevel (document_of (position roots.0)) 0))
         (record { document = refl; shallow = omega arith });
   }
 
   module _ (r : Root) (roots : List ℕ) (steps : List (Step D G)) (old : List Bool)
-      (all open : List (Level D G)) (level : Level D G) (is : all ≡ open ++ level ∷ [])
+      (all ls : List (Level D G I)) (level : Level D G I) (is : all ≡ ls ++ level ∷ [])
       (keeps : Keeps r roots steps old all) where
     -- what holds of the level that is popped, and of the others
-    pub popped : All (IsLevel r (length steps)) open × IsLevel r (length steps) level
-    popped = All-pop (IsLevel r (length steps)) all open (Some level) is keeps.levels
+    pub popped : All (IsLevel r (length steps)) ls × IsLevel r (length steps) level
+    popped = All-pop (IsLevel r (length steps)) all ls (Some level) is keeps.levels
 
-    kept_popped : (ns : List ℕ) → nodes_left (position level.nodes) ≡ ns
+    kept_popped : (ns : List ℕ) → nodes_left (position level.0) ≡ ns
         → Kept (children_of r) roots (map visit steps) (is_marked old)
-        (level_of ns level.parent level.depth ∷ levels_of open)
+        (level_of ns level.1 level.2 ∷ levels_of ls)
     kept_popped ns left =
         subst (λ (levels : List Siblings).
         Kept (children_of r) roots (map visit steps) (is_marked old) levels)
-        (ap levels_of is ∙ levels_more open level
-        ∙ ap (λ (xs : List ℕ). level_of xs level.parent level.depth ∷ levels_of open) left)
+        (ap levels_of is ∙ levels_more ls level
+        ∙ ap (λ (xs : List ℕ). level_of xs level.1 level.2 ∷ levels_of ls) left)
         keeps.kept
 
-    pub keeps_closed : nodes_left (position level.nodes) ≡ [] → Keeps r roots steps old open
+    pub keeps_closed : nodes_left (position level.0) ≡ [] → Keeps r roots steps old ls
     keeps_closed none = record {
-      kept = kept_closed (children_of r) roots (map visit steps) (is_marked old) level.parent
-          level.depth (levels_of open) (kept_popped [] none);
+      kept = kept_closed (children_of r) roots (map visit steps) (is_marked old) level.1
+          level.2 (levels_of ls) (kept_popped [] none);
       handles = keeps.handles;
       levels = popped.0;
     }
 
     cost_all : open_cost (levels_of all)
-        ≡ suc (length (nodes_left (position level.nodes))) + open_cost (levels_of open)
-    cost_all = ap (λ (levels : List (Level D G)). open_cost (levels_of levels)) is
-        ∙ ap open_cost (levels_more open level)
+        ≡ suc (length (nodes_left (position level.0))) + open_cost (levels_of ls)
+    cost_all = ap (λ (levels : List (Level D G I)). open_cost (levels_of levels)) is
+        ∙ ap open_cost (levels_more ls level)
 
     pub smaller_closed : (lists : List (List ℕ))
-        → open_cost (levels_of open) + cost (is_marked old) 0 lists
+        → open_cost (levels_of ls) + cost (is_marked old) 0 lists
         < open_cost (levels_of all) + cost (is_marked old) 0 lists
     smaller_closed lists = omega (arith, cost_all)
 
-    module _ (rest : Level D G) (step : Step D G) (new : List Bool)
-        (parent : rest.parent ≡ level.parent) (depth : rest.depth ≡ level.depth)
-        (step_parent : step.parent ≡ level.parent) (step_depth : step.depth ≡ level.depth)
-        (took : Taken r (position level.nodes) (position rest.nodes) step.node)
+    module _ (rest : Level D G I) (step : Step D G) (new : List Bool)
+        (parent : rest.1 ≡ level.1) (depth : rest.2 ≡ level.2)
+        (step_parent : step.parent ≡ level.1) (step_depth : step.depth ≡ level.2)
+        (took : Taken r (position level.0) (position rest.0) step.node)
         (marks : Marks (is_marked old) (is_marked new) (node_handle step.node).index) where
       more : length (steps ++ step ∷ []) ≡ length steps + 1
       more = length-append steps (step ∷ [])
@@ -181,24 +188,24 @@ module _ {D : Type 0} {G : Ghosts D} where
       handles_more : All (IsStep r) (steps ++ step ∷ [])
       handles_more = All-push (IsStep r) steps step keeps.handles took.is_node
 
-      levels_rest : All (IsLevel r (length (steps ++ step ∷ []))) (open ++ rest ∷ [])
+      levels_rest : All (IsLevel r (length (steps ++ step ∷ []))) (ls ++ rest ∷ [])
       levels_rest =
-          All-push (IsLevel r (length (steps ++ step ∷ []))) open rest
+          All-push (IsLevel r (length (steps ++ step ∷ []))) ls rest
           (All-weaker (IsLevel r (length steps)) (IsLevel r (length (steps ++ step ∷ [])))
-          (λ l h. record { document = h.document; shallow = omega (arith, more, h.shallow) }) open
+          (λ l h. record { document = h.document; shallow = omega (arith, more, h.shallow) }) ls
           popped.0)
           (record { document = took.document; shallow = omega (arith, more, popped.1.shallow) })
 
-      cost_rest : open_cost (levels_of (open ++ rest ∷ []))
-          ≡ suc (length (nodes_left (position rest.nodes))) + open_cost (levels_of open)
-      cost_rest = ap open_cost (levels_more open rest)
+      cost_rest : open_cost (levels_of (ls ++ rest ∷ []))
+          ≡ suc (length (nodes_left (position rest.0))) + open_cost (levels_of ls)
+      cost_rest = ap open_cost (levels_more ls rest)
 
-      one_less : length (nodes_left (position level.nodes))
-          ≡ suc (length (nodes_left (position rest.nodes)))
+      one_less : length (nodes_left (position level.0))
+          ≡ suc (length (nodes_left (position rest.0)))
       one_less = ap length took.left
 
       pub smaller_again : is_marked old (node_handle step.node).index ≡ true
-          → open_cost (levels_of (open ++ rest ∷ [])) + cost (is_marked new) 0 (children_lists r)
+          → open_cost (levels_of (ls ++ rest ∷ [])) + cost (is_marked new) 0 (children_lists r)
           < open_cost (levels_of all) + cost (is_marked old) 0 (children_lists r)
       smaller_again before =
           let unchanged : (k : ℕ) → 0 ≤ k → is_marked new k ≡ is_marked old k =
@@ -211,22 +218,22 @@ module _ {D : Type 0} {G : Ghosts D} where
           cost_same (is_marked old) (is_marked new) 0 (children_lists r) unchanged in
           omega (arith, cost_all, cost_rest, one_less, same)
 
-      pub smaller_first : (child : Level D G)
+      pub smaller_first : (child : Level D G I)
           → is_marked old (node_handle step.node).index ≡ false
           → AreNamed (node_handle step.node).document (node_handle step.node).json.children.items
-          (position child.nodes)
-          → open_cost (levels_of ((open ++ rest ∷ []) ++ child ∷ []))
+          (position child.0)
+          → open_cost (levels_of ((ls ++ rest ∷ []) ++ child ∷ []))
           + cost (is_marked new) 0 (children_lists r)
           < open_cost (levels_of all) + cost (is_marked old) 0 (children_lists r)
       smaller_first child before named =
           let n : ℕ = (node_handle step.node).index in
-          let more_levels : open_cost (levels_of ((open ++ rest ∷ []) ++ child ∷ []))
-          ≡ suc (length (nodes_left (position child.nodes)))
-          + open_cost (levels_of (open ++ rest ∷ [])) =
-          ap open_cost (levels_more (open ++ rest ∷ []) child) in
-          let below : length (nodes_left (position child.nodes))
+          let more_levels : open_cost (levels_of ((ls ++ rest ∷ []) ++ child ∷ []))
+          ≡ suc (length (nodes_left (position child.0)))
+          + open_cost (levels_of (ls ++ rest ∷ [])) =
+          ap open_cost (levels_more (ls ++ rest ∷ []) child) in
+          let below : length (nodes_left (position child.0))
           ≡ length (node_handle step.node).json.children.items =
-          ap length (children_all step.node (position child.nodes) named) in
+          ap length (children_all step.node (position child.0) named) in
           let fewer : cost (is_marked old) 0 (children_lists r)
           ≡ suc (length (node_handle step.node).json.children.items)
           + cost (is_marked new) 0 (children_lists r) =
@@ -237,34 +244,34 @@ module _ {D : Type 0} {G : Ghosts D} where
 
       pub keeps_again : step.again ≡ true
           → is_marked old (node_handle step.node).index ≡ true
-          → Keeps r roots (steps ++ step ∷ []) new (open ++ rest ∷ [])
+          → Keeps r roots (steps ++ step ∷ []) new (ls ++ rest ∷ [])
       keeps_again again before = record {
-        kept = rw (map-append visit steps (step ∷ []), levels_more open rest, parent, depth,
+        kept = rw (map-append visit steps (step ∷ []), levels_more ls rest, parent, depth,
             step_parent, step_depth, again)
             (kept_again (children_of r) roots (map visit steps) (is_marked old) (is_marked new)
-            (node_handle step.node).index (nodes_left (position rest.nodes)) level.parent
-            level.depth (levels_of open) (kept_popped _ took.left) before marks);
+            (node_handle step.node).index (nodes_left (position rest.0)) level.1
+            level.2 (levels_of ls) (kept_popped _ took.left) before marks);
         handles = handles_more;
         levels = levels_rest;
       }
 
-      pub keeps_first : (child : Level D G) → step.again ≡ false
+      pub keeps_first : (child : Level D G I) → step.again ≡ false
           → is_marked old (node_handle step.node).index ≡ false
-          → child.parent ≡ Some (node_handle step.node).index → child.depth ≡ level.depth + 1
+          → child.1 ≡ Some (node_handle step.node).index → child.2 ≡ level.2 + 1
           → AreNamed (node_handle step.node).document (node_handle step.node).json.children.items
-          (position child.nodes)
-          → Keeps r roots (steps ++ step ∷ []) new ((open ++ rest ∷ []) ++ child ∷ [])
+          (position child.0)
+          → Keeps r roots (steps ++ step ∷ []) new ((ls ++ rest ∷ []) ++ child ∷ [])
       keeps_first child again before child_parent child_depth named =
-          let below = children_left r step.node (position child.nodes) took.is_node named in
+          let below = children_left r step.node (position child.0) took.is_node named in
           record {
-            kept = rw (map-append visit steps (step ∷ []), levels_more (open ++ rest ∷ []) child,
-                levels_more open rest, parent, depth, step_parent, step_depth, again, child_parent,
+            kept = rw (map-append visit steps (step ∷ []), levels_more (ls ++ rest ∷ []) child,
+                levels_more ls rest, parent, depth, step_parent, step_depth, again, child_parent,
                 child_depth, below.0)
                 (kept_first (children_of r) roots (map visit steps) (is_marked old)
-                (is_marked new) (node_handle step.node).index (nodes_left (position rest.nodes))
-                level.parent level.depth (levels_of open) (kept_popped _ took.left) before marks);
+                (is_marked new) (node_handle step.node).index (nodes_left (position rest.0))
+                level.1 level.2 (levels_of ls) (kept_popped _ took.left) before marks);
             handles = handles_more;
-            levels = All-push (IsLevel r (length (steps ++ step ∷ []))) (open ++ rest ∷ []) child
+            levels = All-push (IsLevel r (length (steps ++ step ∷ []))) (ls ++ rest ∷ []) child
                 levels_rest
                 (record {
                   document = below.1;
@@ -273,8 +280,11 @@ module _ {D : Type 0} {G : Ghosts D} where
           }
 
   pub keeps_whole : (r : Root) (roots : List ℕ) (steps : List (Step D G)) (reached : List Bool)
-      → Keeps r roots steps reached [] → IsWalk r roots steps
-  keeps_whole r roots steps reached keeps = record {
-    order = kept_whole (children_of r) roots (map visit steps) (is_marked reached) keeps.kept;
+      (ls : List (Level D G I)) → ls ≡ [] → Keeps r roots steps reached ls → IsWalk r roots steps
+  keeps_whole r roots steps reached ls none keeps = record {
+    order = kept_whole (children_of r) roots (map visit steps) (is_marked reached)
+        (subst (λ (levels : List Siblings).
+        Kept (children_of r) roots (map visit steps) (is_marked reached) levels)
+        (ap levels_of none) keeps.kept);
     handles = keeps.handles;
   }

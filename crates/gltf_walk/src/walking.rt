@@ -12,13 +12,8 @@ use gltf_scene::scene::Scene;
 use gltf_scene::scene::iter::{Children, Nodes};
 use std::alloc::{AllocError, Global};
 
-/// Siblings that are left.
-#[derive(Drop)]
-struct Level<'a, D: Records> {
-    nodes: Children<'a, D>,
-    parent: Option<usize>,
-    depth: usize,
-}
+/// Siblings that are left, the index of their parent, and how many ancestors they have.
+type Level<'a, D> = (Children<'a, D>, Option<usize>, usize);
 
 /// The nodes of a list and those below them, depth first, parents before children, siblings in
 /// stored order (glTF 2.0, section 3.5.1, "Nodes and Hierarchy"). A node that is reached a second
@@ -37,16 +32,11 @@ pub fn walk<'a, D: Records>(
 {
     let mut steps = Vec::new(alloc);
     let mut reached = Vec::new(alloc);
-    let mut open = Vec::new(alloc);
-    open.push(Level {
-        nodes: roots,
-        parent: None,
-        depth: 0,
-    })?;
-    'levels: while let Some(mut level) = open.pop() {
-        let Some(node) = level.nodes.next() else { continue };
-        let (parent, depth) = (level.parent, level.depth);
-        open.push(level)?;
+    let mut open: Vec<Level<'a, D>> = Vec::new(alloc);
+    open.push((roots, None, 0))?;
+    'levels: while let Some((mut siblings, parent, depth)) = open.pop() {
+        let Some(node) = siblings.next() else { continue };
+        open.push((siblings, parent, depth))?;
         let again = mark(&mut reached, node.index())?;
         steps.push(Step {
             node,
@@ -57,11 +47,7 @@ pub fn walk<'a, D: Records>(
         if again {
             continue;
         }
-        open.push(Level {
-            nodes: node.children(),
-            parent: Some(node.index()),
-            depth: depth + 1,
-        })?;
+        open.push((node.children(), Some(node.index()), depth + 1))?;
     }
     Ok(steps)
 }
