@@ -1,3 +1,0 @@
-pub mod DepthFirst
-pub mod Reached
-pub mod Walks
