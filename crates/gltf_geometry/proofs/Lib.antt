@@ -1,0 +1,4 @@
+pub mod Ranges
+pub mod Loops
+pub mod Positions
+pub mod Keyframes

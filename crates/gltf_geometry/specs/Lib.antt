@@ -1,0 +1,5 @@
+pub mod Vertices
+pub mod Topologies
+pub mod Modes
+pub mod Items
+pub mod Splines
