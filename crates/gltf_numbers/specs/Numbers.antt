@@ -1,0 +1,37 @@
+-- Numbers in JSON (RFC 8259, section 6), as the nearest doubles.
+use Rattle.std.specs.Prelude.{ℕ, List, [], ◌∷◌, Option, Some, None, Float, length, ◌==◌}
+use Rattle.std.specs.Prelude.{option_and_then, option_map, if◌then◌else◌}
+use Rattle.serde_json.specs.Data.{Data, Items, no_items, item}
+use Rattle.serde_json.specs.Find.{as_array, as_number, to_float}
+use Rattle.serde_json.specs.View.{view}
+use Rattle.serde_json.specs.declared.value.Value.{Value}
+
+-- the number that a value is; none of any other value
+abbrev pub number_of : Data → Option Float
+number_of d = option_map to_float (as_number d)
+
+-- the numbers of values that are all numbers; none where one is not
+abbrev pub numbers_in : List Data → Option (List Float)
+numbers_in [] = Some []
+numbers_in (d ∷ ds) =
+    option_and_then (λ x. option_map (λ xs. x ∷ xs) (numbers_in ds)) (number_of d)
+
+-- the values of a list
+abbrev pub values_of : Items → List Data
+values_of no_items = []
+values_of (item d ds) = d ∷ values_of ds
+
+-- the numbers of a list of exactly n numbers; none of any other value
+abbrev pub exactly : ℕ → Data → Option (List Float)
+exactly n d =
+    option_and_then (λ ds. if length ds == n then numbers_in ds else None)
+    (option_map values_of (as_array d))
+
+-- the same of a member that may be absent: then the default is meant
+abbrev pub number_or : Float → Option Value → Option Float
+number_or default None = Some default
+number_or default (Some v) = number_of (view v)
+
+abbrev pub numbers_or : ℕ → List Float → Option Value → Option (List Float)
+numbers_or n default None = Some default
+numbers_or n default (Some v) = exactly n (view v)
