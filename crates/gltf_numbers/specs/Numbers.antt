@@ -35,3 +35,18 @@ number_or default (Some v) = number_of (view v)
 abbrev pub numbers_or : ℕ → List Float → Option Value → Option (List Float)
 numbers_or n default None = Some default
 numbers_or n default (Some v) = exactly n (view v)
+
+-- the number of a member that may be absent; none where it is there and is no number
+abbrev pub number_if : Option Value → Option (Option Float)
+number_if None = Some None
+number_if (Some v) = option_map Some (number_of (view v))
+
+-- the number of a member that has to be there
+abbrev pub required_number : Option Value → Option Float
+required_number None = None
+required_number (Some v) = number_of (view v)
+
+-- what comes of numbers, where they are there
+abbrev pub given : {A B : Type 0} → Option A → (A → Option B) → Option B
+given None next = None
+given (Some x) next = next x

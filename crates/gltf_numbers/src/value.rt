@@ -1,7 +1,8 @@
 //! Numbers and lists of numbers.
 ghost use Rattle.std.specs.Prelude.{◌≡◌, length, map};
 ghost use Rattle.std.specs.Option.{option_copied};
-ghost use Rattle.gltf_numbers.specs.Numbers.{number_of, numbers_in, exactly, number_or, numbers_or};
+ghost use Rattle.gltf_numbers.specs.Numbers.{number_of, numbers_in, exactly, number_if};
+ghost use Rattle.gltf_numbers.specs.Numbers.{number_or, numbers_or};
 ghost use Rattle.serde_json.specs.View.{view};
 
 use serde_json::Value;
@@ -34,6 +35,17 @@ pub fn number_or(member: Option<&Value>, default: f64) -> Option<f64>
     match member {
         Some(value) => number(value),
         None => Some(default),
+    }
+}
+
+/// The number of a member that may be absent, `Some(None)` where it is; None where the member is
+/// there and is no number.
+pub fn number_if(member: Option<&Value>) -> Option<Option<f64>>
+    ensures { result ≡ number_if (option_copied member.entry) }
+{
+    match member {
+        Some(value) => Some(Some(number(value)?)),
+        None => Some(None),
     }
 }
 
