@@ -1,16 +1,17 @@
 -- What a run of values, or of members, amounts to: an array, an object, or no value.
 use Rattle.std.specs.Prelude.{ℕ, zero, suc, ◌-◌, ◌<◌, ◌≤◌, List, [], ◌∷◌, ◌++◌, length}
-use Rattle.std.specs.Prelude.{Option, Some, None, option_map, option_and_then}
-use Rattle.std.proofs.Common.{◌≡◌, refl, sym, ap, subst, ◌∙◌, arith}
+use Rattle.std.specs.Prelude.{Option, Some, None, option_map, option_and_then, false}
+use Rattle.std.proofs.Common.{◌≡◌, refl, sym, ap, subst, ◌∙◌, arith, true≢false}
 use Rattle.json.specs.Token.{Token}
 use Rattle.json.specs.Json as json
 use Rattle.json.specs.Json.{Json, parse_map, after_end_array, read_key, items, members, value}
+use Rattle.json.specs.Reads.{opens}
 use Rattle.json.proofs.Grammar.{left, value_is, value-begin_array, value-begin_object}
 use Rattle.json.proofs.Grammar.{items_end, items_fail, items_more, skip_value-shorter}
 use Rattle.json.proofs.Grammar.{members_end, members_no_key, members_fail, members_more}
 use Rattle.json.proofs.Grammar.{read_key-shorter}
-use Rattle.serde_json.specs.Data.{Data, array, object, item, Members, no_members, put}
-use Rattle.serde_json.specs.Read.{of_json, of_items, of_members, converted}
+use Rattle.serde_json.specs.Data.{Data, null, boolean, number, string, array, object, item, Members, no_members, put}
+use Rattle.serde_json.specs.Read.{number_of, of_json, of_items, of_members, converted}
 use Rattle.serde_json.specs.View.{items_of}
 use Rattle.gltf_json_tokens.specs.Tokens.{data_at}
 use Rattle.gltf_json_tokens.specs.Runs.{Items, Named, put_all}
@@ -42,6 +43,39 @@ pub data_at-shorter : (depth : ℕ) (ts : List Token) (d : Data) (after : List T
 data_at-shorter depth ts d after e =
     skip_value-shorter depth ts after (ap left (parsed depth ts d after e).1)
 
+-- ---- a value of one token
+
+-- what a token stands for that opens nothing
+abbrev pub alone : Token → Option Data
+alone Token.begin_object = None
+alone Token.end_object = None
+alone Token.begin_array = None
+alone Token.end_array = None
+alone (Token.key s) = None
+alone (Token.string s) = Some (string s)
+alone (Token.number s) = option_map number (number_of s)
+alone (Token.boolean b) = Some (boolean b)
+alone Token.null = Some null
+alone Token.bad = None
+
+pub data_at-alone : (depth : ℕ) (t : Token) (ts : List Token) → opens (t ∷ ts) ≡ false
+    → data_at depth (t ∷ ts) ≡ option_map (λ d. (d, ts)) (alone t)
+data_at-alone depth Token.begin_object ts e = absurd (true≢false e)
+data_at-alone depth Token.end_object ts e = ap (converted of_json) (value_is depth _)
+data_at-alone depth Token.begin_array ts e = absurd (true≢false e)
+data_at-alone depth Token.end_array ts e = ap (converted of_json) (value_is depth _)
+data_at-alone depth (Token.key s) ts e = ap (converted of_json) (value_is depth _)
+data_at-alone depth (Token.string s) ts e = ap (converted of_json) (value_is depth _)
+data_at-alone depth (Token.number s) ts e = ap (converted of_json) (value_is depth _)
+data_at-alone depth (Token.boolean b) ts e = ap (converted of_json) (value_is depth _)
+data_at-alone depth Token.null ts e = ap (converted of_json) (value_is depth _)
+data_at-alone depth Token.bad ts e = ap (converted of_json) (value_is depth _)
+
+pub data_at-no_token : (depth : ℕ) → data_at depth [] ≡ None
+data_at-no_token depth = ap (converted of_json) (value_is depth [])
+
+-- ---- conversions that fail
+
 none_before : {A B : Type 0} (f : A → B) (x : Option A) → option_map f x ≡ None → x ≡ None
 none_before f None e = refl
 none_before f (Some a) e = absurd (cc)
@@ -56,7 +90,8 @@ goes_on depth (Token.begin_object ∷ ts) d after e = refl
 goes_on depth (Token.end_object ∷ ts) d after e = refl
 goes_on depth (Token.begin_array ∷ ts) d after e = refl
 goes_on depth (Token.end_array ∷ ts) d after e =
-    let none : None ≡ Some (d, after) = ap (converted of_json) (sym (value_is depth _)) ∙ e in
+    let none : ◌≡◌ {A = Option (Data × List Token)} None (Some (d, after)) =
+        sym (data_at-alone depth Token.end_array ts refl) ∙ e in
     absurd (cc)
 goes_on depth (Token.key s ∷ ts) d after e = refl
 goes_on depth (Token.string s ∷ ts) d after e = refl
@@ -114,25 +149,25 @@ module _ (depth : ℕ) where
       → converted of_json o ≡ None → after_end_array ts ≡ None
       → converted of_items (items (value depth) n ts) ≡ None
   unfolding items
-  items_without n ts None is e open =
-      ap (converted of_items) (items_fail (value depth) n ts open is)
-  items_without zero ts (Some p) is e open = refl
-  items_without (suc n) ts (Some p) is e open =
-      ap (converted of_items) (items_more (value depth) (suc n) ts p.1 p.0 (omega arith) open is)
+  items_without n ts None is e going =
+      ap (converted of_items) (items_fail (value depth) n ts going is)
+  items_without zero ts (Some p) is e going = refl
+  items_without (suc n) ts (Some p) is e going =
+      ap (converted of_items) (items_more (value depth) (suc n) ts p.1 p.0 (omega arith) going is)
       ∙ spoiled p.0 _ (none_before _ (of_json p.0) e)
 
   items_broken : (n : ℕ) (ts : List Token) (ds : List Data) (rest : List Token)
       → Items depth ts ds rest → after_end_array rest ≡ None → data_at depth rest ≡ None
       → converted of_items (items (value depth) n ts) ≡ None
   unfolding items
-  items_broken n ts [] rest run open e =
-      items_without n ts _ refl (ap (data_at depth) run ∙ e) (ap after_end_array run ∙ open)
-  items_broken zero ts (d ∷ ds) rest run open e = refl
-  items_broken (suc n) ts (d ∷ ds) rest run open e =
+  items_broken n ts [] rest run going e =
+      items_without n ts _ refl (ap (data_at depth) run ∙ e) (ap after_end_array run ∙ going)
+  items_broken zero ts (d ∷ ds) rest run going e = refl
+  items_broken (suc n) ts (d ∷ ds) rest run going e =
       let first = parsed depth ts d run.0 run.1 in
       let goes : after_end_array ts ≡ None = goes_on depth ts d run.0 run.1 in
       ap (converted of_items) (items_more (value depth) (suc n) ts run.0 first.0 (omega arith) goes first.1)
-      ∙ spoiled_later first.0 _ (items_broken (suc n - 1) run.0 ds rest run.2 open e)
+      ∙ spoiled_later first.0 _ (items_broken (suc n - 1) run.0 ds rest run.2 going e)
 
 -- an array is a run of values with its closing bracket
 pub array_closed : (depth : ℕ) (ts : List Token) (ds : List Data) (rest end : List Token)
@@ -147,9 +182,10 @@ array_closed depth ts ds rest end some run closes =
 pub array_broken : (depth : ℕ) (ts : List Token) (ds : List Data) (rest : List Token)
     → 0 < depth → Items (depth - 1) ts ds rest → after_end_array rest ≡ None
     → data_at (depth - 1) rest ≡ None → data_at depth (Token.begin_array ∷ ts) ≡ None
-array_broken depth ts ds rest some run open e =
+array_broken depth ts ds rest some run going e =
     ap (converted of_json) (value-begin_array depth ts some)
-    ∙ unarrayed _ (items_broken (depth - 1) (length ts) ts ds rest run open e)
+    ∙ unarrayed (items (value (depth - 1)) (length ts) ts)
+    (items_broken (depth - 1) (length ts) ts ds rest run going e)
 
 -- ---- members, one after another
 
@@ -211,26 +247,27 @@ module _ (depth : ℕ) where
   no_key : (ts : List Token) → read_key ts ≡ None → NoMembers ts
   no_key ts e n old = ap (converted (λ js. of_members js old)) (members_no_key (value depth) n ts e)
 
+  members_without : (n : ℕ) (old : Members) (ts : List Token) (k : List ℕ) (colon : List Token)
+      (o : Option (Json × List Token)) → read_key ts ≡ Some (Some k, colon)
+      → value depth colon ≡ o → converted of_json o ≡ None
+      → converted (λ js. of_members js old) (members (value depth) n ts) ≡ None
+  unfolding members
+  members_without n old ts k colon None named is e =
+      ap (converted (λ js. of_members js old)) (members_fail (value depth) n k ts colon named is)
+  members_without zero old ts k colon (Some p) named is e = refl
+  members_without (suc n) old ts k colon (Some p) named is e =
+      ap (converted (λ js. of_members js old))
+      (members_more (value depth) (suc n) k ts colon p.1 p.0 (omega arith) named is)
+      ∙ spoiled_member k p.0 _ old (none_before _ (of_json p.0) e)
+
   no_value : (ts : List Token) (k : List ℕ) (colon : List Token)
       → read_key ts ≡ Some (Some k, colon) → data_at depth colon ≡ None → NoMembers ts
-  no_value ts k colon named e n old = go n (value depth colon) refl e
-    where
-      go : (n : ℕ) (o : Option (Json × List Token)) → value depth colon ≡ o
-          → converted of_json o ≡ None
-          → converted (λ js. of_members js old) (members (value depth) n ts) ≡ None
-      unfolding members
-      go n None is e =
-          ap (converted (λ js. of_members js old)) (members_fail (value depth) n k ts colon named is)
-      go zero (Some p) is e = refl
-      go (suc n) (Some p) is e =
-          ap (converted (λ js. of_members js old))
-          (members_more (value depth) (suc n) k ts colon p.1 p.0 (omega arith) named is)
-          ∙ spoiled_member k p.0 _ old (none_before _ (of_json p.0) e)
+  no_value ts k colon named e n old = members_without n old ts k colon _ named refl e
 
   members_broken : (ts : List Token) (ms : List (List ℕ × Data)) (rest : List Token)
       → Named depth ts ms rest → NoMembers rest → NoMembers ts
   unfolding members
-  members_broken ts [] rest run none = subst NoMembers (sym run) none
+  members_broken ts [] rest run none n old = subst NoMembers (sym run) none n old
   members_broken ts (m ∷ ms) rest run none zero old = refl
   members_broken ts (m ∷ ms) rest run none (suc n) old =
       let first = parsed depth run.0 m.1 run.1 run.3 in
@@ -254,7 +291,8 @@ object_broken : (depth : ℕ) (ts : List Token) (ms : List (List ℕ × Data)) (
     → data_at depth (Token.begin_object ∷ ts) ≡ None
 object_broken depth ts ms rest some run none =
     ap (converted of_json) (value-begin_object depth ts some)
-    ∙ unobjected _ (members_broken (depth - 1) ts ms rest run none (length ts) no_members)
+    ∙ unobjected (members (value (depth - 1)) (length ts) ts)
+    (members_broken (depth - 1) ts ms rest run none (length ts) no_members)
 
 -- where neither a brace nor a name follows there is no object
 pub object_unnamed : (depth : ℕ) (ts : List Token) (ms : List (List ℕ × Data))

@@ -23,19 +23,18 @@ pub fn build(
     ensures { IfOk result
         (λ value. IsNext depth (token_of first.entry ∷ rest.old) value rest.new) }
 {
-    let value = match first {
-        Token::Null => Value::Null,
-        Token::Bool(flag) => Value::Bool(flag),
+    match first {
+        Token::Null => Ok(Some(Value::Null)),
+        Token::Bool(flag) => Ok(Some(Value::Bool(flag))),
         Token::Number(text) => match number(text) {
-            Some(number) => Value::Number(number),
-            None => return Ok(None),
+            Some(number) => Ok(Some(Value::Number(number))),
+            None => Ok(None),
         },
-        Token::String(text) => Value::String(String::from_str(alloc, text)?),
-        Token::BeginArray => return array(alloc, rest, depth),
-        Token::BeginObject => return object(alloc, rest, depth),
-        Token::EndArray | Token::EndObject | Token::Key(_) | Token::Bad => return Ok(None),
-    };
-    Ok(Some(value))
+        Token::String(text) => Ok(Some(Value::String(String::from_str(alloc, text)?))),
+        Token::BeginArray => array(alloc, rest, depth),
+        Token::BeginObject => object(alloc, rest, depth),
+        Token::EndArray | Token::EndObject | Token::Key(_) | Token::Bad => Ok(None),
+    }
 }
 
 // The array whose opening bracket has been taken.
