@@ -91,7 +91,7 @@ goes_on depth (Token.end_object ∷ ts) d after e = refl
 goes_on depth (Token.begin_array ∷ ts) d after e = refl
 goes_on depth (Token.end_array ∷ ts) d after e =
     let none : ◌≡◌ {A = Option (Data × List Token)} None (Some (d, after)) =
-        sym (data_at-alone depth Token.end_array ts refl) ∙ e in
+    sym (data_at-alone depth Token.end_array ts refl) ∙ e in
     absurd (cc)
 goes_on depth (Token.key s ∷ ts) d after e = refl
 goes_on depth (Token.string s ∷ ts) d after e = refl

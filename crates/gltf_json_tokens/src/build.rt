@@ -40,11 +40,7 @@ pub fn build(
 // The array whose opening bracket has been taken.
 #[cycle(build)]
 #[inline(never)]
-fn array(
-    alloc: Global,
-    rest: &mut Reader<'_>,
-    depth: usize,
-) -> Result<Option<Value>, AllocError>
+fn array(alloc: Global, rest: &mut Reader<'_>, depth: usize) -> Result<Option<Value>, AllocError>
     ensures { IfOk result (λ value. IsNext depth (begin_array ∷ rest.old) value rest.new) }
 {
     if depth == 0 {
@@ -66,11 +62,7 @@ fn array(
 // The object whose opening brace has been taken. The last of several members of one name stays.
 #[cycle(build)]
 #[inline(never)]
-fn object(
-    alloc: Global,
-    rest: &mut Reader<'_>,
-    depth: usize,
-) -> Result<Option<Value>, AllocError>
+fn object(alloc: Global, rest: &mut Reader<'_>, depth: usize) -> Result<Option<Value>, AllocError>
     ensures { IfOk result (λ value. IsNext depth (begin_object ∷ rest.old) value rest.new) }
 {
     if depth == 0 {

@@ -1,4 +1,4 @@
-use Rattle.std.proofs.Common.{◌≡◌, ℕ, ◌+◌, ◌-◌, ◌*◌, ◌<◌, List, map, length}
+use Rattle.std.proofs.Common.{◌≡◌, ℕ, ◌+◌, ◌-◌, ◌*◌, List, map, length}
 use Rattle.serde_json.specs.Data.{Data, no_members}
 use Rattle.serde_json.specs.View.{view, members_view}
 use Rattle.gltf_json_tokens.specs.Runs.{Items, Named, put_all}

@@ -1,0 +1,7 @@
+use Rattle.std.proofs.Common.{ap, ◌∙◌}
+use Rattle.serde_json.specs.View.{view}
+use Rattle.gltf_json_tokens.specs.Tokens.{data_at}
+use Rattle.gltf_json_pull.proofs.table.pass.Goals as goal
+
+pub returns : goal.returns
+returns c = ?
