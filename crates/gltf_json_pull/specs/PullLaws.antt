@@ -1,11 +1,12 @@
 -- What has been found of a member, as members come in one after another.
-use Rattle.std.specs.Prelude.{ℕ, List, [], ◌∷◌, ◌++◌, Bool, true, false, not, ◌&&◌, ◌||◌, bytes_eq}
+use Rattle.std.specs.Prelude.{ℕ, zero, suc, length, List, [], ◌∷◌, ◌++◌, Bool, true, false, not, ◌&&◌, ◌||◌, bytes_eq}
 use Rattle.std.specs.Prelude.{Option, Some, None, MatchOption, option_map, option_and_then, ⊤}
+use Rattle.std.specs.Bool.{MatchBool}
 use Rattle.std.proofs.Common.{◌≡◌, refl, sym, ap, subst, ◌∙◌, true≢false}
 use Rattle.std.proofs.lemmas.Slice.Eq.{bytes_eq-Decides}
 use Rattle.json.specs.Token.{Token}
 use Rattle.json.specs.Json as json
-use Rattle.json.specs.Json.{Json, parse_map, if_last, value}
+use Rattle.json.specs.Json.{Json, parse_map, if_last, items, members, value}
 use Rattle.json.specs.Lex.{tokens}
 use Rattle.json.proofs.Grammar.{value_is}
 use Rattle.serde_json.specs.Data.{Data, null, boolean, number, string, array, object, Items}
@@ -17,10 +18,10 @@ use Rattle.serde_json.proofs.Views.{get_member-put, get_member-put_other}
 use Rattle.gltf_json_record.specs.Items.{AllRead}
 use Rattle.gltf_json_record.specs.Kind.{Kind}
 use Rattle.gltf_json_record.specs.Member.{unless_null, is_one_of}
-use Rattle.gltf_json_record.specs.Table.{first_name, other_names}
+use Rattle.gltf_json_record.specs.Table.{first_name, other_names, pair}
 use Rattle.gltf_json_tokens.specs.Tokens.{data_at}
 use Rattle.gltf_json_tokens.specs.RunLaws.{alone, data_at-alone, parsed}
-use Rattle.gltf_json_pull.specs.Pulls.{IsMember, found, are_distinct}
+use Rattle.gltf_json_pull.specs.Pulls.{IsMember, Takes, found, are_distinct}
 
 -- ---- null comes of its own token alone
 
@@ -58,16 +59,31 @@ unfolding is_null first_or
 members_not_null None o e = ap (λ p. is_null (first_or (boolean true) p)) (sym e)
 members_not_null (Some p) o e = made_not_null object (of_members p.0 no_members) p.1 o (λ a. refl) e
 
+-- the members, and the items, that the value of a token that opens them is made of
+opened_members : (depth : ℕ) (ts : List Token) → (q : Option (json.Members × List Token))
+    × (value depth (Token.begin_object ∷ ts) ≡ parse_map json.object q)
+opened_members zero ts = (None, value_is zero (Token.begin_object ∷ ts))
+opened_members (suc d) ts =
+    (members (value d) (length ts) ts, value_is (suc d) (Token.begin_object ∷ ts))
+
+opened_items : (depth : ℕ) (ts : List Token) → (q : Option (json.Items × List Token))
+    × (value depth (Token.begin_array ∷ ts) ≡ parse_map json.array q)
+opened_items zero ts = (None, value_is zero (Token.begin_array ∷ ts))
+opened_items (suc d) ts =
+    (items (value d) (length ts) ts, value_is (suc d) (Token.begin_array ∷ ts))
+
 -- the value of one token
 of_token : (depth : ℕ) (t : Token) (ts : List Token) → (t ≡ Token.null → ⊥)
     → is_null (first_or (boolean true) (data_at depth (t ∷ ts))) ≡ false
 unfolding is_null first_or
 of_token depth Token.begin_object ts other =
-    members_not_null _ _ (ap (converted of_json) (sym (value_is depth (Token.begin_object ∷ ts))))
+    let q = opened_members depth ts in
+    members_not_null q.0 _ (ap (converted of_json) (sym q.1))
 of_token depth Token.end_object ts other =
     ap (λ p. is_null (first_or (boolean true) p)) (data_at-alone depth Token.end_object ts refl)
 of_token depth Token.begin_array ts other =
-    items_not_null _ _ (ap (converted of_json) (sym (value_is depth (Token.begin_array ∷ ts))))
+    let q = opened_items depth ts in
+    items_not_null q.0 _ (ap (converted of_json) (sym q.1))
 of_token depth Token.end_array ts other =
     ap (λ p. is_null (first_or (boolean true) p)) (data_at-alone depth Token.end_array ts refl)
 of_token depth (Token.key s) ts other =
@@ -115,7 +131,7 @@ pub found_here : {T : Type 0} (K : Kind T) (own : List ℕ) (d : Data) (ms : Mem
     → IsMember K d x → (found own K).is (object (put own d ms)) x
 found_here {T} K own d ms x h =
     let P : Option Data → Type 0 = λ o. MatchOption (option_and_then unless_null o) (x ≡ None)
-        (λ e. MatchOption x ⊥ (K.is e)) in
+    (λ e. MatchOption x ⊥ (K.is e)) in
     subst P (sym (get_member-put own d ms)) h
 
 -- and one of another name leaves it
@@ -124,7 +140,7 @@ found_apart : {T : Type 0} (K : Kind T) (own name : List ℕ) (d : Data) (ms : M
     → (found own K).is (object (put name d ms)) x
 found_apart {T} K own name d ms x other h =
     let P : Option Data → Type 0 = λ o. MatchOption (option_and_then unless_null o) (x ≡ None)
-        (λ e. MatchOption x ⊥ (K.is e)) in
+    (λ e. MatchOption x ⊥ (K.is e)) in
     subst P (sym (get_member-put_other own name d ms other)) h
 
 -- ---- names
@@ -155,21 +171,67 @@ pub others_lack : (names : List (List ℕ)) (name : List ℕ) → is_one_of name
 others_lack [] name lacks = refl
 others_lack (own ∷ names) name lacks = or_second (bytes_eq name own) (is_one_of names name) lacks
 
-pub distinct_first : (own : List ℕ) (names : List (List ℕ)) → are_distinct (own ∷ names) ≡ true
+not_among : (own : List ℕ) (names : List (List ℕ)) → are_distinct (own ∷ names) ≡ true
     → is_one_of names own ≡ false
-distinct_first own names e = go (is_one_of names own) e
+not_among own names e = go (is_one_of names own) e
   where
     go : (b : Bool) → (not b && are_distinct names) ≡ true → b ≡ false
     go false e = refl
     go true e = sym e
 
-pub distinct_others : (own : List ℕ) (names : List (List ℕ)) → are_distinct (own ∷ names) ≡ true
-    → are_distinct names ≡ true
-distinct_others own names e = go (is_one_of names own) e
+pub distinct_others : (names others : List (List ℕ)) (own : List ℕ) → names ≡ own ∷ others
+    → are_distinct names ≡ true → are_distinct others ≡ true
+distinct_others names others own is e = go (is_one_of others own) (ap are_distinct (sym is) ∙ e)
   where
-    go : (b : Bool) → (not b && are_distinct names) ≡ true → are_distinct names ≡ true
+    go : (b : Bool) → (not b && are_distinct others) ≡ true → are_distinct others ≡ true
     go false e = e
     go true e = absurd (true≢false (sym e))
+
+-- the other names lack the first
+pub others_lack_own : (names others : List (List ℕ)) (own name : List ℕ) → names ≡ own ∷ others
+    → bytes_eq name own ≡ true → are_distinct names ≡ true
+    → is_one_of (other_names names) name ≡ false
+others_lack_own names others own name is same e =
+    ap (λ ns. is_one_of (other_names ns) name) is
+    ∙ ap (is_one_of others) ((bytes_eq-Decides name own).0 same)
+    ∙ not_among own others (ap are_distinct (sym is) ∙ e)
+
+-- ---- a step: the first name, or the others
+
+pub own_taken : {T : Type 0} (K : Kind T) (names others : List (List ℕ)) (own name : List ℕ)
+    (d : Data) (ms : Members) (x : Option T) → names ≡ own ∷ others → bytes_eq name own ≡ true
+    → IsMember K d x → (found (first_name names) K).is (object (put name d ms)) x
+own_taken {T} K names others own name d ms x is same h =
+    let P : List ℕ → Type 0 = λ k. (found k K).is (object (put name d ms)) x in
+    subst P ((bytes_eq-Decides name own).0 same ∙ ap first_name (sym is))
+    (found_here K name d ms x h)
+
+-- the others take the member, or lack its name
+others_step_at : {T F : Type 0} (K : Kind T) (L : List (List ℕ) → Kind F) (own : List ℕ)
+    (others : List (List ℕ)) (name : List ℕ) (depth : ℕ) (x : Option T) (old new : F)
+    (ts rest : List Token) (took : Bool) → bytes_eq name own ≡ false
+    → MatchBool took (Takes (L others) name depth old ts new rest)
+    ((rest ≡ ts) × (new ≡ old) × (is_one_of others name ≡ false))
+    → MatchBool took (Takes (pair (found own K) (L others)) name depth (x, old) ts (x, new) rest)
+    ((rest ≡ ts) × (◌≡◌ {A = Option T × F} (x, new) (x, old)) × (is_one_of (own ∷ others) name ≡ false))
+others_step_at K L own others name depth x old new ts rest true other h =
+    (h.0, h.1, λ ms is. (found_apart K own name h.0 ms x (differ own name other) is.0, h.2 ms is.1))
+others_step_at K L own others name depth x old new ts rest false other h =
+    (h.0, ap (λ f. (x, f)) h.1, ap (λ b. b || is_one_of others name) other ∙ h.2)
+
+pub others_step : {T F : Type 0} (K : Kind T) (L : List (List ℕ) → Kind F)
+    (names others : List (List ℕ)) (own name : List ℕ) (depth : ℕ) (x : Option T) (old new : F)
+    (ts rest : List Token) (took : Bool) → names ≡ own ∷ others → bytes_eq name own ≡ false
+    → MatchBool took (Takes (L others) name depth old ts new rest)
+    ((rest ≡ ts) × (new ≡ old) × (is_one_of others name ≡ false))
+    → MatchBool took
+    (Takes (pair (found (first_name names) K) (L (other_names names))) name depth (x, old) ts (x, new) rest)
+    ((rest ≡ ts) × (◌≡◌ {A = Option T × F} (x, new) (x, old)) × (is_one_of names name ≡ false))
+others_step {T} {F} K L names others own name depth x old new ts rest took is other h =
+    let P : List (List ℕ) → Type 0 = λ ns. MatchBool took
+    (Takes (pair (found (first_name ns) K) (L (other_names ns))) name depth (x, old) ts (x, new) rest)
+    ((rest ≡ ts) × (◌≡◌ {A = Option T × F} (x, new) (x, old)) × (is_one_of ns name ≡ false)) in
+    subst P (sym is) (others_step_at K L own others name depth x old new ts rest took other h)
 
 -- ---- lists
 

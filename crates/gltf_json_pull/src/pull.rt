@@ -41,11 +41,7 @@ pub trait FromToken: FromValue {
 
 /// The reading of a member whose value comes next. It is absent where the value is null.
 #[inline(always)]
-pub fn member<T: FromToken>(
-    alloc: Global,
-    rest: &mut Reader<'_>,
-    depth: usize,
-) -> Option<Option<T>>
+pub fn member<T: FromToken>(alloc: Global, rest: &mut Reader<'_>, depth: usize) -> Option<Option<T>>
     ensures { IfSome result (λ x. IsMemberPulled T.kind depth rest.old x rest.new) }
 {
     let first = rest.next()?;

@@ -147,16 +147,15 @@ impl<A: PullRow> PullRows for Last<A> {
         rest: &mut Reader<'_>,
         depth: usize,
     ) -> Option<bool> {
-        match names {
-            [own] => {
-                if name != *own {
-                    return Some(false);
-                }
-                *found = member(alloc, rest, depth)?;
-                Some(true)
-            }
-            _ => None,
+        let (own, others) = names.split_first()?;
+        if !others.is_empty() {
+            return None;
         }
+        if name == *own {
+            *found = member(alloc, rest, depth)?;
+            return Some(true);
+        }
+        Some(false)
     }
 
     #[inline(always)]
@@ -192,16 +191,13 @@ impl<A: PullRow, B: PullRows> PullRows for (A, B) {
         rest: &mut Reader<'_>,
         depth: usize,
     ) -> Option<bool> {
-        match names {
-            [own, others @ ..] => {
-                if name != *own {
-                    return self.1.step(alloc, &mut found.1, name, others, rest, depth);
-                }
-                found.0 = member(alloc, rest, depth)?;
-                Some(true)
-            }
-            [] => None,
+        let (own, others) = names.split_first()?;
+        if name == *own {
+            found.0 = member(alloc, rest, depth)?;
+            return Some(true);
         }
+        let took = self.1.step(alloc, &mut found.1, name, others, rest, depth)?;
+        Some(took)
     }
 
     #[inline(always)]
@@ -210,7 +206,8 @@ impl<A: PullRow, B: PullRows> PullRows for (A, B) {
         Some((first, self.1.made(alloc, found.1)?))
     }
 
-    ghost apart = { λ rows names name d ms x lacks some is.
-        (first_apart A.Of.kind names name d ms x.0 lacks some is.0,
-        B.apart rows.1 (other_names names) name d ms x.1 (others_lack names name lacks) some is.1) };
+    ghost apart = { λ rows names name d ms x lacks some is. (
+      first_apart A.Of.kind names name d ms x.0 lacks some is.0,
+      B.apart rows.1 (other_names names) name d ms x.1 (others_lack names name lacks) some is.1,
+    ) };
 }

@@ -18,7 +18,9 @@ pub fn pull<T: FromToken>(alloc: Global, bytes: &[u8]) -> Option<T>
         return None;
     };
     let mut scratch = Scratch::new(alloc);
-    let mut rest = Reader::new(text, &mut scratch).ok()?;
+    let Ok(mut rest) = Reader::new(text, &mut scratch) else {
+        return None;
+    };
     let first = rest.next()?;
     let read = T::from_token(alloc, first, &mut rest, MAX_DEPTH)?;
     if rest.next().is_some() {

@@ -10,7 +10,8 @@ use Rattle.json.proofs.Grammar.{left, value_is, value-begin_array, value-begin_o
 use Rattle.json.proofs.Grammar.{items_end, items_fail, items_more, skip_value-shorter}
 use Rattle.json.proofs.Grammar.{members_end, members_no_key, members_fail, members_more}
 use Rattle.json.proofs.Grammar.{read_key-shorter}
-use Rattle.serde_json.specs.Data.{Data, null, boolean, number, string, array, object, item, Members, no_members, put}
+use Rattle.serde_json.specs.Data.{Data, null, boolean, number, string, array, object}
+use Rattle.serde_json.specs.Data.{item, Members, no_members, put}
 use Rattle.serde_json.specs.Read.{number_of, of_json, of_items, of_members, converted}
 use Rattle.serde_json.specs.View.{items_of}
 use Rattle.gltf_json_tokens.specs.Tokens.{data_at}
@@ -133,13 +134,15 @@ module _ (depth : ℕ) where
       → (js : json.Items) × (items (value depth) n ts ≡ Some (js, end))
       × (of_items js ≡ Some (items_of ds))
   items_closed n ts [] rest end enough run closes =
-      (json.no_items, items_end (value depth) n ts end enough (ap after_end_array run ∙ closes), refl)
+      let closed : after_end_array ts ≡ Some end = ap after_end_array run ∙ closes in
+      (json.no_items, items_end (value depth) n ts end enough closed, refl)
   items_closed n ts (d ∷ ds) rest end enough run closes =
       let first = parsed depth ts d run.0 run.1 in
       let less : length run.0 < length ts = data_at-shorter depth ts d run.0 run.1 in
       let others = items_closed (n - 1) run.0 ds rest end (omega arith) run.2 closes in (
         json.item first.0 others.0,
-        items_more (value depth) n ts run.0 first.0 (omega arith) (goes_on depth ts d run.0 run.1) first.1
+        items_more (value depth) n ts run.0 first.0 (omega arith)
+            (goes_on depth ts d run.0 run.1) first.1
             ∙ ap (parse_map (json.item first.0)) others.1,
         rw (first.2, others.2),
       )
@@ -166,7 +169,8 @@ module _ (depth : ℕ) where
   items_broken (suc n) ts (d ∷ ds) rest run going e =
       let first = parsed depth ts d run.0 run.1 in
       let goes : after_end_array ts ≡ None = goes_on depth ts d run.0 run.1 in
-      ap (converted of_items) (items_more (value depth) (suc n) ts run.0 first.0 (omega arith) goes first.1)
+      ap (converted of_items)
+      (items_more (value depth) (suc n) ts run.0 first.0 (omega arith) goes first.1)
       ∙ spoiled_later first.0 _ (items_broken (suc n - 1) run.0 ds rest run.2 going e)
 
 -- an array is a run of values with its closing bracket
@@ -232,7 +236,8 @@ module _ (depth : ℕ) where
       → (js : json.Members) × (members (value depth) n ts ≡ Some (js, end))
       × ((old : Members) → of_members js old ≡ Some (put_all ms old))
   members_closed n ts [] rest end enough run closes =
-      (json.no_members, members_end (value depth) n ts end enough (ap read_key run ∙ closes), λ old. refl)
+      let closed : read_key ts ≡ Some (None, end) = ap read_key run ∙ closes in
+      (json.no_members, members_end (value depth) n ts end enough closed, λ old. refl)
   members_closed n ts (m ∷ ms) rest end enough run closes =
       let first = parsed depth run.0 m.1 run.1 run.3 in
       let key : length run.0 < length ts = read_key-shorter ts (Some m.0) run.0 run.2 in

@@ -14,7 +14,7 @@ returns-in-Null g c =
     let ts = c.next.new.self in (
       null,
       ap (data_at n) c.in_ok-first.ensures.value ∙ ap (λ t. data_at n (token_of t ∷ ts)) c.in-Null.is
-      ∙ data_at-alone n spec.null ts refl,
+          ∙ data_at-alone n spec.null ts refl,
       refl,
     )
 
@@ -28,5 +28,5 @@ returns g c =
       read.0,
       ap (data_at n) c.in_ok-first.ensures.value ∙ read.1,
       there_member g.T.FromValue.kind read.0 c.in_ok-from_token.field-0
-      (not_null n (token_of first) ts read.0 c.from_token.new.rest other read.1) read.2,
+          (not_null n (token_of first) ts read.0 c.from_token.new.rest other read.1) read.2,
     )

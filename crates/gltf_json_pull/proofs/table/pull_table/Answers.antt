@@ -18,10 +18,10 @@ members-smaller g c =
     let k = c.in-Ok-Some.name.now in
     let named = rw c.in-Ok-Some.field-0-is at c.in-Ok-Some.ensures.value in
     let key : length c.next_key.new.self < length l.rest =
-        read_key-shorter l.rest (Some k) c.next_key.new.self named in
+    read_key-shorter l.rest (Some k) c.next_key.new.self named in
     let taken = c.in_ok-take-in-Ok-Some.ensures in
     let less : length c.take.new.rest < length c.next_key.new.self =
-        data_at-shorter (c.args.depth - 1) c.next_key.new.self taken.0 c.take.new.rest taken.1 in
+    data_at-shorter (c.args.depth - 1) c.next_key.new.self taken.0 c.take.new.rest taken.1 in
     omega (arith, key, less)
 
 pub members-preserved : goal.members-preserved
@@ -35,12 +35,12 @@ members-preserved g c =
     let names = map (λ n. n.now) c.args.names.now in (
       ms ++ (k, taken.0) ∷ [],
       Named-push n c.args.rest.now ms l.rest k taken.0 c.next_key.new.self c.take.new.rest l.invariant.1 named taken.1,
-      subst (λ (ms : Members). (g.R.PullRows.found_kind l.rows names).is (object ms) c.take.new.found)
-      (sym (put_all-push ms k taken.0 no_members)) (taken.2 (put_all ms no_members) l.invariant.2),
+      subst (λ (ms : Members). (g.R.PullRows.found_kind c.args.rows names).is (object ms) c.take.new.found)
+          (sym (put_all-push ms k taken.0 no_members)) (taken.2 (put_all ms no_members) l.invariant.2),
     )
 
-pub returns-in_ok-read-in-Ok-None : goal.returns-in_ok-read-in-Ok-None
-returns-in_ok-read-in-Ok-None g c =
+pub returns-in-Ok-None : goal.returns-in-Ok-None
+returns-in-Ok-None g c =
     let l = c.members in
     let n = c.args.depth in
     let ts = c.args.rest.now in
@@ -50,6 +50,6 @@ returns-in_ok-read-in-Ok-None g c =
     let closes = rw c.in-Ok-None.field-0-is at c.in-Ok-None.ensures.value in (
       object (put_all ms no_members),
       ap (λ t. data_at n (token_of t ∷ ts)) c.in-BeginObject.is
-      ∙ object_closed n ts ms l.rest end (omega arith) l.invariant.1 closes,
-      (tt, c.in_ok-read.ensures names (object (put_all ms no_members)) l.invariant.2),
+          ∙ object_closed n ts ms l.rest end (omega arith) l.invariant.1 closes,
+      (tt, c.in_ok-read-in-Ok-None.ensures names (object (put_all ms no_members)) l.invariant.2),
     )

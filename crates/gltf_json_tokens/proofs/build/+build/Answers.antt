@@ -1,5 +1,6 @@
 use Rattle.std.proofs.Common.{◌≡◌, ◌-◌, ◌<◌, [], ◌∷◌, ◌++◌, List, ℕ, length, map, Some, None, false}
-use Rattle.std.proofs.Common.{⊎_elim, option_map, string_bytes, string_cmp, refl, sym, ap, subst, ◌∙◌, arith, rules}
+use Rattle.std.proofs.Common.{⊎_elim, option_map, string_bytes, string_cmp}
+use Rattle.std.proofs.Common.{refl, sym, ap, subst, ◌∙◌, arith, rules}
 use Rattle.std.proofs.lemmas.List.{map-append}
 use Rattle.std.specs.BTreeMap.{insert_entry}
 use Rattle.json.specs.Token as spec
@@ -37,30 +38,38 @@ none n first t ts is closed stands =
 
 pub array-returns-then-depth-eq0 : goal.array-returns-then-depth-eq0
 array-returns-then-depth-eq0 t c =
-    ap (λ n. data_at n (begin_array ∷ c.args.rest.now)) c.if-depth-eq0.true ∙ array_too_deep c.args.rest.now
+    ap (λ n. data_at n (begin_array ∷ c.args.rest.now)) c.if-depth-eq0.true
+    ∙ array_too_deep c.args.rest.now
 
 pub array-returns-in_default : goal.array-returns-in_default
 array-returns-in_default t c =
     let l = c.items in
-    let going : (after_end_array l.rest ≡ None) × (c.take_end_array.new.self ≡ l.rest) = grind arith in
+    let s = c.take_end_array.new.self in
+    let going : (after_end_array l.rest ≡ None) × (s ≡ l.rest) = grind arith in
     let ends : l.rest ≡ [] = sym going.1 ∙ c.in_default.ensures.value.0 in
-    array_broken c.args.depth c.args.rest.now (map view l.items.items) l.rest (omega arith) l.invariant going.0
+    array_broken c.args.depth c.args.rest.now (map view l.items.items) l.rest (omega arith)
+    l.invariant going.0
     (ap (data_at (c.args.depth - 1)) ends ∙ data_at-no_token (c.args.depth - 1))
 
 pub array-returns-in_default-2 : goal.array-returns-in_default-2
 array-returns-in_default-2 t c =
     let l = c.items in
-    let going : (after_end_array l.rest ≡ None) × (c.take_end_array.new.self ≡ l.rest) = grind arith in
-    let starts : l.rest ≡ token_of c.in-Some.first ∷ c.next.new.self = sym going.1 ∙ c.in-Some.ensures.value in
+    let s = c.take_end_array.new.self in
+    let going : (after_end_array l.rest ≡ None) × (s ≡ l.rest) = grind arith in
+    let starts : l.rest ≡ token_of c.in-Some.first ∷ c.next.new.self =
+    sym going.1 ∙ c.in-Some.ensures.value in
     let missing = rw c.in_default-2.is at c.in_ok-item.ensures in
-    array_broken c.args.depth c.args.rest.now (map view l.items.items) l.rest (omega arith) l.invariant going.0
+    array_broken c.args.depth c.args.rest.now (map view l.items.items) l.rest (omega arith)
+    l.invariant going.0
     (ap (data_at (c.args.depth - 1)) starts ∙ missing)
 
 pub array-items-smaller : goal.array-items-smaller
 array-items-smaller t c =
     let l = c.items in
-    let going : (after_end_array l.rest ≡ None) × (c.take_end_array.new.self ≡ l.rest) = grind arith in
-    let starts : l.rest ≡ token_of c.in-Some.first ∷ c.next.new.self = sym going.1 ∙ c.in-Some.ensures.value in
+    let s = c.take_end_array.new.self in
+    let going : (after_end_array l.rest ≡ None) × (s ≡ l.rest) = grind arith in
+    let starts : l.rest ≡ token_of c.in-Some.first ∷ c.next.new.self =
+    sym going.1 ∙ c.in-Some.ensures.value in
     let item = rw c.in-Some-2.is at c.in_ok-item.ensures in
     data_at-shorter (c.args.depth - 1) l.rest (view c.in-Some-2.item) c.build.new.rest
     (ap (data_at (c.args.depth - 1)) starts ∙ item)
@@ -71,11 +80,14 @@ array-items-preserved t c =
     let n = c.args.depth - 1 in
     let ts = c.args.rest.now in
     let v = c.in-Some-2.item in
-    let going : (after_end_array l.rest ≡ None) × (c.take_end_array.new.self ≡ l.rest) = grind arith in
-    let starts : l.rest ≡ token_of c.in-Some.first ∷ c.next.new.self = sym going.1 ∙ c.in-Some.ensures.value in
+    let s = c.take_end_array.new.self in
+    let going : (after_end_array l.rest ≡ None) × (s ≡ l.rest) = grind arith in
+    let starts : l.rest ≡ token_of c.in-Some.first ∷ c.next.new.self =
+    sym going.1 ∙ c.in-Some.ensures.value in
     let item = rw c.in-Some-2.is at c.in_ok-item.ensures in
     let pushed : c.push.new.self.items ≡ l.items.items ++ v ∷ [] = c.in_ok-push.ensures.items in
-    let more : map view (l.items.items ++ v ∷ []) ≡ map view l.items.items ++ view v ∷ [] = simp map-append in
+    let more : map view (l.items.items ++ v ∷ []) ≡ map view l.items.items ++ view v ∷ [] =
+    simp map-append in
     subst (λ (ds : List Data). Items n ts ds c.build.new.rest) (sym (ap (map view) pushed ∙ more))
     (Items-push n ts (map view l.items.items) l.rest (view v) c.build.new.rest l.invariant
     (ap (data_at n) starts ∙ item))
@@ -85,19 +97,20 @@ array-returns t c =
     let l = c.items in
     let end = c.take_end_array.new.self in
     let closes : after_end_array l.rest ≡ Some end = grind arith in
-    array_closed c.args.depth c.args.rest.now (map view l.items.items) l.rest end (omega arith) l.invariant closes
+    array_closed c.args.depth c.args.rest.now (map view l.items.items) l.rest end (omega arith)
+    l.invariant closes
     ∙ ap (λ d. Some (d, end)) (sym (view-Array l.items))
 
 pub build-returns-in-Null : goal.build-returns-in-Null
 build-returns-in-Null t c =
-    one c.args.depth c.args.first spec.null c.args.rest.now null Null (ap token_of c.in-Null.is) refl refl
-    (search (rules, the_lemmas))
+    one c.args.depth c.args.first spec.null c.args.rest.now null Null (ap token_of c.in-Null.is)
+    refl refl (search (rules, the_lemmas))
 
 pub build-returns-in-Bool : goal.build-returns-in-Bool
 build-returns-in-Bool t c =
     let b = c.in-Bool.flag in
-    one c.args.depth c.args.first (spec.boolean b) c.args.rest.now (boolean b) (Bool b) (ap token_of c.in-Bool.is)
-    refl refl (search (rules, the_lemmas))
+    one c.args.depth c.args.first (spec.boolean b) c.args.rest.now (boolean b) (Bool b)
+    (ap token_of c.in-Bool.is) refl refl (search (rules, the_lemmas))
 
 pub build-returns-in-None : goal.build-returns-in-None
 build-returns-in-None t c =
@@ -109,8 +122,8 @@ pub build-returns-in-Some : goal.build-returns-in-Some
 build-returns-in-Some t c =
     let s = c.in-Number.text.now in
     let x = c.in-Some.number in
-    one c.args.depth c.args.first (spec.number s) c.args.rest.now (number (number_view x)) (Number x)
-    (ap token_of c.in-Number.is) refl (ap (option_map number) (sym c.in-Some.ensures))
+    one c.args.depth c.args.first (spec.number s) c.args.rest.now (number (number_view x))
+    (Number x) (ap token_of c.in-Number.is) refl (ap (option_map number) (sym c.in-Some.ensures))
     (search (rules, the_lemmas))
 
 pub build-returns-in_ok-from_str-in-String : goal.build-returns-in_ok-from_str-in-String
@@ -134,36 +147,41 @@ build-returns-in-EndArray t c =
 
 pub object-returns-then-depth-eq0 : goal.object-returns-then-depth-eq0
 object-returns-then-depth-eq0 t c =
-    ap (λ n. data_at n (begin_object ∷ c.args.rest.now)) c.if-depth-eq0.true ∙ object_too_deep c.args.rest.now
+    ap (λ n. data_at n (begin_object ∷ c.args.rest.now)) c.if-depth-eq0.true
+    ∙ object_too_deep c.args.rest.now
 
 pub object-returns-in-Ok-None : goal.object-returns-in-Ok-None
 object-returns-in-Ok-None t c =
     let l = c.members in
     let end = c.next_key.new.self in
     let closes = rw c.in-Ok-None.field-0-is at c.in-Ok-None.ensures.value in
-    object_closed c.args.depth c.args.rest.now l.invariant.0 l.rest end (omega arith) l.invariant.1 closes
-    ∙ ap (λ ms. Some (object ms, end)) (sym l.invariant.2) ∙ ap (λ d. Some (d, end)) (sym (view-Object l.members))
+    object_closed c.args.depth c.args.rest.now l.invariant.0 l.rest end (omega arith)
+    l.invariant.1 closes
+    ∙ ap (λ ms. Some (object ms, end)) (sym l.invariant.2)
+    ∙ ap (λ d. Some (d, end)) (sym (view-Object l.members))
 
 pub object-returns-in-Err : goal.object-returns-in-Err
 object-returns-in-Err t c =
     let l = c.members in
-    object_unnamed c.args.depth c.args.rest.now l.invariant.0 l.rest (omega arith) l.invariant.1 c.in-Err.ensures.value
+    object_unnamed c.args.depth c.args.rest.now l.invariant.0 l.rest (omega arith) l.invariant.1
+    c.in-Err.ensures.value
 
 pub object-returns-in_default : goal.object-returns-in_default
 object-returns-in_default t c =
     let l = c.members in
     let named = rw c.in-Ok-Some.field-0-is at c.in-Ok-Some.ensures.value in
-    object_unvalued c.args.depth c.args.rest.now l.invariant.0 l.rest c.in-Ok-Some.name.now c.next_key.new.self
-    (omega arith) l.invariant.1 named
-    (ap (data_at (c.args.depth - 1)) c.in_default.ensures.value.0 ∙ data_at-no_token (c.args.depth - 1))
+    object_unvalued c.args.depth c.args.rest.now l.invariant.0 l.rest c.in-Ok-Some.name.now
+    c.next_key.new.self (omega arith) l.invariant.1 named
+    (ap (data_at (c.args.depth - 1)) c.in_default.ensures.value.0
+    ∙ data_at-no_token (c.args.depth - 1))
 
 pub object-returns-in_default-2 : goal.object-returns-in_default-2
 object-returns-in_default-2 t c =
     let l = c.members in
     let named = rw c.in-Ok-Some.field-0-is at c.in-Ok-Some.ensures.value in
     let missing = rw c.in_default-2.is at c.in_ok-member.ensures in
-    object_unvalued c.args.depth c.args.rest.now l.invariant.0 l.rest c.in-Ok-Some.name.now c.next_key.new.self
-    (omega arith) l.invariant.1 named
+    object_unvalued c.args.depth c.args.rest.now l.invariant.0 l.rest c.in-Ok-Some.name.now
+    c.next_key.new.self (omega arith) l.invariant.1 named
     (ap (data_at (c.args.depth - 1)) c.in-Some.ensures.value ∙ missing)
 
 pub object-members-smaller : goal.object-members-smaller
@@ -175,8 +193,8 @@ object-members-smaller t c =
     read_key-shorter l.rest (Some k) c.next_key.new.self named in
     let member = rw c.in-Some-2.is at c.in_ok-member.ensures in
     let less : length c.build.new.rest < length c.next_key.new.self =
-    data_at-shorter (c.args.depth - 1) c.next_key.new.self (view c.in-Some-2.member) c.build.new.rest
-    (ap (data_at (c.args.depth - 1)) c.in-Some.ensures.value ∙ member) in
+    data_at-shorter (c.args.depth - 1) c.next_key.new.self (view c.in-Some-2.member)
+    c.build.new.rest (ap (data_at (c.args.depth - 1)) c.in-Some.ensures.value ∙ member) in
     omega (arith, key, less)
 
 pub object-members-preserved : goal.object-members-preserved
@@ -186,15 +204,17 @@ object-members-preserved t c =
     let n = c.args.depth - 1 in
     let k = c.in-Ok-Some.name.now in
     let v = c.in-Some-2.member in
+    let name = c.in_ok-name-in-Ok-Some.name in
+    let s = c.next_key.new.self in
     let named = rw c.in-Ok-Some.field-0-is at c.in-Ok-Some.ensures.value in
     let member = rw c.in-Some-2.is at c.in_ok-member.ensures in
-    let copied : string_bytes c.in_ok-name-in-Ok-Some.name ≡ k = search rules in
+    let copied : string_bytes name ≡ k = search rules in
     let inserted : c.insert.new.self.entries
-    ≡ insert_entry string_cmp l.members.entries c.in_ok-name-in-Ok-Some.name v = c.in_ok-insert.ensures.entries in (
+    ≡ insert_entry string_cmp l.members.entries name v = c.in_ok-insert.ensures.entries in (
       ms ++ (k, view v) ∷ [],
-      Named-push n c.args.rest.now ms l.rest k (view v) c.next_key.new.self c.build.new.rest l.invariant.1 named
+      Named-push n c.args.rest.now ms l.rest k (view v) s c.build.new.rest l.invariant.1 named
           (ap (data_at n) c.in-Some.ensures.value ∙ member),
-      ap members_view inserted ∙ members_view-insert_entry l.members.entries c.in_ok-name-in-Ok-Some.name v
-          ∙ ap (λ name. put name (view v) (members_view l.members.entries)) copied
+      ap members_view inserted ∙ members_view-insert_entry l.members.entries name v
+          ∙ ap (λ t. put t (view v) (members_view l.members.entries)) copied
           ∙ ap (put k (view v)) l.invariant.2 ∙ sym (put_all-push ms k (view v) no_members),
     )

@@ -19,7 +19,8 @@ unfolding number_of
 returns-then-eq c =
     let s = c.as_bytes-bytes.result.now in
     let minus : (slice_index s 0 == 45) ≡ true =
-    sym (begins c.first.result s _ refl (c.first.ensures.item.4 (omega arith) 0)) ∙ sym c.eq.ensures ∙ c.if-eq.true in
+    sym (begins c.first.result s _ refl (c.first.ensures.item.4 (omega arith) 0))
+    ∙ sym c.eq.ensures ∙ c.if-eq.true in
     let digits : take (length s - 1) (drop 1 s) ≡ drop 1 s = grind (arith, common_steps) in
     let read : number_from true (scan (drop 1 s)) ≡ number_of s = rw minus in
     c.negative.ensures ∙ ap (number_from true) (c.scan.ensures.parts ∙ ap scan digits) ∙ read
@@ -30,7 +31,8 @@ unfolding number_of
 returns-else-eq c =
     let s = c.as_bytes-bytes.result.now in
     let digit : (slice_index s 0 == 45) ≡ false =
-    sym (begins c.first.result s _ refl (c.first.ensures.item.4 (omega arith) 0)) ∙ sym c.eq.ensures ∙ c.if-eq.false in
+    sym (begins c.first.result s _ refl (c.first.ensures.item.4 (omega arith) 0))
+    ∙ sym c.eq.ensures ∙ c.if-eq.false in
     let read : number_from false (scan s) ≡ number_of s = rw digit in
     c.unsigned.ensures ∙ ap (number_from false) c.scan-else-eq.ensures.parts ∙ read
     ∙ ap number_of c.as_bytes-bytes.ensures.value

@@ -6,8 +6,8 @@ use Rattle.gltf_json_tokens.specs.Tokens.{data_at}
 use Rattle.gltf_json_tokens.specs.RunLaws.{data_at-alone}
 use Rattle.gltf_json_pull.proofs.pull.StringFromToken.from_token.Goals as goal
 
-pub returns-in-String : goal.returns-in-String
-returns-in-String c =
+pub returns-in-Ok : goal.returns-in-Ok
+returns-in-Ok c =
     let n = c.args._depth in
     let ts = c.args._rest.now in
     let s = c.in-String.text.now in (

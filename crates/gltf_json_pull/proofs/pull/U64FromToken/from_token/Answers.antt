@@ -12,9 +12,9 @@ returns-in_ok-whole-in-Number c =
     let n = c.args._depth in
     let ts = c.args._rest.now in
     let s = c.in-Number.text.now in
-    let x = number_view c.in_ok-found.found in (
+    let x = number_view c.in_ok-found-in-Number.found in (
       number x,
       ap (λ t. data_at n (token_of t ∷ ts)) c.in-Number.is ∙ data_at-alone n (spec.number s) ts refl
-      ∙ ap (λ o. option_map (λ d. (d, ts)) (option_map number o)) (sym c.in_ok-found.ensures),
-      sym c.in_ok-whole.ensures,
+          ∙ ap (λ o. option_map (λ d. (d, ts)) (option_map number o)) (sym c.in_ok-found-in-Number.ensures),
+      sym c.in_ok-whole-in-Number.ensures,
     )

@@ -12,7 +12,6 @@ use Rattle.gltf_json_pull.proofs.pull.VecFromToken.from_token.Goals as goal
 
 pub items-init : goal.items-init
 items-init g c =
-    let T = g.T.Self in
     ([], refl, subst (λ xs. AllRead g.T.FromValue.kind.is no_items xs) (sym c.new-list.ensures.items) tt)
 
 pub items-smaller : goal.items-smaller
@@ -33,10 +32,10 @@ items-preserved g c =
     let item = c.in_ok-item.ensures in (
       ds ++ item.0 ∷ [],
       Items-push n c.args.rest.now ds l.rest item.0 r l.invariant.1
-      (ap (data_at n) (sym going.1 ∙ c.in_ok-next.ensures.value) ∙ item.1),
+          (ap (data_at n) (sym going.1 ∙ c.in_ok-next.ensures.value) ∙ item.1),
       subst (λ xs. AllRead g.T.FromValue.kind.is (items_of (ds ++ item.0 ∷ [])) xs)
-      (sym c.in-Ok.ensures.items)
-      (AllRead-push g.T.FromValue.kind.is ds l.list.items item.0 c.in_ok-item.item l.invariant.2 item.2),
+          (sym c.in-Ok.ensures.items)
+          (AllRead-push g.T.FromValue.kind.is ds l.list.items item.0 c.in_ok-item.item l.invariant.2 item.2),
     )
 
 pub returns : goal.returns
@@ -49,6 +48,6 @@ returns g c =
     let closes : after_end_array l.rest ≡ Some end = grind arith in (
       array (items_of ds),
       ap (λ t. data_at n (token_of t ∷ ts)) c.in-BeginArray.is
-      ∙ array_closed n ts ds l.rest end (omega arith) l.invariant.1 closes,
+          ∙ array_closed n ts ds l.rest end (omega arith) l.invariant.1 closes,
       l.invariant.2,
     )
