@@ -3,9 +3,11 @@ use Rattle.std.proofs.Common.{◌≡◌, refl}
 use Rattle.json.specs.Token as spec
 use Rattle.json.specs.Reads.{token_of}
 use Rattle.json.specs.declared.token.Token.{Token}
-use Rattle.json.specs.declared.token.Token.TheVariants.{BeginObject, EndObject, BeginArray, EndArray, Key, String, Number, Bool, Null, Bad}
+use Rattle.json.specs.declared.token.Token.TheVariants.{BeginObject, EndObject, BeginArray}
+use Rattle.json.specs.declared.token.Token.TheVariants.{EndArray, Key, String, Number, Bool}
+use Rattle.json.specs.declared.token.Token.TheVariants.{Null, Bad}
 
--- the tests of null on the two
+-- a token other than Null does not stand for null
 pub not_null_token : (t : Token) → (t ≡ Null → ⊥) → token_of t ≡ spec.null → ⊥
 not_null_token BeginObject other e = absurd (cc)
 not_null_token EndObject other e = absurd (cc)

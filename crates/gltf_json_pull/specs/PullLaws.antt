@@ -1,18 +1,19 @@
 -- What has been found of a member, as members come in one after another.
-use Rattle.std.specs.Prelude.{ℕ, zero, suc, length, List, [], ◌∷◌, ◌++◌, Bool, true, false, not, ◌&&◌, ◌||◌, bytes_eq}
-use Rattle.std.specs.Prelude.{Option, Some, None, MatchOption, option_map, option_and_then, ⊤}
+use Rattle.std.specs.Prelude.{ℕ, zero, suc, length, List, [], ◌∷◌, ◌++◌, bytes_eq}
+use Rattle.std.specs.Prelude.{Bool, true, false, not, ◌&&◌, ◌||◌}
+use Rattle.std.specs.Prelude.{Option, Some, None, MatchOption, option_map, option_and_then}
 use Rattle.std.specs.Bool.{MatchBool}
 use Rattle.std.proofs.Common.{◌≡◌, refl, sym, ap, subst, ◌∙◌, true≢false}
 use Rattle.std.proofs.lemmas.Slice.Eq.{bytes_eq-Decides}
 use Rattle.json.specs.Token.{Token}
 use Rattle.json.specs.Json as json
-use Rattle.json.specs.Json.{Json, parse_map, if_last, items, members, value}
+use Rattle.json.specs.Json.{parse_map, if_last, items, members, value}
 use Rattle.json.specs.Lex.{tokens}
 use Rattle.json.proofs.Grammar.{value_is}
 use Rattle.serde_json.specs.Data.{Data, null, boolean, number, string, array, object, Items}
 use Rattle.serde_json.specs.Data.{no_members, Members, put}
-use Rattle.serde_json.specs.Find.{get_member}
-use Rattle.serde_json.specs.Read.{of_json, of_items, of_members, number_of, converted, max_depth, read}
+use Rattle.serde_json.specs.Read.{of_json, of_items, of_members, number_of, converted}
+use Rattle.serde_json.specs.Read.{max_depth, read}
 use Rattle.serde_json.specs.View.{items_of}
 use Rattle.serde_json.proofs.Views.{get_member-put, get_member-put_other}
 use Rattle.gltf_json_record.specs.Items.{AllRead}
@@ -20,7 +21,7 @@ use Rattle.gltf_json_record.specs.Kind.{Kind}
 use Rattle.gltf_json_record.specs.Member.{unless_null, is_one_of}
 use Rattle.gltf_json_record.specs.Table.{first_name, other_names, pair}
 use Rattle.gltf_json_tokens.specs.Tokens.{data_at}
-use Rattle.gltf_json_tokens.specs.RunLaws.{alone, data_at-alone, parsed}
+use Rattle.gltf_json_tokens.specs.RunLaws.{data_at-alone, parsed}
 use Rattle.gltf_json_pull.specs.Pulls.{IsMember, Takes, found, are_distinct}
 
 -- ---- null comes of its own token alone
@@ -91,7 +92,8 @@ of_token depth (Token.key s) ts other =
 of_token depth (Token.string s) ts other =
     ap (λ p. is_null (first_or (boolean true) p)) (data_at-alone depth (Token.string s) ts refl)
 of_token depth (Token.number s) ts other =
-    made_not_null number (number_of s) ts _ (λ a. refl) (sym (data_at-alone depth (Token.number s) ts refl))
+    made_not_null number (number_of s) ts _ (λ a. refl)
+    (sym (data_at-alone depth (Token.number s) ts refl))
 of_token depth (Token.boolean b) ts other =
     ap (λ p. is_null (first_or (boolean true) p)) (data_at-alone depth (Token.boolean b) ts refl)
 of_token depth Token.null ts other = absurd (other refl)
@@ -114,20 +116,14 @@ unfolding first_or
 not_null depth t ts d rest other e =
     kept d (ap (λ p. is_null (first_or (boolean true) p)) (sym e) ∙ of_token depth t ts other)
 
-pub null_member : {T : Type 0} (K : Kind T) → IsMember K null None
-null_member K = refl
-
 pub there_member : {T : Type 0} (K : Kind T) (d : Data) (x : T)
     → unless_null d ≡ Some d → K.is d x → IsMember K d (Some x)
 there_member K d x e is = rw e is
 
 -- ---- what has been found
 
-pub none_found : {T : Type 0} (K : Kind T) (own : List ℕ) → (found own K).is (object no_members) None
-none_found K own = refl
-
 -- the member of the own name replaces what was found
-pub found_here : {T : Type 0} (K : Kind T) (own : List ℕ) (d : Data) (ms : Members) (x : Option T)
+found_here : {T : Type 0} (K : Kind T) (own : List ℕ) (d : Data) (ms : Members) (x : Option T)
     → IsMember K d x → (found own K).is (object (put own d ms)) x
 found_here {T} K own d ms x h =
     let P : Option Data → Type 0 = λ o. MatchOption (option_and_then unless_null o) (x ≡ None)
@@ -145,11 +141,11 @@ found_apart {T} K own name d ms x other h =
 
 -- ---- names
 
-pub or_first : (a b : Bool) → (a || b) ≡ false → a ≡ false
+or_first : (a b : Bool) → (a || b) ≡ false → a ≡ false
 or_first false b e = refl
 or_first true b e = e
 
-pub or_second : (a b : Bool) → (a || b) ≡ false → b ≡ false
+or_second : (a b : Bool) → (a || b) ≡ false → b ≡ false
 or_second false b e = e
 or_second true b e = absurd (true≢false e)
 
@@ -213,7 +209,8 @@ others_step_at : {T F : Type 0} (K : Kind T) (L : List (List ℕ) → Kind F) (o
     → MatchBool took (Takes (L others) name depth old ts new rest)
     ((rest ≡ ts) × (new ≡ old) × (is_one_of others name ≡ false))
     → MatchBool took (Takes (pair (found own K) (L others)) name depth (x, old) ts (x, new) rest)
-    ((rest ≡ ts) × (◌≡◌ {A = Option T × F} (x, new) (x, old)) × (is_one_of (own ∷ others) name ≡ false))
+    ((rest ≡ ts) × (◌≡◌ {A = Option T × F} (x, new) (x, old))
+    × (is_one_of (own ∷ others) name ≡ false))
 others_step_at K L own others name depth x old new ts rest true other h =
     (h.0, h.1, λ ms is. (found_apart K own name h.0 ms x (differ own name other) is.0, h.2 ms is.1))
 others_step_at K L own others name depth x old new ts rest false other h =
@@ -225,11 +222,13 @@ pub others_step : {T F : Type 0} (K : Kind T) (L : List (List ℕ) → Kind F)
     → MatchBool took (Takes (L others) name depth old ts new rest)
     ((rest ≡ ts) × (new ≡ old) × (is_one_of others name ≡ false))
     → MatchBool took
-    (Takes (pair (found (first_name names) K) (L (other_names names))) name depth (x, old) ts (x, new) rest)
+    (Takes (pair (found (first_name names) K) (L (other_names names))) name depth (x, old) ts
+    (x, new) rest)
     ((rest ≡ ts) × (◌≡◌ {A = Option T × F} (x, new) (x, old)) × (is_one_of names name ≡ false))
 others_step {T} {F} K L names others own name depth x old new ts rest took is other h =
     let P : List (List ℕ) → Type 0 = λ ns. MatchBool took
-    (Takes (pair (found (first_name ns) K) (L (other_names ns))) name depth (x, old) ts (x, new) rest)
+    (Takes (pair (found (first_name ns) K) (L (other_names ns))) name depth (x, old) ts
+    (x, new) rest)
     ((rest ≡ ts) × (◌≡◌ {A = Option T × F} (x, new) (x, old)) × (is_one_of ns name ≡ false)) in
     subst P (sym is) (others_step_at K L own others name depth x old new ts rest took other h)
 

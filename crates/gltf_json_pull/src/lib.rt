@@ -4,6 +4,7 @@
 #![tactic(auto)]
 
 pub mod pull;
+pub mod record;
 pub mod rows;
 pub mod table;
 pub mod text;

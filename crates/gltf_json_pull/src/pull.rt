@@ -1,6 +1,5 @@
 //! Values that hold no records, and lists, read from the tokens of a text.
 ghost use Rattle.std.specs.Prelude.{◌∷◌, IfSome};
-ghost use Rattle.gltf_json_record.specs.Scalars.{as_n32};
 ghost use Rattle.gltf_json_pull.specs.Pulls.{IsMemberPulled};
 
 use gltf_json_record::index::Index;

@@ -1,4 +1,4 @@
-use Rattle.std.proofs.Common.{◌≡◌, ◌∷◌, refl, ap, ◌∙◌}
+use Rattle.std.proofs.Common.{◌∷◌, refl, ap, ◌∙◌}
 use Rattle.json.specs.Token as spec
 use Rattle.json.specs.Reads.{token_of}
 use Rattle.serde_json.specs.Data.{null}
@@ -13,7 +13,8 @@ returns-in-Null g c =
     let n = c.args.depth in
     let ts = c.next.new.self in (
       null,
-      ap (data_at n) c.in_ok-first.ensures.value ∙ ap (λ t. data_at n (token_of t ∷ ts)) c.in-Null.is
+      ap (data_at n) c.in_ok-first.ensures.value
+          ∙ ap (λ t. data_at n (token_of t ∷ ts)) c.in-Null.is
           ∙ data_at-alone n spec.null ts refl,
       refl,
     )

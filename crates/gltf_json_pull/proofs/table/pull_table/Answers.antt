@@ -1,6 +1,5 @@
-use Rattle.std.proofs.Common.{◌≡◌, ◌-◌, ◌<◌, [], ◌∷◌, ◌++◌, List, ℕ, length, map, Some, refl, sym, ap, subst, ◌∙◌, arith}
-use Rattle.json.specs.Token as spec
-use Rattle.json.specs.Json.{read_key}
+use Rattle.std.proofs.Common.{◌-◌, ◌<◌, [], ◌∷◌, ◌++◌, length, map, Some}
+use Rattle.std.proofs.Common.{refl, sym, ap, subst, ◌∙◌, arith}
 use Rattle.json.specs.Reads.{token_of}
 use Rattle.json.proofs.Grammar.{read_key-shorter}
 use Rattle.serde_json.specs.Data.{Members, object, no_members}
@@ -34,9 +33,13 @@ members-preserved g c =
     let taken = c.in_ok-take-in-Ok-Some.ensures in
     let names = map (λ n. n.now) c.args.names.now in (
       ms ++ (k, taken.0) ∷ [],
-      Named-push n c.args.rest.now ms l.rest k taken.0 c.next_key.new.self c.take.new.rest l.invariant.1 named taken.1,
-      subst (λ (ms : Members). (g.R.PullRows.found_kind c.args.rows names).is (object ms) c.take.new.found)
-          (sym (put_all-push ms k taken.0 no_members)) (taken.2 (put_all ms no_members) l.invariant.2),
+      Named-push n c.args.rest.now ms l.rest k taken.0 c.next_key.new.self c.take.new.rest
+          l.invariant.1 named taken.1,
+      subst
+          (λ (ms : Members). (g.R.PullRows.found_kind c.args.rows names).is (object ms)
+          c.take.new.found)
+          (sym (put_all-push ms k taken.0 no_members))
+          (taken.2 (put_all ms no_members) l.invariant.2),
     )
 
 pub returns-in-Ok-None : goal.returns-in-Ok-None
@@ -51,5 +54,5 @@ returns-in-Ok-None g c =
       object (put_all ms no_members),
       ap (λ t. data_at n (token_of t ∷ ts)) c.in-BeginObject.is
           ∙ object_closed n ts ms l.rest end (omega arith) l.invariant.1 closes,
-      (tt, c.in_ok-read-in-Ok-None.ensures names (object (put_all ms no_members)) l.invariant.2),
+      (refl, c.in_ok-read-in-Ok-None.ensures names (object (put_all ms no_members)) l.invariant.2),
     )

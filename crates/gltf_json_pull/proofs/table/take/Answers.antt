@@ -20,6 +20,7 @@ returns g c =
     (ap (λ s. length s == 0) e ∙ sym c.is_empty.ensures ∙ c.if-is_empty.false) in (
       passed.0,
       ap (data_at c.args.depth) (sym left.0) ∙ passed.1,
-      λ ms is. subst (λ f. (g.R.PullRows.found_kind rows names).is (object (put name passed.0 ms)) f) (sym left.1)
+      λ ms is. subst
+          (λ f. (g.R.PullRows.found_kind rows names).is (object (put name passed.0 ms)) f) (sym left.1)
           (g.met.R.PullRows.apart rows names name passed.0 ms c.args.found.now left.2 some is),
     )

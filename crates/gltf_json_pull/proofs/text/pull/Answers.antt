@@ -1,4 +1,4 @@
-use Rattle.std.proofs.Common.{◌≡◌, List, [], Option, Some, None, false, refl, sym, ap, ◌∙◌}
+use Rattle.std.proofs.Common.{◌≡◌, List, [], Option, Some, None, false, sym, ap, ◌∙◌}
 use Rattle.std.specs.Option.{is_some}
 use Rattle.json.specs.Lex.{tokens}
 use Rattle.json.specs.Token as spec
@@ -19,8 +19,10 @@ returns g c =
     let text = c.in-Ok.text.now in
     let got = c.in_ok-read.ensures in
     let ends : c.from_token.new.rest ≡ [] =
-    none_left c.from_token.new.rest c.next-2.result c.next-2.new.self c.next-2.ensures.value c.if-is_some.ensures in
+    none_left c.from_token.new.rest c.next-2.result c.next-2.new.self c.next-2.ensures.value
+    c.if-is_some.ensures in
     let whole : data_at max_depth (tokens text) ≡ Some (got.0, []) =
-    ap (data_at max_depth) (sym c.in-Ok-2.ensures.ok ∙ c.in_ok-first.ensures.value) ∙ got.1
+    ap (data_at max_depth) (sym c.in-Ok-new.ensures.ok ∙ c.in_ok-first.ensures.value) ∙ got.1
     ∙ ap (λ r. Some (got.0, r)) ends in
-    (c.in-Ok.ensures.1, (got.0, ap read (sym c.in-Ok.ensures.0) ∙ whole_text text got.0 whole, got.2))
+    let reads = ap read (sym c.in-Ok.ensures.0) ∙ whole_text text got.0 whole in
+    (c.in-Ok.ensures.1, (got.0, reads, got.2))

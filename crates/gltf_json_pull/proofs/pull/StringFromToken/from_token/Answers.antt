@@ -12,6 +12,7 @@ returns-in-Ok c =
     let ts = c.args._rest.now in
     let s = c.in-String.text.now in (
       string s,
-      ap (λ t. data_at n (token_of t ∷ ts)) c.in-String.is ∙ data_at-alone n (spec.string s) ts refl,
+      ap (λ t. data_at n (token_of t ∷ ts)) c.in-String.is
+          ∙ data_at-alone n (spec.string s) ts refl,
       ap Some (sym c.in-Ok.ensures.ok),
     )

@@ -15,6 +15,7 @@ returns-in_ok-whole-in-Number c =
     let x = number_view c.in_ok-found-in-Number.found in (
       number x,
       ap (λ t. data_at n (token_of t ∷ ts)) c.in-Number.is ∙ data_at-alone n (spec.number s) ts refl
-          ∙ ap (λ o. option_map (λ d. (d, ts)) (option_map number o)) (sym c.in_ok-found-in-Number.ensures),
+          ∙ ap (λ o. option_map (λ d. (d, ts)) (option_map number o))
+          (sym c.in_ok-found-in-Number.ensures),
       sym c.in_ok-whole-in-Number.ensures,
     )

@@ -1,5 +1,4 @@
-use Rattle.std.proofs.Common.{◌≡◌, ◌-◌, ◌<◌, [], ◌∷◌, ◌++◌, List, length, Some, None, refl, sym, ap, subst, ◌∙◌, arith}
-use Rattle.json.specs.Token as spec
+use Rattle.std.proofs.Common.{◌≡◌, ◌-◌, [], ◌∷◌, ◌++◌, Some, None, refl, sym, ap, subst, ◌∙◌, arith}
 use Rattle.json.specs.Json.{after_end_array}
 use Rattle.json.specs.Reads.{token_of}
 use Rattle.serde_json.specs.Data.{array, no_items}
@@ -12,12 +11,14 @@ use Rattle.gltf_json_pull.proofs.pull.VecFromToken.from_token.Goals as goal
 
 pub items-init : goal.items-init
 items-init g c =
-    ([], refl, subst (λ xs. AllRead g.T.FromValue.kind.is no_items xs) (sym c.new-list.ensures.items) tt)
+    let none = sym c.new-list.ensures.items in
+    ([], refl, subst (λ xs. AllRead g.T.FromValue.kind.is no_items xs) none tt)
 
 pub items-smaller : goal.items-smaller
 items-smaller g c =
     let l = c.items in
-    let going : (after_end_array l.rest ≡ None) × (c.take_end_array.new.self ≡ l.rest) = grind arith in
+    let s = c.take_end_array.new.self in
+    let going : (after_end_array l.rest ≡ None) × (s ≡ l.rest) = grind arith in
     let item = c.in_ok-item.ensures in
     data_at-shorter (c.args.depth - 1) l.rest item.0 c.from_token.new.rest
     (ap (data_at (c.args.depth - 1)) (sym going.1 ∙ c.in_ok-next.ensures.value) ∙ item.1)
@@ -28,14 +29,16 @@ items-preserved g c =
     let n = c.args.depth - 1 in
     let ds = l.invariant.0 in
     let r = c.from_token.new.rest in
-    let going : (after_end_array l.rest ≡ None) × (c.take_end_array.new.self ≡ l.rest) = grind arith in
+    let s = c.take_end_array.new.self in
+    let going : (after_end_array l.rest ≡ None) × (s ≡ l.rest) = grind arith in
     let item = c.in_ok-item.ensures in (
       ds ++ item.0 ∷ [],
       Items-push n c.args.rest.now ds l.rest item.0 r l.invariant.1
           (ap (data_at n) (sym going.1 ∙ c.in_ok-next.ensures.value) ∙ item.1),
       subst (λ xs. AllRead g.T.FromValue.kind.is (items_of (ds ++ item.0 ∷ [])) xs)
           (sym c.in-Ok.ensures.items)
-          (AllRead-push g.T.FromValue.kind.is ds l.list.items item.0 c.in_ok-item.item l.invariant.2 item.2),
+          (AllRead-push g.T.FromValue.kind.is ds l.list.items item.0 c.in_ok-item.item
+          l.invariant.2 item.2),
     )
 
 pub returns : goal.returns

@@ -1,10 +1,10 @@
-use Rattle.std.proofs.Common.{◌≡◌, [], ◌∷◌, List, ℕ, map, true, false, bytes_eq, sym, ap, ◌∙◌}
+use Rattle.std.proofs.Common.{◌≡◌, ◌∷◌, map, true, false, bytes_eq, sym, ap, ◌∙◌}
 use Rattle.gltf_json_record.specs.Table.{other_names}
 use Rattle.gltf_json_pull.specs.PullLaws.{own_taken, others_lack_own, others_step, distinct_others}
 use Rattle.gltf_json_pull.proofs.rows.Tuple2PullRows.step.Goals as goal
 
-pub returns-in_ok-found-then-eq : goal.returns-in_ok-found-then-eq
-returns-in_ok-found-then-eq g c =
+pub returns-then-eq : goal.returns-then-eq
+returns-then-eq g c =
     let names = map (λ n. n.now) c.args.names.now in
     let others = map (λ n. n.now) c.in_ok-own.others.now in
     let own = c.in_ok-own.own.now.now in
@@ -12,12 +12,12 @@ returns-in_ok-found-then-eq g c =
     let is : names ≡ own ∷ others = ap (map (λ n. n.now)) c.in_ok-own.ensures.cases.0 in
     let same : bytes_eq name own ≡ true = sym c.eq.ensures ∙ c.if-eq.true in
     let lacks = others_lack_own names others own name is same c.requires.distinct in
-    let read = c.in_ok-found-then-eq.ensures in (
+    let read = c.in_ok-found.ensures in (
       read.0,
       read.1,
       λ ms found. (
         own_taken g.A.Of.FromValue.kind names others own name read.0 ms
-            c.in_ok-found-then-eq.field-0 is same read.2,
+            c.in_ok-found.field-0 is same read.2,
         g.met.B.PullRows.apart c.args.self.now.1 (other_names names) name read.0 ms
             c.args.found.now.1 lacks (λ e. c.requires.some (sym e)) found.1,
       ),
