@@ -1,0 +1,36 @@
+//! A record that is read by its table from the tokens of a text.
+
+/// Reads a record from the object that begins with a token, by the rows of its table. They are
+/// those of `read_record!`: `pull_record!(alloc, first, rest, depth; R { count: required("count"),
+/// })`. It stands last in the body of `from_token`.
+#[macro_export]
+macro_rules! pull_record {
+    ($alloc:ident, $first:ident, $rest:ident, $depth:ident; $record:ident {
+        $($field:ident: $row:ident($($given:expr),*),)*
+    }) => {{
+        let read = match $crate::table::pull_table(
+            $alloc,
+            $first,
+            $rest,
+            $depth,
+            gltf_json_record::read_record!(@names [] $($row($($given),*))*),
+            $crate::pull_record!(@rows $($row($($given),*))*),
+        ) {
+            Some(read) => read,
+            None => return None,
+        };
+        let $crate::pull_record!(@pairs $($field)*) = read;
+        Some($record { $($field),* })
+    }};
+    (@rows $row:ident($($given:expr),*)) => {
+        gltf_json_record::rows::Last { row: gltf_json_record::read_record!(@row $row $($given),*) }
+    };
+    (@rows $row:ident($($given:expr),*) $($rest:tt)+) => {
+        (
+            gltf_json_record::read_record!(@row $row $($given),*),
+            $crate::pull_record!(@rows $($rest)+),
+        )
+    };
+    (@pairs $field:ident) => { $field };
+    (@pairs $field:ident $($rest:ident)+) => { ($field, $crate::pull_record!(@pairs $($rest)+)) };
+}
