@@ -1,4 +1,4 @@
-use Rattle.std.proofs.Common.{◌≡◌, sym, ap, ◌∙◌, List, map, length}
+use Rattle.std.proofs.Common.{sym, ap, ◌∙◌, List, map, length}
 use Rattle.serde_json.specs.View.{view}
 use Rattle.serde_json.specs.declared.value.Value.{Value}
 use Rattle.gltf_numbers.specs.Numbers.{numbers_in}
