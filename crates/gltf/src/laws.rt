@@ -3,9 +3,10 @@
 //! nothing.
 //!
 //! What a reader answers over a closure follows from the closure's answers (`gltf_read::laws`). A
-//! law here starts from one import of some bytes, as [`crate::import_slice`] returns it, and what a
-//! reader gives of its document over its buffers. The same is then given of every document and
-//! buffers that these bytes are: of the same accessor, as the same variant, and with the same items.
+//! law here starts from one import of some bytes, as [`crate::import_slice`] returns it, and what
+//! a reader gives of its document over its buffers. The same is then given of every document and
+//! buffers that these bytes are: of the same accessor, as the same variant, and with the same
+//! items.
 
 ghost use Rattle.std.specs.Prelude.{ℕ};
 ghost use Rattle.std.specs.Option.{option_and_then};

@@ -1,5 +1,5 @@
-//! Laws of the bytes of buffers. Each is a statement over the definitions of `specs/`, proved as the
-//! contract of a function that does nothing.
+//! Laws of the bytes of buffers. Each is a statement over the definitions of `specs/`, proved as
+//! the contract of a function that does nothing.
 ghost use Rattle.gltf_buffers.specs.EachLaws.{AreBytesOfAll, FirstErrorIsThatOfAll};
 
 /// Where no buffer's own answer is an error, these are the bytes of all buffers, as

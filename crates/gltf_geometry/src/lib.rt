@@ -1,6 +1,6 @@
-//! Triangles, lines and points out of the vertices of a primitive, whether its indices are in range,
-//! and the keyframes of cubic splines. Nothing is computed or allocated: vertices and values are
-//! given in the order that the standard states.
+//! Triangles, lines and points out of the vertices of a primitive, whether its indices are in
+//! range, and the keyframes of cubic splines. Nothing is computed or allocated: vertices and
+//! values are given in the order that the standard states.
 #![tactic(auto)]
 
 mod cubic_spline;

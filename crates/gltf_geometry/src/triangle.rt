@@ -82,8 +82,8 @@ impl Sequence for TriangleSequence<'_> {
 pub type Triangles<'a> = Items<TriangleSequence<'a>>;
 
 /// The triangles that vertices make up under a mode of triangles, each in the order of its winding
-/// (glTF 2.0, section 3.7.2.1); None under another mode. One or two vertices that are left over make
-/// up no triangle.
+/// (glTF 2.0, section 3.7.2.1); None under another mode. One or two vertices that are left over
+/// make up no triangle.
 pub fn triangles<'a>(mode: Mode, vertices: Vertices<'a>) -> Option<Triangles<'a>>
     ensures { option_map items_left result ≡ triangles_of mode (in_order vertices.entry) }
 {

@@ -40,8 +40,8 @@ impl Numbers for handles::Orthographic<'_> {
 /// standard requires `yfov` and `znear`: without one of these there are no numbers.
 #[derive(Clone, Copy, Debug)]
 pub struct Perspective {
-    /// The width of the view by its height: `aspectRatio`; None where it is absent, which means that
-    /// of the area that is drawn on.
+    /// The width of the view by its height: `aspectRatio`; None where it is absent, which means
+    /// that of the area that is drawn on.
     pub aspect_ratio: Option<f64>,
     /// The angle of view from bottom to top, in radians: `yfov`.
     pub yfov: f64,

@@ -17,8 +17,8 @@ pub struct Light {
     /// The brightness, in candela for point and spot lights and in lux for directional ones:
     /// `intensity`, by default 1.
     pub intensity: f64,
-    /// The distance in metres at which the light ends: `range`; None where it is absent, which means
-    /// that it does not end.
+    /// The distance in metres at which the light ends: `range`; None where it is absent, which
+    /// means that it does not end.
     pub range: Option<f64>,
 }
 
