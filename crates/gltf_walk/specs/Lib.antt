@@ -1,0 +1,3 @@
+pub mod DepthFirst
+pub mod Reached
+pub mod Walks
