@@ -61,6 +61,10 @@ pub type Spline<'a, T> = Items<KeyframeSequence<'a, T>>;
 /// The keyframes of the outputs of a sampler whose interpolation is `CUBICSPLINE`: for each an
 /// in-tangent, a value and an out-tangent (glTF 2.0, section 3.11). None where their number is no
 /// multiple of three.
+///
+/// It is for one value a keyframe: translations, rotations, scales, or the weight of one morph
+/// target. Of several weights a keyframe has all in-tangents first, then all values, then all
+/// out-tangents.
 pub fn spline<'a, T: Copy>(outputs: &'a [T]) -> Option<Spline<'a, T>>
     ensures { MatchOption result (length outputs.now % 3 ≢ 0)
         (λ s. (length outputs.now % 3 ≡ 0) × (items_left s ≡ keyframes outputs.now)) }
