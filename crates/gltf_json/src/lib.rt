@@ -19,7 +19,7 @@ pub use gltf_json_record::error::{Error, RecordFault};
 pub use gltf_json_record::extras::Extras;
 pub use gltf_json_record::index::Index;
 pub use gltf_json_record::path::Path;
-pub use gltf_json_record::{error, extras, index, kinds, path, validation};
+pub use gltf_json_record::{boxed, error, extras, index, kinds, path, validation};
 pub use gltf_json_scene::asset::Asset;
 pub use gltf_json_scene::camera::Camera;
 pub use gltf_json_scene::image::Image;

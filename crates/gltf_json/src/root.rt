@@ -132,14 +132,12 @@ impl Copies for Root {
     }
 }
 
-impl FromValue for Root {
-    ghost use Rattle.gltf_json.specs.Documents.{root};
-
-    ghost kind = { root };
-
-    #[tactic(auto, unfolding(crate::specs::Documents::root))]
-    fn from_value(alloc: Global, value: &Value) -> Result<Root, Error> {
-        read_record!(alloc, value; Root {
+/// The rows of the document, for a macro that reads a record by them:
+/// `root_rows!(read_record!(alloc, value))`.
+#[macro_export]
+macro_rules! root_rows {
+    ($read:ident!($($from:ident),*)) => {
+        $read!($($from),*; Root {
             asset: required("asset"),
             accessors: list_or_empty("accessors"),
             animations: list_or_empty("animations"),
@@ -160,5 +158,16 @@ impl FromValue for Root {
             extensions: optional("extensions"),
             extras: optional("extras"),
         })
+    };
+}
+
+impl FromValue for Root {
+    ghost use Rattle.gltf_json.specs.Documents.{root};
+
+    ghost kind = { root };
+
+    #[tactic(auto, unfolding(crate::specs::Documents::root))]
+    fn from_value(alloc: Global, value: &Value) -> Result<Root, Error> {
+        root_rows!(read_record!(alloc, value))
     }
 }

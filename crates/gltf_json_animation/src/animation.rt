@@ -101,6 +101,19 @@ impl Copies for Target {
     }
 }
 
+/// The rows of the target of a channel, for a macro that reads a record by them:
+/// `target_rows!(read_record!(alloc, value))`.
+#[macro_export]
+macro_rules! target_rows {
+    ($read:ident!($($from:ident),*)) => {
+        $read!($($from),*; Target {
+            node: required("node"),
+            path: required("path"),
+            extras: optional("extras"),
+        })
+    };
+}
+
 impl FromValue for Target {
     ghost use Rattle.gltf_json_animation.specs.Animations.{target};
 
@@ -108,11 +121,7 @@ impl FromValue for Target {
 
     #[tactic(auto, unfolding(crate::specs::Animations::target))]
     fn from_value(alloc: Global, value: &Value) -> Result<Target, Error> {
-        read_record!(alloc, value; Target {
-            node: required("node"),
-            path: required("path"),
-            extras: optional("extras"),
-        })
+        target_rows!(read_record!(alloc, value))
     }
 }
 
@@ -148,6 +157,19 @@ impl Copies for Channel {
     }
 }
 
+/// The rows of a channel, for a macro that reads a record by them:
+/// `channel_rows!(read_record!(alloc, value))`.
+#[macro_export]
+macro_rules! channel_rows {
+    ($read:ident!($($from:ident),*)) => {
+        $read!($($from),*; Channel {
+            sampler: required("sampler"),
+            target: required("target"),
+            extras: optional("extras"),
+        })
+    };
+}
+
 impl FromValue for Channel {
     ghost use Rattle.gltf_json_animation.specs.Animations.{channel};
 
@@ -155,11 +177,7 @@ impl FromValue for Channel {
 
     #[tactic(auto, unfolding(crate::specs::Animations::channel))]
     fn from_value(alloc: Global, value: &Value) -> Result<Channel, Error> {
-        read_record!(alloc, value; Channel {
-            sampler: required("sampler"),
-            target: required("target"),
-            extras: optional("extras"),
-        })
+        channel_rows!(read_record!(alloc, value))
     }
 }
 
@@ -196,6 +214,20 @@ impl Copies for Sampler {
     }
 }
 
+/// The rows of a sampler of an animation, for a macro that reads a record by them:
+/// `sampler_rows!(read_record!(alloc, value))`.
+#[macro_export]
+macro_rules! sampler_rows {
+    ($read:ident!($($from:ident),*)) => {
+        $read!($($from),*; Sampler {
+            input: required("input"),
+            interpolation: or_default("interpolation", Checked::Valid($crate::animation::Interpolation::Linear)),
+            output: required("output"),
+            extras: optional("extras"),
+        })
+    };
+}
+
 impl FromValue for Sampler {
     ghost use Rattle.gltf_json_animation.specs.Animations.{sampler};
 
@@ -203,13 +235,7 @@ impl FromValue for Sampler {
 
     #[tactic(auto, unfolding(crate::specs::Animations::sampler))]
     fn from_value(alloc: Global, value: &Value) -> Result<Sampler, Error> {
-        let linear = Checked::Valid(Interpolation::Linear);
-        read_record!(alloc, value; Sampler {
-            input: required("input"),
-            interpolation: or_default("interpolation", linear),
-            output: required("output"),
-            extras: optional("extras"),
-        })
+        sampler_rows!(read_record!(alloc, value))
     }
 }
 
@@ -252,6 +278,21 @@ impl Copies for Animation {
     }
 }
 
+/// The rows of an animation, for a macro that reads a record by them:
+/// `animation_rows!(read_record!(alloc, value))`.
+#[macro_export]
+macro_rules! animation_rows {
+    ($read:ident!($($from:ident),*)) => {
+        $read!($($from),*; Animation {
+            channels: required("channels"),
+            samplers: required("samplers"),
+            name: optional("name"),
+            extensions: optional("extensions"),
+            extras: optional("extras"),
+        })
+    };
+}
+
 impl FromValue for Animation {
     ghost use Rattle.gltf_json_animation.specs.Animations.{animation};
 
@@ -259,12 +300,6 @@ impl FromValue for Animation {
 
     #[tactic(auto, unfolding(crate::specs::Animations::animation))]
     fn from_value(alloc: Global, value: &Value) -> Result<Animation, Error> {
-        read_record!(alloc, value; Animation {
-            channels: required("channels"),
-            samplers: required("samplers"),
-            name: optional("name"),
-            extensions: optional("extensions"),
-            extras: optional("extras"),
-        })
+        animation_rows!(read_record!(alloc, value))
     }
 }

@@ -147,14 +147,12 @@ impl Copies for Accessor {
     }
 }
 
-impl FromValue for Accessor {
-    ghost use Rattle.gltf_json_geometry.specs.Accessors.{accessor};
-
-    ghost kind = { accessor };
-
-    #[tactic(auto, unfolding(crate::specs::Accessors::accessor))]
-    fn from_value(alloc: Global, value: &Value) -> Result<Accessor, Error> {
-        read_record!(alloc, value; Accessor {
+/// The rows of an accessor, for a macro that reads a record by them:
+/// `accessor_rows!(read_record!(alloc, value))`.
+#[macro_export]
+macro_rules! accessor_rows {
+    ($read:ident!($($from:ident),*)) => {
+        $read!($($from),*; Accessor {
             buffer_view: optional("bufferView"),
             byte_offset: optional("byteOffset"),
             component_type: required("componentType"),
@@ -168,5 +166,16 @@ impl FromValue for Accessor {
             extensions: optional("extensions"),
             extras: optional("extras"),
         })
+    };
+}
+
+impl FromValue for Accessor {
+    ghost use Rattle.gltf_json_geometry.specs.Accessors.{accessor};
+
+    ghost kind = { accessor };
+
+    #[tactic(auto, unfolding(crate::specs::Accessors::accessor))]
+    fn from_value(alloc: Global, value: &Value) -> Result<Accessor, Error> {
+        accessor_rows!(read_record!(alloc, value))
     }
 }

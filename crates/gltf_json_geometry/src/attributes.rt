@@ -17,7 +17,7 @@ use std::collections::BTreeMap;
 
 /// The attributes of a primitive, known and unknown.
 #[derive(Drop)]
-pub(crate) struct Attributes {
+pub struct Attributes {
     /// The index of each known attribute, by what it means.
     pub known: BTreeMap<Semantic, Index<kinds::Accessor>>,
     /// The names of the others, in the order of their bytes.

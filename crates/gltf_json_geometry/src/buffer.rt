@@ -75,6 +75,21 @@ impl Copies for Buffer {
     }
 }
 
+/// The rows of a buffer, for a macro that reads a record by them:
+/// `buffer_rows!(read_record!(alloc, value))`.
+#[macro_export]
+macro_rules! buffer_rows {
+    ($read:ident!($($from:ident),*)) => {
+        $read!($($from),*; Buffer {
+            byte_length: required("byteLength"),
+            uri: optional("uri"),
+            name: optional("name"),
+            extensions: optional("extensions"),
+            extras: optional("extras"),
+        })
+    };
+}
+
 impl FromValue for Buffer {
     ghost use Rattle.gltf_json_geometry.specs.Buffers.{buffer};
 
@@ -82,13 +97,7 @@ impl FromValue for Buffer {
 
     #[tactic(auto, unfolding(crate::specs::Buffers::buffer))]
     fn from_value(alloc: Global, value: &Value) -> Result<Buffer, Error> {
-        read_record!(alloc, value; Buffer {
-            byte_length: required("byteLength"),
-            uri: optional("uri"),
-            name: optional("name"),
-            extensions: optional("extensions"),
-            extras: optional("extras"),
-        })
+        buffer_rows!(read_record!(alloc, value))
     }
 }
 
@@ -138,14 +147,12 @@ impl Copies for View {
     }
 }
 
-impl FromValue for View {
-    ghost use Rattle.gltf_json_geometry.specs.Buffers.{buffer_view};
-
-    ghost kind = { buffer_view };
-
-    #[tactic(auto, unfolding(crate::specs::Buffers::buffer_view))]
-    fn from_value(alloc: Global, value: &Value) -> Result<View, Error> {
-        read_record!(alloc, value; View {
+/// The rows of a view, for a macro that reads a record by them:
+/// `view_rows!(read_record!(alloc, value))`.
+#[macro_export]
+macro_rules! view_rows {
+    ($read:ident!($($from:ident),*)) => {
+        $read!($($from),*; View {
             buffer: required("buffer"),
             byte_length: required("byteLength"),
             byte_offset: optional("byteOffset"),
@@ -155,5 +162,16 @@ impl FromValue for View {
             extensions: optional("extensions"),
             extras: optional("extras"),
         })
+    };
+}
+
+impl FromValue for View {
+    ghost use Rattle.gltf_json_geometry.specs.Buffers.{buffer_view};
+
+    ghost kind = { buffer_view };
+
+    #[tactic(auto, unfolding(crate::specs::Buffers::buffer_view))]
+    fn from_value(alloc: Global, value: &Value) -> Result<View, Error> {
+        view_rows!(read_record!(alloc, value))
     }
 }

@@ -2,7 +2,7 @@
 #![tactic(auto)]
 
 pub mod accessor;
-mod attributes;
+pub mod attributes;
 pub mod buffer;
 pub mod extensions;
 pub mod laws;

@@ -90,6 +90,19 @@ impl Copies for MorphTarget {
     }
 }
 
+/// The rows of a morph target, for a macro that reads a record by them:
+/// `morph_target_rows!(read_record!(alloc, value))`.
+#[macro_export]
+macro_rules! morph_target_rows {
+    ($read:ident!($($from:ident),*)) => {
+        $read!($($from),*; MorphTarget {
+            positions: optional("POSITION"),
+            normals: optional("NORMAL"),
+            tangents: optional("TANGENT"),
+        })
+    };
+}
+
 impl FromValue for MorphTarget {
     ghost use Rattle.gltf_json_geometry.specs.Meshes.{morph_target};
 
@@ -97,11 +110,7 @@ impl FromValue for MorphTarget {
 
     #[tactic(auto, unfolding(crate::specs::Meshes::morph_target))]
     fn from_value(alloc: Global, value: &Value) -> Result<MorphTarget, Error> {
-        read_record!(alloc, value; MorphTarget {
-            positions: optional("POSITION"),
-            normals: optional("NORMAL"),
-            tangents: optional("TANGENT"),
-        })
+        morph_target_rows!(read_record!(alloc, value))
     }
 }
 
@@ -151,23 +160,21 @@ impl Copies for Primitive {
     }
 }
 
-impl FromValue for Primitive {
-    ghost use Rattle.gltf_json_geometry.specs.Meshes.{primitive};
-
-    ghost kind = { primitive };
-
-    #[tactic(auto, unfolding(crate::specs::Meshes::primitive))]
-    fn from_value(alloc: Global, value: &Value) -> Result<Primitive, Error> {
-        read_record!(alloc, value; {
+/// The rows of a primitive, for a macro that reads a record by them:
+/// `primitive_rows!(read_record!(alloc, value))`.
+#[macro_export]
+macro_rules! primitive_rows {
+    ($read:ident!($($from:ident),*)) => {
+        $read!($($from),*; {
             attributes: required("attributes"),
             indices: optional("indices"),
             material: optional("material"),
-            mode: or_default("mode", Checked::Valid(Mode::Triangles)),
+            mode: or_default("mode", Checked::Valid($crate::mesh::Mode::Triangles)),
             targets: list_or_empty("targets"),
             extensions: optional("extensions"),
             extras: optional("extras"),
         } as {
-            let Attributes { known, unknown } = attributes;
+            let $crate::attributes::Attributes { known, unknown } = attributes;
             Primitive {
                 attributes: known,
                 unknown_attributes: unknown,
@@ -179,6 +186,17 @@ impl FromValue for Primitive {
                 extras,
             }
         })
+    };
+}
+
+impl FromValue for Primitive {
+    ghost use Rattle.gltf_json_geometry.specs.Meshes.{primitive};
+
+    ghost kind = { primitive };
+
+    #[tactic(auto, unfolding(crate::specs::Meshes::primitive))]
+    fn from_value(alloc: Global, value: &Value) -> Result<Primitive, Error> {
+        primitive_rows!(read_record!(alloc, value))
     }
 }
 
@@ -221,6 +239,21 @@ impl Copies for Mesh {
     }
 }
 
+/// The rows of a mesh, for a macro that reads a record by them:
+/// `mesh_rows!(read_record!(alloc, value))`.
+#[macro_export]
+macro_rules! mesh_rows {
+    ($read:ident!($($from:ident),*)) => {
+        $read!($($from),*; Mesh {
+            primitives: required("primitives"),
+            weights: optional("weights"),
+            name: optional("name"),
+            extensions: optional("extensions"),
+            extras: optional("extras"),
+        })
+    };
+}
+
 impl FromValue for Mesh {
     ghost use Rattle.gltf_json_geometry.specs.Meshes.{mesh};
 
@@ -228,12 +261,6 @@ impl FromValue for Mesh {
 
     #[tactic(auto, unfolding(crate::specs::Meshes::mesh))]
     fn from_value(alloc: Global, value: &Value) -> Result<Mesh, Error> {
-        read_record!(alloc, value; Mesh {
-            primitives: required("primitives"),
-            weights: optional("weights"),
-            name: optional("name"),
-            extensions: optional("extensions"),
-            extras: optional("extras"),
-        })
+        mesh_rows!(read_record!(alloc, value))
     }
 }

@@ -4,6 +4,7 @@ ghost use Rattle.gltf_json_record.specs.Copy.{IsCopy};
 
 use crate::extensions;
 use crate::texture::Info;
+use gltf_json_record::boxed::Boxed;
 use gltf_json_record::copy::Copies;
 use gltf_json_record::error::Error;
 use gltf_json_record::extensions::Others;
@@ -88,14 +89,12 @@ impl Copies for PbrMetallicRoughness {
     }
 }
 
-impl FromValue for PbrMetallicRoughness {
-    ghost use Rattle.gltf_json_material.specs.Materials.{pbr_metallic_roughness};
-
-    ghost kind = { pbr_metallic_roughness };
-
-    #[tactic(auto, unfolding(crate::specs::Materials::pbr_metallic_roughness))]
-    fn from_value(alloc: Global, value: &Value) -> Result<PbrMetallicRoughness, Error> {
-        read_record!(alloc, value; PbrMetallicRoughness {
+/// The rows of `pbrMetallicRoughness`, for a macro that reads a record by them:
+/// `pbr_metallic_roughness_rows!(read_record!(alloc, value))`.
+#[macro_export]
+macro_rules! pbr_metallic_roughness_rows {
+    ($read:ident!($($from:ident),*)) => {
+        $read!($($from),*; PbrMetallicRoughness {
             base_color_factor: optional("baseColorFactor"),
             base_color_texture: optional("baseColorTexture"),
             metallic_factor: optional("metallicFactor"),
@@ -104,6 +103,17 @@ impl FromValue for PbrMetallicRoughness {
             extensions: optional("extensions"),
             extras: optional("extras"),
         })
+    };
+}
+
+impl FromValue for PbrMetallicRoughness {
+    ghost use Rattle.gltf_json_material.specs.Materials.{pbr_metallic_roughness};
+
+    ghost kind = { pbr_metallic_roughness };
+
+    #[tactic(auto, unfolding(crate::specs::Materials::pbr_metallic_roughness))]
+    fn from_value(alloc: Global, value: &Value) -> Result<PbrMetallicRoughness, Error> {
+        pbr_metallic_roughness_rows!(read_record!(alloc, value))
     }
 }
 
@@ -145,6 +155,21 @@ impl Copies for NormalTexture {
     }
 }
 
+/// The rows of `normalTexture`, for a macro that reads a record by them:
+/// `normal_texture_rows!(read_record!(alloc, value))`.
+#[macro_export]
+macro_rules! normal_texture_rows {
+    ($read:ident!($($from:ident),*)) => {
+        $read!($($from),*; NormalTexture {
+            index: required("index"),
+            scale: optional("scale"),
+            tex_coord: or_default("texCoord", 0),
+            extensions: optional("extensions"),
+            extras: optional("extras"),
+        })
+    };
+}
+
 impl FromValue for NormalTexture {
     ghost use Rattle.gltf_json_material.specs.Materials.{normal_texture};
 
@@ -152,13 +177,7 @@ impl FromValue for NormalTexture {
 
     #[tactic(auto, unfolding(crate::specs::Materials::normal_texture))]
     fn from_value(alloc: Global, value: &Value) -> Result<NormalTexture, Error> {
-        read_record!(alloc, value; NormalTexture {
-            index: required("index"),
-            scale: optional("scale"),
-            tex_coord: or_default("texCoord", 0),
-            extensions: optional("extensions"),
-            extras: optional("extras"),
-        })
+        normal_texture_rows!(read_record!(alloc, value))
     }
 }
 
@@ -200,6 +219,21 @@ impl Copies for OcclusionTexture {
     }
 }
 
+/// The rows of `occlusionTexture`, for a macro that reads a record by them:
+/// `occlusion_texture_rows!(read_record!(alloc, value))`.
+#[macro_export]
+macro_rules! occlusion_texture_rows {
+    ($read:ident!($($from:ident),*)) => {
+        $read!($($from),*; OcclusionTexture {
+            index: required("index"),
+            strength: optional("strength"),
+            tex_coord: or_default("texCoord", 0),
+            extensions: optional("extensions"),
+            extras: optional("extras"),
+        })
+    };
+}
+
 impl FromValue for OcclusionTexture {
     ghost use Rattle.gltf_json_material.specs.Materials.{occlusion_texture};
 
@@ -207,13 +241,7 @@ impl FromValue for OcclusionTexture {
 
     #[tactic(auto, unfolding(crate::specs::Materials::occlusion_texture))]
     fn from_value(alloc: Global, value: &Value) -> Result<OcclusionTexture, Error> {
-        read_record!(alloc, value; OcclusionTexture {
-            index: required("index"),
-            strength: optional("strength"),
-            tex_coord: or_default("texCoord", 0),
-            extensions: optional("extensions"),
-            extras: optional("extras"),
-        })
+        occlusion_texture_rows!(read_record!(alloc, value))
     }
 }
 
@@ -227,11 +255,11 @@ pub struct Material {
     /// Whether both sides of a surface are shown: `doubleSided`. It is false where absent.
     pub double_sided: bool,
     /// The colour, metalness and roughness: `pbrMetallicRoughness`.
-    pub pbr_metallic_roughness: Option<PbrMetallicRoughness>,
+    pub pbr_metallic_roughness: Option<Boxed<PbrMetallicRoughness>>,
     /// The texture of the normals: `normalTexture`.
-    pub normal_texture: Option<NormalTexture>,
+    pub normal_texture: Option<Boxed<NormalTexture>>,
     /// The texture of the occlusion: `occlusionTexture`.
-    pub occlusion_texture: Option<OcclusionTexture>,
+    pub occlusion_texture: Option<Boxed<OcclusionTexture>>,
     /// The texture of the light that the surface gives off: `emissiveTexture`.
     pub emissive_texture: Option<Info>,
     /// The factors of that light, as they stand: `emissiveFactor`.
@@ -239,7 +267,7 @@ pub struct Material {
     /// A name given by the user: `name`.
     pub name: Option<String>,
     /// The extensions: `extensions`.
-    pub extensions: Option<extensions::material::Material>,
+    pub extensions: Option<Boxed<extensions::material::Material>>,
     /// What the application stores here: `extras`.
     pub extras: Extras,
 }
@@ -272,16 +300,14 @@ impl Copies for Material {
     }
 }
 
-impl FromValue for Material {
-    ghost use Rattle.gltf_json_material.specs.Materials.{material};
-
-    ghost kind = { material };
-
-    #[tactic(auto, unfolding(crate::specs::Materials::material))]
-    fn from_value(alloc: Global, value: &Value) -> Result<Material, Error> {
-        read_record!(alloc, value; Material {
+/// The rows of a material, for a macro that reads a record by them:
+/// `material_rows!(read_record!(alloc, value))`.
+#[macro_export]
+macro_rules! material_rows {
+    ($read:ident!($($from:ident),*)) => {
+        $read!($($from),*; Material {
             alpha_cutoff: optional("alphaCutoff"),
-            alpha_mode: or_default("alphaMode", Checked::Valid(AlphaMode::Opaque)),
+            alpha_mode: or_default("alphaMode", Checked::Valid($crate::material::AlphaMode::Opaque)),
             double_sided: or_default("doubleSided", false),
             pbr_metallic_roughness: optional("pbrMetallicRoughness"),
             normal_texture: optional("normalTexture"),
@@ -292,5 +318,16 @@ impl FromValue for Material {
             extensions: optional("extensions"),
             extras: optional("extras"),
         })
+    };
+}
+
+impl FromValue for Material {
+    ghost use Rattle.gltf_json_material.specs.Materials.{material};
+
+    ghost kind = { material };
+
+    #[tactic(auto, unfolding(crate::specs::Materials::material))]
+    fn from_value(alloc: Global, value: &Value) -> Result<Material, Error> {
+        material_rows!(read_record!(alloc, value))
     }
 }

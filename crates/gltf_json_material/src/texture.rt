@@ -3,6 +3,7 @@ ghost use Rattle.std.specs.Prelude.{IfOk};
 ghost use Rattle.gltf_json_record.specs.Copy.{IsCopy};
 
 use crate::extensions;
+use gltf_json_record::boxed::Boxed;
 use gltf_json_record::copy::Copies;
 use gltf_json_record::error::Error;
 use gltf_json_record::extras::Extras;
@@ -22,7 +23,7 @@ pub struct Info {
     /// absent.
     pub tex_coord: u32,
     /// The extensions: `extensions`.
-    pub extensions: Option<extensions::texture::Info>,
+    pub extensions: Option<Boxed<extensions::texture::Info>>,
     /// What the application stores here: `extras`.
     pub extras: Extras,
 }
@@ -48,6 +49,20 @@ impl Copies for Info {
     }
 }
 
+/// The rows of the use of a texture, for a macro that reads a record by them:
+/// `info_rows!(read_record!(alloc, value))`.
+#[macro_export]
+macro_rules! info_rows {
+    ($read:ident!($($from:ident),*)) => {
+        $read!($($from),*; Info {
+            index: required("index"),
+            tex_coord: or_default("texCoord", 0),
+            extensions: optional("extensions"),
+            extras: optional("extras"),
+        })
+    };
+}
+
 impl FromValue for Info {
     ghost use Rattle.gltf_json_material.specs.Textures.{texture_info};
 
@@ -55,11 +70,6 @@ impl FromValue for Info {
 
     #[tactic(auto, unfolding(crate::specs::Textures::texture_info))]
     fn from_value(alloc: Global, value: &Value) -> Result<Info, Error> {
-        read_record!(alloc, value; Info {
-            index: required("index"),
-            tex_coord: or_default("texCoord", 0),
-            extensions: optional("extensions"),
-            extras: optional("extras"),
-        })
+        info_rows!(read_record!(alloc, value))
     }
 }

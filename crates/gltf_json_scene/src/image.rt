@@ -54,14 +54,12 @@ impl Copies for Image {
     }
 }
 
-impl FromValue for Image {
-    ghost use Rattle.gltf_json_scene.specs.Images.{image};
-
-    ghost kind = { image };
-
-    #[tactic(auto, unfolding(crate::specs::Images::image))]
-    fn from_value(alloc: Global, value: &Value) -> Result<Image, Error> {
-        read_record!(alloc, value; Image {
+/// The rows of an image, for a macro that reads a record by them:
+/// `image_rows!(read_record!(alloc, value))`.
+#[macro_export]
+macro_rules! image_rows {
+    ($read:ident!($($from:ident),*)) => {
+        $read!($($from),*; Image {
             buffer_view: optional("bufferView"),
             mime_type: optional("mimeType"),
             uri: optional("uri"),
@@ -69,5 +67,16 @@ impl FromValue for Image {
             extensions: optional("extensions"),
             extras: optional("extras"),
         })
+    };
+}
+
+impl FromValue for Image {
+    ghost use Rattle.gltf_json_scene.specs.Images.{image};
+
+    ghost kind = { image };
+
+    #[tactic(auto, unfolding(crate::specs::Images::image))]
+    fn from_value(alloc: Global, value: &Value) -> Result<Image, Error> {
+        image_rows!(read_record!(alloc, value))
     }
 }

@@ -72,14 +72,12 @@ impl Copies for Node {
     }
 }
 
-impl FromValue for Node {
-    ghost use Rattle.gltf_json_scene.specs.Scenes.{node};
-
-    ghost kind = { node };
-
-    #[tactic(auto, unfolding(crate::specs::Scenes::node))]
-    fn from_value(alloc: Global, value: &Value) -> Result<Node, Error> {
-        read_record!(alloc, value; Node {
+/// The rows of a node, for a macro that reads a record by them:
+/// `node_rows!(read_record!(alloc, value))`.
+#[macro_export]
+macro_rules! node_rows {
+    ($read:ident!($($from:ident),*)) => {
+        $read!($($from),*; Node {
             camera: optional("camera"),
             children: list_or_empty("children"),
             mesh: optional("mesh"),
@@ -93,6 +91,17 @@ impl FromValue for Node {
             extensions: optional("extensions"),
             extras: optional("extras"),
         })
+    };
+}
+
+impl FromValue for Node {
+    ghost use Rattle.gltf_json_scene.specs.Scenes.{node};
+
+    ghost kind = { node };
+
+    #[tactic(auto, unfolding(crate::specs::Scenes::node))]
+    fn from_value(alloc: Global, value: &Value) -> Result<Node, Error> {
+        node_rows!(read_record!(alloc, value))
     }
 }
 
@@ -132,6 +141,20 @@ impl Copies for Scene {
     }
 }
 
+/// The rows of a scene, for a macro that reads a record by them:
+/// `scene_rows!(read_record!(alloc, value))`.
+#[macro_export]
+macro_rules! scene_rows {
+    ($read:ident!($($from:ident),*)) => {
+        $read!($($from),*; Scene {
+            nodes: list_or_empty("nodes"),
+            name: optional("name"),
+            extensions: optional("extensions"),
+            extras: optional("extras"),
+        })
+    };
+}
+
 impl FromValue for Scene {
     ghost use Rattle.gltf_json_scene.specs.Scenes.{scene};
 
@@ -139,11 +162,6 @@ impl FromValue for Scene {
 
     #[tactic(auto, unfolding(crate::specs::Scenes::scene))]
     fn from_value(alloc: Global, value: &Value) -> Result<Scene, Error> {
-        read_record!(alloc, value; Scene {
-            nodes: list_or_empty("nodes"),
-            name: optional("name"),
-            extensions: optional("extensions"),
-            extras: optional("extras"),
-        })
+        scene_rows!(read_record!(alloc, value))
     }
 }

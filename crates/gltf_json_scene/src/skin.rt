@@ -54,14 +54,12 @@ impl Copies for Skin {
     }
 }
 
-impl FromValue for Skin {
-    ghost use Rattle.gltf_json_scene.specs.Skins.{skin};
-
-    ghost kind = { skin };
-
-    #[tactic(auto, unfolding(crate::specs::Skins::skin))]
-    fn from_value(alloc: Global, value: &Value) -> Result<Skin, Error> {
-        read_record!(alloc, value; Skin {
+/// The rows of a skin, for a macro that reads a record by them:
+/// `skin_rows!(read_record!(alloc, value))`.
+#[macro_export]
+macro_rules! skin_rows {
+    ($read:ident!($($from:ident),*)) => {
+        $read!($($from),*; Skin {
             inverse_bind_matrices: optional("inverseBindMatrices"),
             joints: required("joints"),
             skeleton: optional("skeleton"),
@@ -69,5 +67,16 @@ impl FromValue for Skin {
             extensions: optional("extensions"),
             extras: optional("extras"),
         })
+    };
+}
+
+impl FromValue for Skin {
+    ghost use Rattle.gltf_json_scene.specs.Skins.{skin};
+
+    ghost kind = { skin };
+
+    #[tactic(auto, unfolding(crate::specs::Skins::skin))]
+    fn from_value(alloc: Global, value: &Value) -> Result<Skin, Error> {
+        skin_rows!(read_record!(alloc, value))
     }
 }

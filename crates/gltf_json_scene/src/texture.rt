@@ -140,6 +140,23 @@ impl Copies for Sampler {
     }
 }
 
+/// The rows of a sampler, for a macro that reads a record by them:
+/// `sampler_rows!(read_record!(alloc, value))`.
+#[macro_export]
+macro_rules! sampler_rows {
+    ($read:ident!($($from:ident),*)) => {
+        $read!($($from),*; Sampler {
+            mag_filter: optional("magFilter"),
+            min_filter: optional("minFilter"),
+            wrap_s: or_default("wrapS", Checked::Valid($crate::texture::WrappingMode::Repeat)),
+            wrap_t: or_default("wrapT", Checked::Valid($crate::texture::WrappingMode::Repeat)),
+            name: optional("name"),
+            extensions: optional("extensions"),
+            extras: optional("extras"),
+        })
+    };
+}
+
 impl FromValue for Sampler {
     ghost use Rattle.gltf_json_scene.specs.Textures.{sampler};
 
@@ -147,16 +164,7 @@ impl FromValue for Sampler {
 
     #[tactic(auto, unfolding(crate::specs::Textures::sampler))]
     fn from_value(alloc: Global, value: &Value) -> Result<Sampler, Error> {
-        let repeat = Checked::Valid(WrappingMode::Repeat);
-        read_record!(alloc, value; Sampler {
-            mag_filter: optional("magFilter"),
-            min_filter: optional("minFilter"),
-            wrap_s: or_default("wrapS", repeat),
-            wrap_t: or_default("wrapT", repeat),
-            name: optional("name"),
-            extensions: optional("extensions"),
-            extras: optional("extras"),
-        })
+        sampler_rows!(read_record!(alloc, value))
     }
 }
 
@@ -197,6 +205,21 @@ impl Copies for Texture {
     }
 }
 
+/// The rows of a texture, for a macro that reads a record by them:
+/// `texture_rows!(read_record!(alloc, value))`.
+#[macro_export]
+macro_rules! texture_rows {
+    ($read:ident!($($from:ident),*)) => {
+        $read!($($from),*; Texture {
+            sampler: optional("sampler"),
+            source: required("source"),
+            name: optional("name"),
+            extensions: optional("extensions"),
+            extras: optional("extras"),
+        })
+    };
+}
+
 impl FromValue for Texture {
     ghost use Rattle.gltf_json_scene.specs.Textures.{texture};
 
@@ -204,12 +227,6 @@ impl FromValue for Texture {
 
     #[tactic(auto, unfolding(crate::specs::Textures::texture))]
     fn from_value(alloc: Global, value: &Value) -> Result<Texture, Error> {
-        read_record!(alloc, value; Texture {
-            sampler: optional("sampler"),
-            source: required("source"),
-            name: optional("name"),
-            extensions: optional("extensions"),
-            extras: optional("extras"),
-        })
+        texture_rows!(read_record!(alloc, value))
     }
 }

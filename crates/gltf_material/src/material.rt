@@ -20,6 +20,7 @@ use crate::texture::Info;
 pub use extended::{Specular, Transmission, Volume};
 use gltf_handles::inner::Inner;
 use gltf_handles::member::meaning;
+use gltf_json::boxed::lent;
 pub use gltf_json::material::AlphaMode;
 use gltf_json::{Map, Value, extensions, kinds, material};
 use gltf_rules::{Records, Valid};
@@ -129,7 +130,7 @@ impl<'a, D: Records> Material<'a, D> {
             (material_handle self.now).json.pbr_metallic_roughness result }
     {
         let json = match self.json {
-            Some(json) => json.pbr_metallic_roughness.as_ref(),
+            Some(json) => lent(&json.pbr_metallic_roughness),
             None => None,
         };
         PbrMetallicRoughness {
@@ -241,7 +242,7 @@ impl<'a, D: Records> Material<'a, D> {
         ensures { Follows (IsNormal (material_handle self.now).document)
             (material_handle self.now).json.normal_texture result }
     {
-        let json = self.json?.normal_texture.as_ref()?;
+        let json = lent(&self.json?.normal_texture)?;
         Some(NormalTexture {
             inner: Inner {
                 document: self.document,
@@ -255,7 +256,7 @@ impl<'a, D: Records> Material<'a, D> {
         ensures { Follows (IsOcclusion (material_handle self.now).document)
             (material_handle self.now).json.occlusion_texture result }
     {
-        let json = self.json?.occlusion_texture.as_ref()?;
+        let json = lent(&self.json?.occlusion_texture)?;
         Some(OcclusionTexture {
             inner: Inner {
                 document: self.document,
@@ -305,6 +306,6 @@ impl<'a, D: Records> Material<'a, D> {
             (material_extensions_rules (counts_of (material_handle self.now).document))
             (option_copied result)) }
     {
-        self.json?.extensions.as_ref()
+        lent(&self.json?.extensions)
     }
 }

@@ -10,6 +10,7 @@ ghost use Rattle.gltf_validation.specs.Rules.{Hold};
 ghost use Rattle.gltf_validation.specs.Textures.{info_rules};
 
 use gltf_handles::inner::Inner;
+use gltf_json::boxed::lent;
 use gltf_json::extensions::texture as extended;
 use gltf_json::{Map, Value, texture};
 use gltf_look::texture::Texture;
@@ -58,13 +59,8 @@ impl<'a, D: Records> Info<'a, D> {
         ensures { option_map transform_record result
             ≡ option_and_then (λ e. e.texture_transform) (info_handle self.now).json.extensions }
     {
-        let json = self
-            .inner
-            .json
-            .extensions
-            .as_ref()?
-            .texture_transform
-            .as_ref()?;
+        let known = lent(&self.inner.json.extensions)?;
+        let json = known.texture_transform.as_ref()?;
         Some(TextureTransform { json })
     }
 
@@ -74,7 +70,7 @@ impl<'a, D: Records> Info<'a, D> {
         ensures { option_copied result
             ≡ option_map (λ e. e.others) (info_handle self.now).json.extensions }
     {
-        Some(&self.inner.json.extensions.as_ref()?.others)
+        Some(&lent(&self.inner.json.extensions)?.others)
     }
 
     /// The extension of this name, where it is not known at the use of a texture.

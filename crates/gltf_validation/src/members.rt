@@ -10,6 +10,7 @@ use crate::error::Error;
 use crate::location::Location;
 use crate::report::Report;
 use crate::validate::Validate;
+use gltf_json_record::boxed::Boxed;
 use gltf_json_record::index::Index;
 use gltf_json_record::validation::Checked;
 use std::alloc::AllocError;
@@ -77,6 +78,19 @@ impl<T: Validate> Validate for Option<T> {
             None => Ok(()),
             Some(value) => value.validate(counts, location, report),
         }
+    }
+}
+
+impl<T: Validate> Validate for Boxed<T> {
+    ghost rules = { λ c b. T.rules c b };
+
+    fn validate(
+        &self,
+        counts: &Counts,
+        location: &Location<'_>,
+        report: &mut Report,
+    ) -> Result<(), AllocError> {
+        self.get().validate(counts, location, report)
     }
 }
 

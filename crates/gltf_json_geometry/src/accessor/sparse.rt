@@ -97,6 +97,19 @@ impl Copies for Values {
     }
 }
 
+/// The rows of the values of a sparse accessor, for a macro that reads a record by them:
+/// `values_rows!(read_record!(alloc, value))`.
+#[macro_export]
+macro_rules! values_rows {
+    ($read:ident!($($from:ident),*)) => {
+        $read!($($from),*; Values {
+            buffer_view: required("bufferView"),
+            byte_offset: or_default("byteOffset", 0),
+            extras: optional("extras"),
+        })
+    };
+}
+
 impl FromValue for Values {
     ghost use Rattle.gltf_json_geometry.specs.Accessors.{values};
 
@@ -104,11 +117,7 @@ impl FromValue for Values {
 
     #[tactic(auto, unfolding(crate::specs::Accessors::values))]
     fn from_value(alloc: Global, value: &Value) -> Result<Values, Error> {
-        read_record!(alloc, value; Values {
-            buffer_view: required("bufferView"),
-            byte_offset: or_default("byteOffset", 0),
-            extras: optional("extras"),
-        })
+        values_rows!(read_record!(alloc, value))
     }
 }
 
@@ -147,6 +156,20 @@ impl Copies for Sparse {
     }
 }
 
+/// The rows of the sparse part of an accessor, for a macro that reads a record by them:
+/// `sparse_rows!(read_record!(alloc, value))`.
+#[macro_export]
+macro_rules! sparse_rows {
+    ($read:ident!($($from:ident),*)) => {
+        $read!($($from),*; Sparse {
+            count: required("count"),
+            indices: required("indices"),
+            values: required("values"),
+            extras: optional("extras"),
+        })
+    };
+}
+
 impl FromValue for Sparse {
     ghost use Rattle.gltf_json_geometry.specs.Accessors.{sparse};
 
@@ -154,12 +177,7 @@ impl FromValue for Sparse {
 
     #[tactic(auto, unfolding(crate::specs::Accessors::sparse))]
     fn from_value(alloc: Global, value: &Value) -> Result<Sparse, Error> {
-        read_record!(alloc, value; Sparse {
-            count: required("count"),
-            indices: required("indices"),
-            values: required("values"),
-            extras: optional("extras"),
-        })
+        sparse_rows!(read_record!(alloc, value))
     }
 }
 
