@@ -26,6 +26,25 @@ pub enum Interpolation {
     CubicSpline,
 }
 
+impl Interpolation {
+    ghost use Rattle.std.specs.Prelude.{◌≡◌, Some};
+    ghost use Rattle.serde_json.specs.Data.{string};
+    ghost use Rattle.gltf_json_record.specs.declared.validation.Checked.TheVariants.{Valid};
+    ghost use Rattle.gltf_json_animation.specs.Codes.{interpolation};
+
+    /// The string that stands for it in JSON (glTF 2.0, section 5.8.2,
+    /// `animation.sampler.interpolation`), as `LINEAR`.
+    pub fn as_str(&self) -> &'static str
+        ensures { interpolation (string result.now) ≡ Some (Valid self.now) }
+    {
+        match self {
+            Interpolation::Linear => "LINEAR",
+            Interpolation::Step => "STEP",
+            Interpolation::CubicSpline => "CUBICSPLINE",
+        }
+    }
+}
+
 impl Code for Interpolation {
     ghost use Rattle.gltf_json_animation.specs.Codes.{interpolation};
 
@@ -52,6 +71,26 @@ pub enum Property {
     Scale,
     /// The weights of its morph targets: the code `weights`.
     MorphTargetWeights,
+}
+
+impl Property {
+    ghost use Rattle.std.specs.Prelude.{◌≡◌, Some};
+    ghost use Rattle.serde_json.specs.Data.{string};
+    ghost use Rattle.gltf_json_record.specs.declared.validation.Checked.TheVariants.{Valid};
+    ghost use Rattle.gltf_json_animation.specs.Codes.{property};
+
+    /// The string that stands for it in JSON (glTF 2.0, section 5.7.2,
+    /// `animation.channel.target.path`), as `translation`.
+    pub fn as_str(&self) -> &'static str
+        ensures { property (string result.now) ≡ Some (Valid self.now) }
+    {
+        match self {
+            Property::Translation => "translation",
+            Property::Rotation => "rotation",
+            Property::Scale => "scale",
+            Property::MorphTargetWeights => "weights",
+        }
+    }
 }
 
 impl Code for Property {

@@ -1,4 +1,5 @@
 pub mod Codes
+pub mod Names
 pub mod Buffers
 pub mod Accessors
 pub mod Semantics

@@ -34,6 +34,25 @@ pub enum ComponentType {
     F32,
 }
 
+impl ComponentType {
+    ghost use Rattle.std.specs.Prelude.{◌≡◌};
+    ghost use Rattle.gltf_json_geometry.specs.Names.{component_type_name};
+
+    /// The name of its code (glTF 2.0, section 5.1.3, `accessor.componentType`), as `FLOAT`.
+    pub fn as_str(&self) -> &'static str
+        ensures { result.now ≡ component_type_name self.now }
+    {
+        match self {
+            ComponentType::I8 => "BYTE",
+            ComponentType::U8 => "UNSIGNED_BYTE",
+            ComponentType::I16 => "SHORT",
+            ComponentType::U16 => "UNSIGNED_SHORT",
+            ComponentType::U32 => "UNSIGNED_INT",
+            ComponentType::F32 => "FLOAT",
+        }
+    }
+}
+
 impl Code for ComponentType {
     ghost use Rattle.gltf_json_geometry.specs.Codes.{component_type};
 
@@ -69,6 +88,28 @@ pub enum Type {
     Mat3,
     /// Four columns of four: `MAT4`.
     Mat4,
+}
+
+impl Type {
+    ghost use Rattle.std.specs.Prelude.{◌≡◌, Some};
+    ghost use Rattle.serde_json.specs.Data.{string};
+    ghost use Rattle.gltf_json_record.specs.declared.validation.Checked.TheVariants.{Valid};
+    ghost use Rattle.gltf_json_geometry.specs.Codes.{dimensions};
+
+    /// The string that stands for it in JSON (glTF 2.0, section 5.1.6, `accessor.type`), as `VEC3`.
+    pub fn as_str(&self) -> &'static str
+        ensures { dimensions (string result.now) ≡ Some (Valid self.now) }
+    {
+        match self {
+            Type::Scalar => "SCALAR",
+            Type::Vec2 => "VEC2",
+            Type::Vec3 => "VEC3",
+            Type::Vec4 => "VEC4",
+            Type::Mat2 => "MAT2",
+            Type::Mat3 => "MAT3",
+            Type::Mat4 => "MAT4",
+        }
+    }
 }
 
 impl Code for Type {

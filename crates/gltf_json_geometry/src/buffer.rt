@@ -23,6 +23,21 @@ pub enum Target {
     ElementArrayBuffer,
 }
 
+impl Target {
+    ghost use Rattle.std.specs.Prelude.{◌≡◌};
+    ghost use Rattle.gltf_json_geometry.specs.Names.{view_target_name};
+
+    /// The name of its code (glTF 2.0, section 5.11.5, `bufferView.target`), as `ARRAY_BUFFER`.
+    pub fn as_str(&self) -> &'static str
+        ensures { result.now ≡ view_target_name self.now }
+    {
+        match self {
+            Target::ArrayBuffer => "ARRAY_BUFFER",
+            Target::ElementArrayBuffer => "ELEMENT_ARRAY_BUFFER",
+        }
+    }
+}
+
 impl Code for Target {
     ghost use Rattle.gltf_json_geometry.specs.Codes.{view_target};
 

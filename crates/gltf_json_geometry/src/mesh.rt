@@ -37,6 +37,27 @@ pub enum Mode {
     TriangleFan,
 }
 
+impl Mode {
+    ghost use Rattle.std.specs.Prelude.{◌≡◌};
+    ghost use Rattle.gltf_json_geometry.specs.Names.{mode_name};
+
+    /// The name of its code (glTF 2.0, section 5.24.4, `mesh.primitive.mode`), as
+    /// `TRIANGLE_STRIP`.
+    pub fn as_str(&self) -> &'static str
+        ensures { result.now ≡ mode_name self.now }
+    {
+        match self {
+            Mode::Points => "POINTS",
+            Mode::Lines => "LINES",
+            Mode::LineLoop => "LINE_LOOP",
+            Mode::LineStrip => "LINE_STRIP",
+            Mode::Triangles => "TRIANGLES",
+            Mode::TriangleStrip => "TRIANGLE_STRIP",
+            Mode::TriangleFan => "TRIANGLE_FAN",
+        }
+    }
+}
+
 impl Code for Mode {
     ghost use Rattle.gltf_json_geometry.specs.Codes.{mode};
 

@@ -28,6 +28,25 @@ pub enum AlphaMode {
     Blend,
 }
 
+impl AlphaMode {
+    ghost use Rattle.std.specs.Prelude.{◌≡◌, Some};
+    ghost use Rattle.serde_json.specs.Data.{string};
+    ghost use Rattle.gltf_json_record.specs.declared.validation.Checked.TheVariants.{Valid};
+    ghost use Rattle.gltf_json_material.specs.Codes.{alpha_mode};
+
+    /// The string that stands for it in JSON (glTF 2.0, section 5.19, `material.alphaMode`), as
+    /// `MASK`.
+    pub fn as_str(&self) -> &'static str
+        ensures { alpha_mode (string result.now) ≡ Some (Valid self.now) }
+    {
+        match self {
+            AlphaMode::Opaque => "OPAQUE",
+            AlphaMode::Mask => "MASK",
+            AlphaMode::Blend => "BLEND",
+        }
+    }
+}
+
 impl Code for AlphaMode {
     ghost use Rattle.gltf_json_material.specs.Codes.{alpha_mode};
 

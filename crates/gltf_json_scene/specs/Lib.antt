@@ -1,4 +1,5 @@
 pub mod Codes
+pub mod Names
 pub mod Assets
 pub mod Cameras
 pub mod Images

@@ -22,6 +22,24 @@ pub enum Type {
     Orthographic,
 }
 
+impl Type {
+    ghost use Rattle.std.specs.Prelude.{◌≡◌, Some};
+    ghost use Rattle.serde_json.specs.Data.{string};
+    ghost use Rattle.gltf_json_record.specs.declared.validation.Checked.TheVariants.{Valid};
+    ghost use Rattle.gltf_json_scene.specs.Codes.{camera_type};
+
+    /// The string that stands for it in JSON (glTF 2.0, section 5.12.3, `camera.type`), as
+    /// `perspective`.
+    pub fn as_str(&self) -> &'static str
+        ensures { camera_type (string result.now) ≡ Some (Valid self.now) }
+    {
+        match self {
+            Type::Perspective => "perspective",
+            Type::Orthographic => "orthographic",
+        }
+    }
+}
+
 impl Code for Type {
     ghost use Rattle.gltf_json_scene.specs.Codes.{camera_type};
 

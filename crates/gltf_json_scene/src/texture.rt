@@ -23,6 +23,21 @@ pub enum MagFilter {
     Linear,
 }
 
+impl MagFilter {
+    ghost use Rattle.std.specs.Prelude.{◌≡◌};
+    ghost use Rattle.gltf_json_scene.specs.Names.{mag_filter_name};
+
+    /// The name of its code (glTF 2.0, section 5.26.1, `sampler.magFilter`), as `LINEAR`.
+    pub fn as_str(&self) -> &'static str
+        ensures { result.now ≡ mag_filter_name self.now }
+    {
+        match self {
+            MagFilter::Nearest => "NEAREST",
+            MagFilter::Linear => "LINEAR",
+        }
+    }
+}
+
 impl Code for MagFilter {
     ghost use Rattle.gltf_json_scene.specs.Codes.{mag_filter};
 
@@ -54,6 +69,26 @@ pub enum MinFilter {
     LinearMipmapLinear,
 }
 
+impl MinFilter {
+    ghost use Rattle.std.specs.Prelude.{◌≡◌};
+    ghost use Rattle.gltf_json_scene.specs.Names.{min_filter_name};
+
+    /// The name of its code (glTF 2.0, section 5.26.2, `sampler.minFilter`), as
+    /// `LINEAR_MIPMAP_NEAREST`.
+    pub fn as_str(&self) -> &'static str
+        ensures { result.now ≡ min_filter_name self.now }
+    {
+        match self {
+            MinFilter::Nearest => "NEAREST",
+            MinFilter::Linear => "LINEAR",
+            MinFilter::NearestMipmapNearest => "NEAREST_MIPMAP_NEAREST",
+            MinFilter::LinearMipmapNearest => "LINEAR_MIPMAP_NEAREST",
+            MinFilter::NearestMipmapLinear => "NEAREST_MIPMAP_LINEAR",
+            MinFilter::LinearMipmapLinear => "LINEAR_MIPMAP_LINEAR",
+        }
+    }
+}
+
 impl Code for MinFilter {
     ghost use Rattle.gltf_json_scene.specs.Codes.{min_filter};
 
@@ -82,6 +117,23 @@ pub enum WrappingMode {
     MirroredRepeat,
     /// The texture once more: the code 10497.
     Repeat,
+}
+
+impl WrappingMode {
+    ghost use Rattle.std.specs.Prelude.{◌≡◌};
+    ghost use Rattle.gltf_json_scene.specs.Names.{wrapping_mode_name};
+
+    /// The name of its code (glTF 2.0, sections 5.26.3 and 5.26.4, `sampler.wrapS` and
+    /// `sampler.wrapT`), as `CLAMP_TO_EDGE`.
+    pub fn as_str(&self) -> &'static str
+        ensures { result.now ≡ wrapping_mode_name self.now }
+    {
+        match self {
+            WrappingMode::ClampToEdge => "CLAMP_TO_EDGE",
+            WrappingMode::MirroredRepeat => "MIRRORED_REPEAT",
+            WrappingMode::Repeat => "REPEAT",
+        }
+    }
 }
 
 impl Code for WrappingMode {

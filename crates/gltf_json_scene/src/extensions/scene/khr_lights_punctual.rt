@@ -23,6 +23,24 @@ pub enum Type {
     Spot,
 }
 
+impl Type {
+    ghost use Rattle.std.specs.Prelude.{◌≡◌, Some};
+    ghost use Rattle.serde_json.specs.Data.{string};
+    ghost use Rattle.gltf_json_record.specs.declared.validation.Checked.TheVariants.{Valid};
+    ghost use Rattle.gltf_json_scene.specs.Codes.{light_type};
+
+    /// The string that stands for it in JSON (`KHR_lights_punctual`, "Light Types"), as `spot`.
+    pub fn as_str(&self) -> &'static str
+        ensures { light_type (string result.now) ≡ Some (Valid self.now) }
+    {
+        match self {
+            Type::Directional => "directional",
+            Type::Point => "point",
+            Type::Spot => "spot",
+        }
+    }
+}
+
 impl Code for Type {
     ghost use Rattle.gltf_json_scene.specs.Codes.{light_type};
 
