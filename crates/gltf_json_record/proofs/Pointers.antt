@@ -3,17 +3,12 @@ use Rattle.std.proofs.Common.{◌≡◌, ℕ, suc, ◌+◌, ◌<◌, List, [], �
 use Rattle.std.proofs.Common.{refl, sym, ap, ap₂, ◌∙◌, append_assoc, append-nil, arith, codes}
 use Rattle.std.proofs.Common.{encode_utf8}
 use Rattle.std.proofs.lemmas.Bool.Decides.{nat_tests}
+use Rattle.std.proofs.lemmas.Grind.{flat_map-append}
 use Rattle.std.proofs.lemmas.List.{take_more, map-append}
 use Rattle.std.proofs.lemmas.Str.{inside_one}
-use Rattle.gltf_json_record.specs.Place.{Place, place_of}
-use Rattle.gltf_json_record.specs.Pointer.{escape, escaped, reference_token, pointer_text}
+use Rattle.gltf_json_record.specs.Place.{place_of}
+use Rattle.gltf_json_record.specs.Pointer.{escape, escaped, reference_token, pointer_step, pointer_text}
 use Rattle.gltf_json_record.specs.declared.path.Step.{Step}
-
-pub escaped-append : (a b : List ℕ) → escaped (a ++ b) ≡ escaped a ++ escaped b
-escaped-append [] b = refl
-escaped-append (x ∷ a) b =
-    ap (λ t. escape x ++ t) (escaped-append a b)
-    ∙ sym (append_assoc (escape x) (escaped a) (escaped b))
 
 escape_other : (x : ℕ) → ¬ (x ≡ 126) → ¬ (x ≡ 47) → escape x ≡ x ∷ []
 escape_other x tilde slash = grind (arith, nat_tests)
@@ -42,12 +37,6 @@ escaped_char c tilde slash =
     (apart c 126 (omega arith) tilde)
     (apart c 47 (omega arith) slash)
 
-pointer_text-append : (a b : List Place) → pointer_text (a ++ b) ≡ pointer_text a ++ pointer_text b
-pointer_text-append [] b = refl
-pointer_text-append (s ∷ a) b =
-    ap (λ t. codes "/" ++ reference_token s ++ t) (pointer_text-append a b)
-    ∙ sym (append_assoc (codes "/" ++ reference_token s) (pointer_text a) (pointer_text b))
-
 -- the token of one more step comes after those of the others
 pub pointer_text-one_more : (steps : List Step) (i : ℕ) (step : Step) → i < length steps
     → step ≡ get_or steps i step
@@ -59,7 +48,7 @@ pointer_text-one_more steps i step below at =
       take_more steps i step below,
       ← at,
       map-append place_of (take i steps) (step ∷ []),
-      pointer_text-append (map place_of (take i steps)) (place_of step ∷ []),
+      flat_map-append pointer_step (map place_of (take i steps)) (place_of step ∷ []),
       append-nil,
     ) (append_assoc before (codes "/") (reference_token (place_of step)))
 
@@ -69,6 +58,6 @@ pub escaped_step : (c : ℕ) (piece a b old rest all : List ℕ) → old ≡ enc
     → b ++ escaped rest ≡ all
 escaped_step c piece a b old rest all step is before wrote =
     let now : escaped old ≡ piece ++ escaped rest =
-    ap escaped step ∙ escaped-append (encode_utf8 c) rest ∙ ap (λ t. t ++ escaped rest) is in
+    ap escaped step ∙ flat_map-append escape (encode_utf8 c) rest ∙ ap (λ t. t ++ escaped rest) is in
     ap (λ t. t ++ escaped rest) wrote ∙ append_assoc a piece (escaped rest)
     ∙ ap (λ t. a ++ t) (sym now) ∙ before

@@ -22,8 +22,11 @@ reference_token (named name) = escaped name
 reference_token (numbered i) = decimal i
 reference_token (keyed name) = escaped name
 
--- "a sequence of zero or more reference tokens, each prefixed by a '/'" (3), that of the outermost
--- step first, as evaluation begins with the root (4); "" is the whole document (5)
+-- each token is "prefixed by a '/'" (3)
+abbrev pub pointer_step : Place → List ℕ
+pointer_step s = codes "/" ++ reference_token s
+
+-- "a sequence of zero or more reference tokens" (3), that of the outermost step first, as evaluation
+-- begins with the root (4); "" is the whole document (5)
 abbrev pub pointer_text : List Place → List ℕ
-pointer_text [] = []
-pointer_text (s ∷ rest) = codes "/" ++ reference_token s ++ pointer_text rest
+pointer_text places = flat_map pointer_step places
