@@ -7,7 +7,8 @@ use Rattle.std.proofs.lemmas.Grind.{flat_map-append}
 use Rattle.std.proofs.lemmas.List.{take_more, map-append}
 use Rattle.std.proofs.lemmas.Str.{inside_one}
 use Rattle.gltf_json_record.specs.Place.{place_of}
-use Rattle.gltf_json_record.specs.Pointer.{escape, escaped, reference_token, pointer_step, pointer_text}
+use Rattle.gltf_json_record.specs.Pointer.{escape, escaped}
+use Rattle.gltf_json_record.specs.Pointer.{reference_token, pointer_step, pointer_text}
 use Rattle.gltf_json_record.specs.declared.path.Step.{Step}
 
 escape_other : (x : ℕ) → ¬ (x ≡ 126) → ¬ (x ≡ 47) → escape x ≡ x ∷ []
@@ -58,6 +59,7 @@ pub escaped_step : (c : ℕ) (piece a b old rest all : List ℕ) → old ≡ enc
     → b ++ escaped rest ≡ all
 escaped_step c piece a b old rest all step is before wrote =
     let now : escaped old ≡ piece ++ escaped rest =
-    ap escaped step ∙ flat_map-append escape (encode_utf8 c) rest ∙ ap (λ t. t ++ escaped rest) is in
+    ap escaped step ∙ flat_map-append escape (encode_utf8 c) rest
+    ∙ ap (λ t. t ++ escaped rest) is in
     ap (λ t. t ++ escaped rest) wrote ∙ append_assoc a piece (escaped rest)
     ∙ ap (λ t. a ++ t) (sym now) ∙ before

@@ -26,7 +26,7 @@ reference_token (keyed name) = escaped name
 abbrev pub pointer_step : Place → List ℕ
 pointer_step s = codes "/" ++ reference_token s
 
--- "a sequence of zero or more reference tokens" (3), that of the outermost step first, as evaluation
--- begins with the root (4); "" is the whole document (5)
+-- "a sequence of zero or more reference tokens" (3), that of the outermost step first, as
+-- evaluation begins with the root (4); "" is the whole document (5)
 abbrev pub pointer_text : List Place → List ℕ
 pointer_text places = flat_map pointer_step places
