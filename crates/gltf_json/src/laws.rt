@@ -1,4 +1,6 @@
 //! What holds of every document. Each law is the contract of a function that does nothing.
+pub mod records;
+
 ghost use Rattle.std.specs.Prelude.{◌≡◌, ◌⊎◌, ℕ, List};
 ghost use Rattle.serde_json.specs.Data.{Data};
 ghost use Rattle.gltf_json_record.specs.Place.{Place};
