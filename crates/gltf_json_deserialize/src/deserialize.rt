@@ -8,7 +8,9 @@ ghost use Rattle.gltf_json.specs.Documents.{root};
 ghost use Rattle.gltf_json.specs.Reading.{Reads, Refuses};
 ghost use Rattle.gltf_json.specs.declared.root.Root.{Root};
 
+use gltf_json::laws::two_readings_of_a_text_are_alike;
 use gltf_json::root::Root;
+use gltf_json_pull::text::pull;
 use gltf_json_record::error::Error;
 use gltf_json_record::read::read;
 use serde_json::Value;
@@ -33,7 +35,8 @@ pub fn from_value(alloc: Global, value: &Value) -> Result<Root, Error>
 }
 
 /// The document of a JSON text (glTF 2.0, section 5.17, "glTF"): that of the value which
-/// `serde_json` reads from it. `Text` is answered only where the bytes are no JSON text in UTF-8;
+/// `serde_json` reads from it. It is read in one pass over the text, with no tree of values, where
+/// that gives a document; every refusal comes from the tree. `Text` is answered only where the bytes are no JSON text in UTF-8;
 /// `Record` with a fault that stands in the value at its path; and `Memory` where there was not
 /// enough, in `serde_json` or here.
 pub fn from_slice(alloc: Global, bytes: &[u8]) -> Result<Root, Error>
@@ -44,6 +47,11 @@ pub fn from_slice(alloc: Global, bytes: &[u8]) -> Result<Root, Error>
     ensures exact { IfErr result (λ e. e ≢ Memory
         → (d : Data) → Reads bytes.now d → root.fits d → ⊥) }
 {
+    if let Some(document) = pull::<Root>(alloc, bytes) {
+        // A law that the proof stands on; the call does nothing.
+        two_readings_of_a_text_are_alike();
+        return Ok(document);
+    }
     let value = Value::from_slice(alloc, bytes)?;
     from_value(alloc, &value)
 }

@@ -3,8 +3,13 @@
 //! `gltf_json_record`, which says what is wrong with it.
 #![tactic(auto)]
 
+mod animation;
+mod geometry;
+mod material;
 pub mod pull;
 pub mod record;
+mod root;
 pub mod rows;
+mod scene;
 pub mod table;
 pub mod text;

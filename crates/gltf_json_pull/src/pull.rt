@@ -2,6 +2,8 @@
 ghost use Rattle.std.specs.Prelude.{◌∷◌, IfSome};
 ghost use Rattle.gltf_json_pull.specs.Pulls.{IsMemberPulled};
 
+use gltf_json_record::boxed::Boxed;
+use gltf_json_record::extensions::Others;
 use gltf_json_record::index::Index;
 use gltf_json_record::read::FromValue;
 use gltf_json_record::validation::{Checked, Code};
@@ -150,6 +152,24 @@ impl FromToken for Value {
 
 impl<T: Code> FromToken for Checked<T> {}
 
+impl FromToken for Others {}
+
+impl<T: FromToken> FromToken for Boxed<T> {
+    #[inline(always)]
+    fn from_token(
+        alloc: Global,
+        first: Token<'_>,
+        rest: &mut Reader<'_>,
+        depth: usize,
+    ) -> Option<Boxed<T>> {
+        let record = T::from_token(alloc, first, rest, depth)?;
+        let Ok(boxed) = Boxed::new(alloc, record) else {
+            return None;
+        };
+        Some(boxed)
+    }
+}
+
 impl<T: FromToken> FromToken for Vec<T> {
     fn from_token(
         alloc: Global,
@@ -171,6 +191,7 @@ impl<T: FromToken> FromToken for Vec<T> {
                 return None;
             };
         }
+        list.shrink_to_fit();
         Some(list)
     }
 }

@@ -1,13 +1,20 @@
 //! A record that is read by its table from the tokens of a text.
 
 /// Reads a record from the object that begins with a token, by the rows of its table. They are
-/// those of `read_record!`: `pull_record!(alloc, first, rest, depth; R { count: required("count"),
-/// })`. It stands last in the body of `from_token`.
+/// those of `read_record!`, in both of its forms: `pull_record!(alloc, first, rest, depth; R {
+/// count: required("count"), })`. It stands last in the body of `from_token`.
 #[macro_export]
 macro_rules! pull_record {
     ($alloc:ident, $first:ident, $rest:ident, $depth:ident; $record:ident {
         $($field:ident: $row:ident($($given:expr),*),)*
-    }) => {{
+    }) => {
+        $crate::pull_record!($alloc, $first, $rest, $depth; {
+            $($field: $row($($given),*),)*
+        } as $record { $($field),* })
+    };
+    ($alloc:ident, $first:ident, $rest:ident, $depth:ident; {
+        $($field:ident: $row:ident($($given:expr),*),)*
+    } as $record:expr) => {{
         let read = match $crate::table::pull_table(
             $alloc,
             $first,
@@ -20,7 +27,7 @@ macro_rules! pull_record {
             None => return None,
         };
         let $crate::pull_record!(@pairs $($field)*) = read;
-        Some($record { $($field),* })
+        Some($record)
     }};
     (@rows $row:ident($($given:expr),*)) => {
         gltf_json_record::rows::Last { row: gltf_json_record::read_record!(@row $row $($given),*) }

@@ -52,5 +52,6 @@ returns g c =
       array (items_of ds),
       ap (λ t. data_at n (token_of t ∷ ts)) c.in-BeginArray.is
           ∙ array_closed n ts ds l.rest end (omega arith) l.invariant.1 closes,
-      l.invariant.2,
+      subst (λ xs. AllRead g.T.FromValue.kind.is (items_of ds) xs)
+          (sym c.shrink_to_fit.ensures.items) l.invariant.2,
     )
