@@ -63,6 +63,7 @@ bench:
 test:
 	@tools/copies.sh
 	@python3 crates/gltf_cases/cases.py --check
+	@python3 crates/gltf_json_cases/cases.py --check
 	@python3 tools/links.py
 	@python3 tools/trust.py
 	@python3 tools/edits.py
