@@ -10,7 +10,7 @@ use Rattle.json.specs.Json as json
 use Rattle.json.specs.Json.{parse_map, if_last, items, members, value}
 use Rattle.json.specs.Lex.{tokens}
 use Rattle.json.proofs.Grammar.{value_is}
-use Rattle.serde_json.specs.Data.{Data, null, boolean, number, string, array, object, Items}
+use Rattle.serde_json.specs.Data.{Data, null, boolean, number, string, array, object}
 use Rattle.serde_json.specs.Data.{no_members, Members, put}
 use Rattle.serde_json.specs.Read.{of_json, of_items, of_members, number_of, converted}
 use Rattle.serde_json.specs.Read.{max_depth, read}

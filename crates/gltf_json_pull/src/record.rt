@@ -21,23 +21,12 @@ macro_rules! pull_record {
             $rest,
             $depth,
             gltf_json_record::read_record!(@names [] $($row($($given),*))*),
-            $crate::pull_record!(@rows $($row($($given),*))*),
+            gltf_json_record::read_record!(@rows [] $($row($($given),*))*),
         ) {
             Some(read) => read,
             None => return None,
         };
-        let $crate::pull_record!(@pairs $($field)*) = read;
+        let gltf_json_record::by_four!($(($field))*) = read;
         Some($record)
     }};
-    (@rows $row:ident($($given:expr),*)) => {
-        gltf_json_record::rows::Last { row: gltf_json_record::read_record!(@row $row $($given),*) }
-    };
-    (@rows $row:ident($($given:expr),*) $($rest:tt)+) => {
-        (
-            gltf_json_record::read_record!(@row $row $($given),*),
-            $crate::pull_record!(@rows $($rest)+),
-        )
-    };
-    (@pairs $field:ident) => { $field };
-    (@pairs $field:ident $($rest:ident)+) => { ($field, $crate::pull_record!(@pairs $($rest)+)) };
 }

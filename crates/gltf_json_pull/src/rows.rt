@@ -211,3 +211,169 @@ impl<A: PullRow, B: PullRows> PullRows for (A, B) {
       B.apart rows.1 (other_names names) name d ms x.1 (others_lack names name lacks) some is.1,
     ) };
 }
+
+impl<A: PullRow, B: PullRow, C: PullRows> PullRows for (A, B, C) {
+    ghost use Rattle.gltf_json_record.specs.Table.{pair, first_name, other_names};
+    ghost use Rattle.gltf_json_pull.specs.Pulls.{found};
+    ghost use Rattle.gltf_json_pull.specs.PullLaws.{first_apart, others_lack};
+
+    type Found = (Option<A::Of>, (Option<B::Of>, C::Found));
+
+    ghost found_kind = { λ rows names. pair (found (first_name names) A.Of.kind)
+        (pair (found (first_name (other_names names)) B.Of.kind)
+        (C.found_kind rows.2 (other_names (other_names names)))) };
+
+    #[inline(always)]
+    fn nothing(&self) -> Self::Found {
+        (self.0, (self.1, self.2)).nothing()
+    }
+
+    #[inline(always)]
+    fn step(
+        &self,
+        alloc: Global,
+        found: &mut Self::Found,
+        name: &str,
+        names: &[&'static str],
+        rest: &mut Reader<'_>,
+        depth: usize,
+    ) -> Option<bool> {
+        (self.0, (self.1, self.2)).step(alloc, found, name, names, rest, depth)
+    }
+
+    #[inline(always)]
+    fn made(&self, alloc: Global, found: Self::Found) -> Option<Self::Read> {
+        let (a, (b, c)) = (self.0, (self.1, self.2)).made(alloc, found)?;
+        Some((a, b, c))
+    }
+
+    ghost apart = { λ rows names name d ms x lacks some is. (
+      first_apart A.Of.kind names name d ms x.0 lacks some is.0,
+      (
+        first_apart B.Of.kind (other_names names) name d ms x.1.0
+            (others_lack names name lacks) some is.1.0,
+        C.apart rows.2 (other_names (other_names names)) name d ms x.1.1
+            (others_lack (other_names names) name (others_lack names name lacks)) some is.1.1,
+      ),
+    ) };
+}
+
+impl<A: PullRow, B: PullRow, C: PullRow, D: PullRows> PullRows for (A, B, C, D) {
+    ghost use Rattle.gltf_json_record.specs.Table.{pair, first_name, other_names};
+    ghost use Rattle.gltf_json_pull.specs.Pulls.{found};
+    ghost use Rattle.gltf_json_pull.specs.PullLaws.{first_apart, others_lack};
+
+    type Found = (Option<A::Of>, (Option<B::Of>, (Option<C::Of>, D::Found)));
+
+    ghost found_kind = { λ rows names. pair (found (first_name names) A.Of.kind)
+        (pair (found (first_name (other_names names)) B.Of.kind)
+        (pair (found (first_name (other_names (other_names names))) C.Of.kind)
+        (D.found_kind rows.3 (other_names (other_names (other_names names)))))) };
+
+    #[inline(always)]
+    fn nothing(&self) -> Self::Found {
+        (self.0, (self.1, (self.2, self.3))).nothing()
+    }
+
+    #[inline(always)]
+    fn step(
+        &self,
+        alloc: Global,
+        found: &mut Self::Found,
+        name: &str,
+        names: &[&'static str],
+        rest: &mut Reader<'_>,
+        depth: usize,
+    ) -> Option<bool> {
+        (self.0, (self.1, (self.2, self.3))).step(alloc, found, name, names, rest, depth)
+    }
+
+    #[inline(always)]
+    fn made(&self, alloc: Global, found: Self::Found) -> Option<Self::Read> {
+        let (a, (b, (c, d))) = (self.0, (self.1, (self.2, self.3))).made(alloc, found)?;
+        Some((a, b, c, d))
+    }
+
+    ghost apart = { λ rows names name d ms x lacks some is. (
+      first_apart A.Of.kind names name d ms x.0 lacks some is.0,
+      (
+        first_apart B.Of.kind (other_names names) name d ms x.1.0
+            (others_lack names name lacks) some is.1.0,
+        (
+          first_apart C.Of.kind (other_names (other_names names)) name d ms x.1.1.0
+              (others_lack (other_names names) name (others_lack names name lacks)) some is.1.1.0,
+          D.apart rows.3 (other_names (other_names (other_names names))) name d ms x.1.1.1
+              (others_lack (other_names (other_names names)) name
+              (others_lack (other_names names) name (others_lack names name lacks))) some is.1.1.1,
+        ),
+      ),
+    ) };
+}
+
+impl<A: PullRow, B: PullRow, C: PullRow, D: PullRow, E: PullRows> PullRows for (A, B, C, D, E) {
+    ghost use Rattle.gltf_json_record.specs.Table.{pair, first_name, other_names};
+    ghost use Rattle.gltf_json_pull.specs.Pulls.{found};
+    ghost use Rattle.gltf_json_pull.specs.PullLaws.{first_apart, others_lack};
+
+    type Found = (
+        Option<A::Of>,
+        (Option<B::Of>, (Option<C::Of>, (Option<D::Of>, E::Found))),
+    );
+
+    ghost found_kind = { λ rows names. pair (found (first_name names) A.Of.kind)
+        (pair (found (first_name (other_names names)) B.Of.kind)
+        (pair (found (first_name (other_names (other_names names))) C.Of.kind)
+        (pair (found (first_name (other_names (other_names (other_names names)))) D.Of.kind)
+        (E.found_kind rows.4 (other_names (other_names (other_names (other_names names)))))))) };
+
+    #[inline(always)]
+    fn nothing(&self) -> Self::Found {
+        (self.0, (self.1, (self.2, (self.3, self.4)))).nothing()
+    }
+
+    #[inline(always)]
+    fn step(
+        &self,
+        alloc: Global,
+        found: &mut Self::Found,
+        name: &str,
+        names: &[&'static str],
+        rest: &mut Reader<'_>,
+        depth: usize,
+    ) -> Option<bool> {
+        (self.0, (self.1, (self.2, (self.3, self.4)))).step(alloc, found, name, names, rest, depth)
+    }
+
+    #[inline(always)]
+    fn made(&self, alloc: Global, found: Self::Found) -> Option<Self::Read> {
+        let (a, (b, (c, (d, e)))) = (self.0, (self.1, (self.2, (self.3, self.4)))).made(
+            alloc, found,
+        )?;
+        Some((a, b, c, d, e))
+    }
+
+    ghost apart = { λ rows names name d ms x lacks some is. (
+      first_apart A.Of.kind names name d ms x.0 lacks some is.0,
+      (
+        first_apart B.Of.kind (other_names names) name d ms x.1.0
+            (others_lack names name lacks) some is.1.0,
+        (
+          first_apart C.Of.kind (other_names (other_names names)) name d ms x.1.1.0
+              (others_lack (other_names names) name (others_lack names name lacks)) some is.1.1.0,
+          (
+            first_apart D.Of.kind (other_names (other_names (other_names names))) name d ms
+                x.1.1.1.0
+                (others_lack (other_names (other_names names)) name
+                (others_lack (other_names names) name (others_lack names name lacks)))
+                some is.1.1.1.0,
+            E.apart rows.4 (other_names (other_names (other_names (other_names names)))) name d ms
+                x.1.1.1.1
+                (others_lack (other_names (other_names (other_names names))) name
+                (others_lack (other_names (other_names names)) name
+                (others_lack (other_names names) name (others_lack names name lacks))))
+                some is.1.1.1.1,
+          ),
+        ),
+      ),
+    ) };
+}
