@@ -109,6 +109,8 @@ def shown(room):
         "unknown.glb": UNKNOWN,
         "cut.glb": WHOLE[:24],
         "old.glb": OLD,
+        "old.gltf": b'{"asset":{"version":"1.0"},"meshes":{"mesh":{}}}',
+        "mixed.gltf": b'{"asset":{"version":"1.1"},"nodes":[{"mesh":3}]}',
         "plain.gltf": with_numbers(numbers, buffers=buffers(*NUMBERS)),
         "dangling.gltf": document(nodes=[{"mesh": 3, "skin": 0}]),
         "row.gltf": with_numbers(numbers, buffers=buffers(*NUMBERS), **indices),
@@ -130,6 +132,7 @@ def shown(room):
 
 
 USAGE = "usage: gltf_show chunks PATH | check PATH | indices PATH MESH PRIMITIVE\n"
+FIRST = "this is a glTF 1.0 file; glTF 2.0 is supported\n"
 DANGLING = ("invalid glTF: nodes[0].mesh: Index out of bounds; "
             "nodes[0].skin: Index out of bounds;\n")
 NO_MESH, NO_PRIMITIVE, NO_INDICES = "no such mesh\n", "no such primitive\n", "no indices\n"
@@ -142,6 +145,11 @@ SHOWS = [
     (["chunks", "cut.glb"], 1, "", "could not completely read the object\n"),
     (["check", "plain.gltf"], 0, "ok buffers=1 accessors=1 meshes=0 nodes=0\n", ""),
     (["check", "dangling.gltf"], 1, "", DANGLING),
+    (["check", "old.glb"], 1, "", f"unsupported version\n{FIRST}"),
+    (["check", "old.gltf"], 1, "", f"meshes: wrong kind\n{FIRST}"),
+    (["check", "mixed.gltf"], 1, "",
+     f"invalid glTF: nodes[0].mesh: Index out of bounds;\n{FIRST}"),
+    (["indices", "old.gltf", "0", "0"], 1, "", "meshes: wrong kind\n"),
     (["check", "outside.gltf"], 0, "ok buffers=1 accessors=1 meshes=1 nodes=0\n", ""),
     (["check", "short.gltf"], 1, "", "buffer 0: expected 5 bytes but received 4 bytes\n"),
     (["check", "absolute.gltf"], 1, "", "buffer 0: expected 5 bytes but received 4 bytes\n"),

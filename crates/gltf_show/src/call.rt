@@ -1,6 +1,7 @@
 //! What the words on the command line ask for.
 
 /// A call of the program.
+#[derive(Drop)]
 pub(crate) enum Call<'w> {
     /// `chunks PATH`: the header and the chunks of a GLB file.
     Chunks(&'w str),

@@ -4,6 +4,7 @@
 mod call;
 mod chunks;
 mod indices;
+mod old;
 mod refusal;
 mod run;
 mod summary;

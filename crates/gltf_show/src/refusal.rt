@@ -32,6 +32,14 @@ impl Refusal {
         }
     }
 
+    /// Whether what stands in the file is refused.
+    pub(crate) fn is_of_content(&self) -> bool {
+        matches!(
+            self,
+            Refusal::File(Error::Binary(_) | Error::Deserialize(_) | Error::Validation(_))
+        )
+    }
+
     /// Whether a file could not be read.
     pub(crate) fn is_failed_read(&self) -> bool {
         matches!(self, Refusal::File(Error::Io(_)))

@@ -2,6 +2,7 @@
 use crate::call::Call;
 use crate::chunks::Chunks;
 use crate::indices::write_indices;
+use crate::old::says_first_version;
 use crate::refusal::Refusal;
 use crate::summary::Summary;
 use gltf::{Glb, Name, NamedBytes, import_from};
@@ -27,6 +28,9 @@ pub fn run<S: NamedBytes, O: Write, E: Write>(
         Err(refusal) => {
             // Where this write fails too, the status alone says so.
             let _ = tell(&refusal, source.last_failed(), err);
+            if is_of_first_version(alloc, source, words, &refusal) {
+                let _ = writeln!(err, "this is a glTF 1.0 file; glTF 2.0 is supported");
+            }
             refusal.status()
         }
     }
@@ -37,6 +41,25 @@ fn tell<E: Write>(refusal: &Refusal, failed: Option<&str>, err: &mut E) -> io::R
     match failed {
         Some(name) if refusal.is_failed_read() => writeln!(err, "{name}: {refusal}"),
         _ => writeln!(err, "{refusal}"),
+    }
+}
+
+/// Whether a file that `check` refuses is of glTF 1.0. It is read once more for that.
+fn is_of_first_version<S: NamedBytes>(
+    alloc: Global,
+    source: &mut S,
+    words: &[&str],
+    refusal: &Refusal,
+) -> bool {
+    let Some(Call::Check(path)) = Call::of(words) else {
+        return false;
+    };
+    if !refusal.is_of_content() {
+        return false;
+    }
+    match source.read(alloc, Name::File(path)) {
+        Ok(bytes) => says_first_version(alloc, &bytes),
+        Err(_) => false,
     }
 }
 
