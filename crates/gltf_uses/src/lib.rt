@@ -1,0 +1,18 @@
+//! Who uses what in a document: which members name an element of a list, and which elements no
+//! member names.
+#![tactic(auto)]
+
+mod animation;
+mod geometry;
+mod kind;
+mod material;
+mod root;
+mod scene;
+mod sink;
+mod textures;
+mod uses;
+mod visit;
+
+pub use kind::Kind;
+pub use textures::{Slot, TextureUse, textures};
+pub use uses::{references, unused};
