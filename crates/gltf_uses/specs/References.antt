@@ -1,6 +1,6 @@
 -- Which members of a document name an element of a list, and which elements none names.
-use Rattle.std.specs.Prelude.{ℕ, Bool, true, if◌then◌else◌, ◌==◌, ◌&&◌, List, [], ◌∷◌, ◌++◌}
-use Rattle.std.specs.Prelude.{map, length, slice_set}
+use Rattle.std.specs.Prelude.{ℕ, Bool, true, false, if◌then◌else◌, ◌==◌, ◌&&◌, List, [], ◌∷◌, ◌++◌}
+use Rattle.std.specs.Prelude.{map, slice_set}
 use Rattle.std.specs.List.{filter, range_with_len}
 use Rattle.gltf_json.specs.declared.root.Root.{Root}
 use Rattle.gltf_json_record.specs.Place.{Place}
@@ -22,11 +22,15 @@ names kind i h = number h.kind == number kind && h.index == i
 unfoldable pub references_of : Root → Kind → ℕ → List (List Place)
 references_of r kind i = map (λ h. h.path) (filter (names kind i) (held r))
 
+abbrev pub is_empty : {T : Type 0} → List T → Bool
+is_empty [] = true
+is_empty (x ∷ xs) = false
+
 -- the numbers of those elements of a list that no member names, in ascending order
 unfoldable pub unused_of : Root → Kind → List ℕ
 unused_of r kind =
-    filter (λ i. length (references_of r kind i) == 0) (range_with_len 0
-    (count_of kind (counts_of r)))
+    filter (λ i. is_empty (references_of r kind i))
+    (range_with_len 0 (count_of kind (counts_of r)))
 
 -- what a walk keeps that looks for one element
 pub record Found : Type 0 where

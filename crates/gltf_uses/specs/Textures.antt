@@ -12,9 +12,9 @@ use Rattle.gltf_json_material.specs.declared.material.Material.{Material}
 use Rattle.gltf_json_material.specs.declared.material.PbrMetallicRoughness.{PbrMetallicRoughness}
 use Rattle.gltf_json_material.specs.declared.texture.Info.{Info}
 use Rattle.gltf_json_record.specs.Place.{Place, named}
-use Rattle.gltf_uses.specs.declared.textures.Slot.{Slot}
-use Rattle.gltf_uses.specs.declared.textures.Slot.TheVariants as slot
-use Rattle.gltf_uses.specs.declared.textures.TextureUse.{TextureUse}
+use Rattle.gltf_uses.specs.declared.material_textures.Slot.{Slot}
+use Rattle.gltf_uses.specs.declared.material_textures.Slot.TheVariants as slot
+use Rattle.gltf_uses.specs.declared.material_textures.TextureUse.{TextureUse}
 
 abbrev pub within : List ℕ → List ℕ → List Place
 within record_name name = named record_name ∷ named name ∷ []

@@ -6,13 +6,13 @@ mod animation;
 mod geometry;
 mod kind;
 mod material;
+mod material_textures;
 mod root;
 mod scene;
 mod sink;
-mod textures;
 mod uses;
 mod visit;
 
 pub use kind::Kind;
-pub use textures::{Slot, TextureUse, textures};
+pub use material_textures::{Slot, TextureUse, textures};
 pub use uses::{references, unused};
