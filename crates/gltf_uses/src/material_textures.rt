@@ -197,7 +197,7 @@ fn add<T: Named>(
     member: Option<&T>,
 ) -> Result<(), AllocError>
     ensures { OnOk result (uses.new.items
-        ≡ uses.old.items ++ use_at T.texture T.tex_coord slot (option_copied member)) }
+        ≡ uses.old.items ++ use_at T.texture T.tex_coord slot (option_copied member.entry)) }
 {
     if let Some(named) = member {
         uses.push(TextureUse {
@@ -214,7 +214,7 @@ fn add_metallic_roughness(
     member: Option<&PbrMetallicRoughness>,
 ) -> Result<(), AllocError>
     ensures { OnOk result (uses.new.items
-        ≡ uses.old.items ++ uses_in in_metallic_roughness (option_copied member)) }
+        ≡ uses.old.items ++ uses_in in_metallic_roughness (option_copied member.entry)) }
 {
     let Some(record) = member else {
         return Ok(());
@@ -232,7 +232,7 @@ fn add_specular_glossiness(
     member: Option<&extended::PbrSpecularGlossiness>,
 ) -> Result<(), AllocError>
     ensures { OnOk result (uses.new.items
-        ≡ uses.old.items ++ uses_in in_specular_glossiness (option_copied member)) }
+        ≡ uses.old.items ++ uses_in in_specular_glossiness (option_copied member.entry)) }
 {
     let Some(record) = member else {
         return Ok(());
@@ -250,7 +250,7 @@ fn add_specular(
     member: Option<&extended::Specular>,
 ) -> Result<(), AllocError>
     ensures { OnOk result (uses.new.items
-        ≡ uses.old.items ++ uses_in in_specular (option_copied member)) }
+        ≡ uses.old.items ++ uses_in in_specular (option_copied member.entry)) }
 {
     let Some(record) = member else {
         return Ok(());
@@ -268,7 +268,7 @@ fn add_extensions(
     member: Option<&extended::Material>,
 ) -> Result<(), AllocError>
     ensures { OnOk result (uses.new.items
-        ≡ uses.old.items ++ uses_in in_extensions (option_copied member)) }
+        ≡ uses.old.items ++ uses_in in_extensions (option_copied member.entry)) }
 {
     let Some(record) = member else {
         return Ok(());
