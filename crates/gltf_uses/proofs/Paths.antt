@@ -8,7 +8,8 @@ use Rattle.gltf_uses.specs.References.{Found, names, paths_after}
 use Rattle.gltf_uses.specs.Uses.{Held}
 use Rattle.gltf_uses.proofs.Folds.{after_each}
 
-abbrev named : Found → List Held → List (List Place)
+-- the paths of those members among some
+abbrev pub named : Found → List Held → List (List Place)
 named f hs = map (λ h. h.path) (filter (names f.kind f.index) hs)
 
 pub paths_each : (f : Found) (hs : List Held)
