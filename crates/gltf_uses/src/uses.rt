@@ -12,9 +12,10 @@ use gltf_validation::location::Location;
 use std::alloc::{AllocError, Global};
 
 /// The paths of all members of a document that hold this index into the list, in the order of the
-/// document's members: all that name this element. None do where the index is not below the length
-/// of the list of a valid document. A member that several variants give, of
-/// `KHR_materials_variants`, is one for each mapping.
+/// document's members, which is that of the tables of section 5 of glTF 2.0. The members of the
+/// extensions that are read are among them, as `material` of a mapping of `KHR_materials_variants`;
+/// what is kept as JSON, in other extensions and in extras, is not looked at. The document may
+/// break rules: no index is followed.
 ///
 /// It takes one walk over the document, and memory for the paths alone. Fails where there is no
 /// memory.
@@ -38,7 +39,8 @@ pub fn references(
 }
 
 /// The indices of those elements of the list that no member of the document names, in ascending
-/// order: those at which `references` gives none.
+/// order: those at which `references` gives no path. A scene, or a node that scenes begin with, may
+/// be shown though no member names it.
 ///
 /// It takes one walk over the document, and memory in proportion to the length of the list. Fails
 /// where there is no memory.

@@ -1,4 +1,4 @@
-use Rattle.std.proofs.Common.{◌≡◌, List, [], ◌++◌, ◌∙◌, ap}
+use Rattle.std.proofs.Common.{List, [], ◌++◌, ◌∙◌, ap}
 use Rattle.gltf_json_record.specs.Place.{Place}
 use Rattle.gltf_uses.specs.Documents.{root_uses}
 use Rattle.gltf_uses.specs.References.{Found, held, paths_after, references_of}

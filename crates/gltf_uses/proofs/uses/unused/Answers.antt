@@ -1,5 +1,5 @@
-use Rattle.std.proofs.Common.{◌≡◌, ℕ, ◌<◌, ◌+◌, Bool, false, List, [], ◌++◌, ◌∙◌, ap, sym, length}
-use Rattle.std.proofs.Common.{drop, get_or, arith}
+use Rattle.std.proofs.Common.{◌≡◌, ℕ, ◌<◌, Bool, false, List, [], ◌++◌, ◌∙◌, ap, sym, length}
+use Rattle.std.proofs.Common.{drop, get_or}
 use Rattle.std.proofs.Math.ListN.{replicate}
 use Rattle.std.proofs.lemmas.List.{append-nil, get_or-replicate, drop_all}
 use Rattle.gltf_validation.specs.Documents.{counts_of}
