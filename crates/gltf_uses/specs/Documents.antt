@@ -15,12 +15,12 @@ first_members_uses r =
     & member (codes "bufferViews") (list_uses view_uses r.buffer_views.items)
     & member (codes "images") (list_uses image_uses r.images.items)
     & member (codes "materials") (list_uses material_uses r.materials.items)
+    & member (codes "meshes") (list_uses mesh_uses r.meshes.items)
+    & member (codes "nodes") (list_uses node_uses r.nodes.items)
 
 abbrev pub later_members_uses : Root → Uses
 later_members_uses r =
-    member (codes "meshes") (list_uses mesh_uses r.meshes.items)
-    & member (codes "nodes") (list_uses node_uses r.nodes.items)
-    & member (codes "scene") (optional_uses (Use list.Scene) r.scene)
+    member (codes "scene") (optional_uses (Use list.Scene) r.scene)
     & member (codes "scenes") (list_uses scene_uses r.scenes.items)
     & member (codes "skins") (list_uses skin_uses r.skins.items)
     & member (codes "textures") (list_uses texture_uses r.textures.items)

@@ -6,4 +6,5 @@ pub mod Materials
 pub mod Scenes
 pub mod Documents
 pub mod References
+pub mod Lengths
 pub mod Textures

@@ -5,6 +5,7 @@
 mod animation;
 mod geometry;
 mod kind;
+pub mod laws;
 mod material;
 mod material_textures;
 mod root;

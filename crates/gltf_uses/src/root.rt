@@ -33,6 +33,8 @@ fn first_members<S: Sink>(
         buffer_views: "bufferViews",
         images: "images",
         materials: "materials",
+        meshes: "meshes",
+        nodes: "nodes",
     })
 }
 
@@ -45,8 +47,6 @@ fn later_members<S: Sink>(
         ≡ after_uses S.after sink.old (places_of location.now) (later_members_uses root.now)) }
 {
     members!(root, location, sink; {
-        meshes: "meshes",
-        nodes: "nodes",
         scene: "scene",
         scenes: "scenes",
         skins: "skins",
