@@ -1,7 +1,7 @@
 -- The rules of a document in which no member names element i of a list: they are the same whether
 -- the list ends before that element or after it.
 use Rattle.std.proofs.Common.{◌≡◌, ℕ, ◌+◌, [], refl}
-use Rattle.std.specs.Prelude.{◌==◌, codes, map}
+use Rattle.std.specs.Prelude.{◌==◌, codes}
 use Rattle.std.specs.List.{filter}
 use Rattle.gltf_json.specs.declared.root.Root.{Root}
 use Rattle.gltf_validation.specs.Accessors.{accessor_rules}

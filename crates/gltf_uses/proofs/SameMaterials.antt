@@ -19,7 +19,6 @@ use Rattle.gltf_validation.specs.Materials.{pbr_metallic_roughness_rules}
 use Rattle.gltf_validation.specs.Materials.{pbr_specular_glossiness_rules, transmission_rules}
 use Rattle.gltf_validation.specs.Materials.{volume_rules, specular_rules, material_extensions_rules}
 use Rattle.gltf_validation.specs.Materials.{material_rules}
-use Rattle.gltf_validation.specs.Members.{index_rules}
 use Rattle.gltf_uses.specs.declared.kind.Kind.{Kind}
 use Rattle.gltf_uses.specs.declared.kind.Kind.TheVariants as list
 use Rattle.gltf_uses.specs.Materials.{info_uses, normal_texture_uses, occlusion_texture_uses}
@@ -28,8 +27,7 @@ use Rattle.gltf_uses.specs.Materials.{transmission_uses, volume_uses, specular_u
 use Rattle.gltf_uses.specs.Materials.{material_extensions_uses, material_uses}
 use Rattle.gltf_uses.specs.Kinds.{number}
 use Rattle.gltf_uses.specs.Lengths.{with_length}
-use Rattle.gltf_uses.specs.Uses.{Use}
-use Rattle.gltf_uses.proofs.Free.{Free, at, both, index_same, optional_same, list_same, entries_same}
+use Rattle.gltf_uses.proofs.Free.{Free, at, both, index_same, optional_same}
 
 module _ (kind : Kind) (i : ℕ) (c : Counts) where
   abbrev before : Counts

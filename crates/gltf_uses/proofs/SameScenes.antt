@@ -23,7 +23,7 @@ use Rattle.gltf_uses.specs.Scenes.{node_uses, scene_uses, skin_uses}
 use Rattle.gltf_uses.specs.Kinds.{number}
 use Rattle.gltf_uses.specs.Lengths.{with_length}
 use Rattle.gltf_uses.specs.Uses.{Use}
-use Rattle.gltf_uses.proofs.Free.{Free, at, both, index_same, optional_same, list_same, entries_same}
+use Rattle.gltf_uses.proofs.Free.{Free, at, both, index_same, optional_same, list_same}
 
 module _ (kind : Kind) (i : ℕ) (c : Counts) where
   abbrev before : Counts
