@@ -72,7 +72,7 @@ module _ (kind : Kind) (i : ℕ) where
   one_more j e = grind (arith, common_steps, nat_tests)
 
   -- the rule of an index that is not i, in a list that may be the one of i elements
-  pub index_same : (is_list : Bool) (n j : ℕ) → (is_list && j == i) ≡ false
+  index_same : (is_list : Bool) (n j : ℕ) → (is_list && j == i) ≡ false
       → index_rules (if is_list then i else n) j
       ≡ index_rules (if is_list then i + 1 else n) j
   index_same true n j e = ap (λ t. Condition t IndexOutOfBounds) (one_more j e)
@@ -95,8 +95,31 @@ module _ (kind : Kind) (i : ℕ) where
         → list_rules before xs ≡ list_rules after xs
     list_same xs free = elements_same 0 xs free
 
-    pub entries_same : (es : List (Semantic × T)) → Free (entries_uses uses es)
+    entries_same : (es : List (Semantic × T)) → Free (entries_uses uses es)
         → entries_rules before es ≡ entries_rules after es
     entries_same [] free = refl
     entries_same (e ∷ es) free =
         both (ap (AtRules (keyed (semantic_name e.0))) (same e.1 free.0)) (entries_same es free.1)
+
+  module _ (k : Kind) (n : ℕ) where
+    abbrev before_index : ℕ → Rules
+    before_index = index_rules (if number k == number kind then i else n)
+
+    abbrev after_index : ℕ → Rules
+    after_index = index_rules (if number k == number kind then i + 1 else n)
+
+    -- the rules of members that hold indices into one list, of n elements if it is not the one
+    pub one_index : (j : ℕ) → Free (Use k j) → before_index j ≡ after_index j
+    one_index j free = index_same (number k == number kind) n j free
+
+    pub optional_index : (o : Option ℕ) → Free (optional_uses (Use k) o)
+        → optional_rules before_index o ≡ optional_rules after_index o
+    optional_index o free = optional_same before_index after_index (Use k) one_index o free
+
+    pub list_index : (xs : List ℕ) → Free (list_uses (Use k) xs)
+        → list_rules before_index xs ≡ list_rules after_index xs
+    list_index xs free = list_same before_index after_index (Use k) one_index xs free
+
+    pub entries_index : (es : List (Semantic × ℕ)) → Free (entries_uses (Use k) es)
+        → entries_rules before_index es ≡ entries_rules after_index es
+    entries_index es free = entries_same before_index after_index (Use k) one_index es free

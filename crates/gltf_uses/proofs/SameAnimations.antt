@@ -1,7 +1,7 @@
 -- The rules of animations, where none of their uses is of element i of a list: they are the same
 -- whether the list ends before that element or after it.
 use Rattle.std.proofs.Common.{◌≡◌, ℕ, ◌+◌, refl}
-use Rattle.std.specs.Prelude.{◌==◌, codes}
+use Rattle.std.specs.Prelude.{codes}
 use Rattle.gltf_json_animation.specs.declared.animation.Animation.{Animation}
 use Rattle.gltf_json_animation.specs.declared.animation.Channel.{Channel}
 use Rattle.gltf_json_animation.specs.declared.animation.Sampler.{Sampler}
@@ -13,9 +13,8 @@ use Rattle.gltf_uses.specs.Animations.{animation_uses, animation_sampler_uses, c
 use Rattle.gltf_uses.specs.Animations.{target_uses}
 use Rattle.gltf_uses.specs.declared.kind.Kind.{Kind}
 use Rattle.gltf_uses.specs.declared.kind.Kind.TheVariants as list
-use Rattle.gltf_uses.specs.Kinds.{number}
 use Rattle.gltf_uses.specs.Lengths.{with_length}
-use Rattle.gltf_uses.proofs.Free.{Free, at, both, index_same, list_same}
+use Rattle.gltf_uses.proofs.Free.{Free, at, both, list_same, one_index}
 
 module _ (kind : Kind) (i : ℕ) (c : Counts) where
   abbrev before : Counts
@@ -24,23 +23,22 @@ module _ (kind : Kind) (i : ℕ) (c : Counts) where
   abbrev after : Counts
   after = with_length kind (i + 1) c
 
-  target_same : (r : Target) → Free kind i (target_uses r) → target_rules before r ≡ target_rules after r
+  target_same : (r : Target) → Free kind i (target_uses r)
+      → target_rules before r ≡ target_rules after r
   target_same r free =
-      both (at (codes "node") (index_same kind i (number list.Node == number kind) c.nodes r.node
-      free)) refl
+      both (at (codes "node") (one_index kind i list.Node c.nodes r.node free)) refl
 
-  pub channel_same : (r : Channel) → Free kind i (channel_uses r)
+  channel_same : (r : Channel) → Free kind i (channel_uses r)
       → channel_rules before r ≡ channel_rules after r
   channel_same r free = both refl (at (codes "target") (target_same r.target free))
 
-  pub animation_sampler_same : (r : Sampler) → Free kind i (animation_sampler_uses r)
+  animation_sampler_same : (r : Sampler) → Free kind i (animation_sampler_uses r)
       → animation_sampler_rules before r ≡ animation_sampler_rules after r
   animation_sampler_same r free =
       both
-      (at (codes "input") (index_same kind i (number list.Accessor == number kind) c.accessors r.input
-      free.0))
-      (both refl (at (codes "output") (index_same kind i (number list.Accessor == number kind)
-      c.accessors r.output free.1)))
+      (at (codes "input") (one_index kind i list.Accessor c.accessors r.input free.0))
+      (both refl
+      (at (codes "output") (one_index kind i list.Accessor c.accessors r.output free.1)))
 
 pub animation_same : (kind : Kind) (i : ℕ) (c : Counts) (r : Animation)
     → Free kind i (animation_uses r)

@@ -1,7 +1,7 @@
 -- The rules of a document in which no member names element i of a list: they are the same whether
 -- the list ends before that element or after it.
 use Rattle.std.proofs.Common.{◌≡◌, ℕ, ◌+◌, [], refl}
-use Rattle.std.specs.Prelude.{◌==◌, codes}
+use Rattle.std.specs.Prelude.{codes}
 use Rattle.std.specs.List.{filter}
 use Rattle.gltf_json.specs.declared.root.Root.{Root}
 use Rattle.gltf_validation.specs.Accessors.{accessor_rules}
@@ -10,7 +10,6 @@ use Rattle.gltf_validation.specs.Buffers.{view_rules}
 use Rattle.gltf_validation.specs.Documents.{first_members_rules, later_members_rules, root_rules}
 use Rattle.gltf_validation.specs.Images.{image_rules}
 use Rattle.gltf_validation.specs.Materials.{material_rules}
-use Rattle.gltf_validation.specs.Members.{index_rules}
 use Rattle.gltf_validation.specs.Meshes.{mesh_rules}
 use Rattle.gltf_validation.specs.Scenes.{node_rules, scene_rules}
 use Rattle.gltf_validation.specs.Skins.{skin_rules}
@@ -19,16 +18,14 @@ use Rattle.gltf_validation.specs.declared.counts.Counts.{Counts}
 use Rattle.gltf_uses.specs.Animations.{animation_uses}
 use Rattle.gltf_uses.specs.Documents.{first_members_uses, later_members_uses, root_uses}
 use Rattle.gltf_uses.specs.Geometry.{accessor_uses, view_uses, mesh_uses}
-use Rattle.gltf_uses.specs.Kinds.{number}
 use Rattle.gltf_uses.specs.Lengths.{with_length}
 use Rattle.gltf_uses.specs.Materials.{material_uses}
 use Rattle.gltf_uses.specs.References.{held, names, references_of}
 use Rattle.gltf_uses.specs.Scenes.{image_uses, texture_uses, node_uses, scene_uses, skin_uses}
-use Rattle.gltf_uses.specs.Uses.{Use}
 use Rattle.gltf_uses.specs.declared.kind.Kind.{Kind}
 use Rattle.gltf_uses.specs.declared.kind.Kind.TheVariants as list
-use Rattle.gltf_uses.proofs.Free.{Free, at, both, free_where_none, index_same, list_same, nil_of}
-use Rattle.gltf_uses.proofs.Free.{optional_same}
+use Rattle.gltf_uses.proofs.Free.{Free, at, both, free_where_none, list_same, nil_of}
+use Rattle.gltf_uses.proofs.Free.{optional_index}
 use Rattle.gltf_uses.proofs.SameAnimations.{animation_same}
 use Rattle.gltf_uses.proofs.SameGeometry.{accessor_same, view_same, mesh_same}
 use Rattle.gltf_uses.proofs.SameMaterials.{material_same}
@@ -67,9 +64,7 @@ module _ (kind : Kind) (i : ℕ) (c : Counts) where
   later_same : (r : Root) → Free kind i (later_members_uses r)
       → later_members_rules before r ≡ later_members_rules after r
   later_same r free =
-      both (at (codes "scene") (optional_same kind i (index_rules before.scenes)
-      (index_rules after.scenes) (Use list.Scene)
-      (index_same kind i (number list.Scene == number kind) c.scenes) r.scene free.0))
+      both (at (codes "scene") (optional_index kind i list.Scene c.scenes r.scene free.0))
       (both (at (codes "scenes") (list_same kind i (scene_rules before) (scene_rules after)
       scene_uses (scene_same kind i c) r.scenes.items free.1.0))
       (both (at (codes "skins") (list_same kind i (skin_rules before) (skin_rules after)
