@@ -1,0 +1,9 @@
+pub mod Folds
+pub mod Paths
+pub mod Unmarked
+pub mod Free
+pub mod SameAnimations
+pub mod SameGeometry
+pub mod SameMaterials
+pub mod SameScenes
+pub mod SameDocuments

@@ -1,0 +1,5 @@
+use Rattle.gltf_uses.proofs.material.ExtendedMaterialVisit.visit.Goals as goal
+
+pub returns : goal.returns
+returns g c = rw (c.in_ok-member-3.ensures, c.in_ok-member-2.ensures, c.in_ok-member.ensures)
+    at c.member-4.ensures

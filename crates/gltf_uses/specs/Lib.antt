@@ -1,0 +1,10 @@
+pub mod Kinds
+pub mod Uses
+pub mod Animations
+pub mod Geometry
+pub mod Materials
+pub mod Scenes
+pub mod Documents
+pub mod References
+pub mod Lengths
+pub mod Textures
