@@ -52,7 +52,8 @@ module _ (kind : Kind) (i : ℕ) (c : Counts) where
   occlusion_texture_same r free =
       at (codes "index") (one_index kind i list.Texture c.textures r.index free)
 
-  pub pbr_metallic_roughness_same : (r : PbrMetallicRoughness) → Free kind i (pbr_metallic_roughness_uses r)
+  pub pbr_metallic_roughness_same : (r : PbrMetallicRoughness)
+      → Free kind i (pbr_metallic_roughness_uses r)
       → pbr_metallic_roughness_rules before r ≡ pbr_metallic_roughness_rules after r
   pbr_metallic_roughness_same r free =
       both
@@ -61,7 +62,8 @@ module _ (kind : Kind) (i : ℕ) (c : Counts) where
       (at (codes "metallicRoughnessTexture") (optional_same kind i (info_rules before)
       (info_rules after) info_uses info_same r.metallic_roughness_texture free.1))
 
-  pub pbr_specular_glossiness_same : (r : PbrSpecularGlossiness) → Free kind i (pbr_specular_glossiness_uses r)
+  pub pbr_specular_glossiness_same : (r : PbrSpecularGlossiness)
+      → Free kind i (pbr_specular_glossiness_uses r)
       → pbr_specular_glossiness_rules before r ≡ pbr_specular_glossiness_rules after r
   pbr_specular_glossiness_same r free =
       both
