@@ -5,6 +5,9 @@
 pub mod asked;
 pub mod bytes;
 pub mod iterators;
+pub mod members;
+pub mod refused;
+pub mod shelf;
 pub mod shown;
 pub mod steps;
 pub mod texts;

@@ -10,10 +10,8 @@ mod files;
 mod imported;
 mod items;
 mod lists;
-mod members;
 mod named;
 mod reads;
-mod refused;
 mod streamed;
 mod told;
 

@@ -1,7 +1,5 @@
 //! Named bytes, and the buffers of documents and sources that name them.
 use crate::documents::document_of;
-use crate::files::{put, shelf_of};
-use crate::refused::write_error;
 use crate::told::{Told, tell};
 use gltf::buffer::{Data, Source};
 use gltf::{
@@ -10,6 +8,8 @@ use gltf::{
 };
 use gltf_case::asked::Asked;
 use gltf_case::bytes::bytes_of;
+use gltf_case::refused::write_error;
+use gltf_case::shelf::{put, shelf_of};
 use gltf_case::shown::{Written, tell_copy};
 use std::alloc::{AllocError, Global};
 use std::rt::HostRuntime;
