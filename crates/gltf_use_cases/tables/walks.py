@@ -71,5 +71,5 @@ ROWS = [
     ("ring 1", "2 steps, the last 0 at 1 below 0 again"),
     ("chain 3", "3 steps, the last 2 at 2 below 1"),
     (f"chain {MANY}", f"{MANY} steps, the last {MANY - 1} at {MANY - 1} below {MANY - 2}"),
-    (f"ring {MANY}", f"{MANY + 1} steps, the last 0 at {MANY} below {MANY - 1} again"),
+    ("ring 1000", "1001 steps, the last 0 at 1000 below 999 again"),
 ]
