@@ -1,4 +1,4 @@
-//! Shelves of named bytes, by the words of a case.
+//! Shelves of named bytes, by the words of a case, and its blob.
 use crate::asked::Asked;
 use crate::bytes::bytes_of;
 use gltf::{Name, Shelf};
@@ -29,5 +29,13 @@ pub fn put(alloc: Global, shelf: &mut Shelf, word: &str) -> Result<(), AllocErro
     match name.strip_prefix("file:") {
         Some(path) => shelf.put(Name::File(path), &bytes),
         None => shelf.put(Name::Relative(name.as_str()), &bytes),
+    }
+}
+
+/// The blob of a case; none where there is none, and with `+none`.
+pub fn blob_of(alloc: Global, asked: Asked<'_>) -> Result<Option<Vec<u8>>, AllocError> {
+    match asked.blob {
+        Some("none") | None => Ok(None),
+        Some(digits) => Ok(Some(bytes_of(alloc, digits)?)),
     }
 }

@@ -2,9 +2,8 @@
 use gltf::buffer::Data;
 use gltf::{Document, Error, Gltf, Result, Shelf, import_each_buffer, import_each_buffer_from};
 use gltf_case::asked::Asked;
-use gltf_case::bytes::bytes_of;
 use gltf_case::refused::write_error;
-use gltf_case::shelf::shelf_of;
+use gltf_case::shelf::{blob_of, shelf_of};
 use gltf_case::shown::Written;
 use std::alloc::{AllocError, Global};
 use std::rt::HostRuntime;
@@ -43,21 +42,9 @@ pub(crate) fn write_beside(rt: &HostRuntime, asked: Asked<'_>, line: &mut String
 }
 
 fn answers_beside(rt: &HostRuntime, asked: Asked<'_>, document: &Document) -> Answers {
-    let base = if asked.words.is_empty() {
-        None
-    } else {
-        Some(asked.words)
-    };
+    let base = (!asked.words.is_empty()).then_some(asked.words);
     let blob = blob_of(rt.alloc(), asked)?;
     import_each_buffer(rt, rt.alloc(), document, base, blob)
-}
-
-/// The blob of a case.
-fn blob_of(alloc: Global, asked: Asked<'_>) -> Result<Option<Vec<u8>>, AllocError> {
-    match asked.blob {
-        Some(digits) => Ok(Some(bytes_of(alloc, digits)?)),
-        None => Ok(None),
-    }
 }
 
 /// Writes the bytes of each buffer, or what is wrong with it.

@@ -5,29 +5,10 @@ use gltf_numbers::defaults;
 
 /// Writes the numbers that are meant where the member of a part is absent: `default PART.MEMBER`.
 pub(crate) fn write(asked: Asked<'_>, line: &mut String) -> Written {
-    let (part, member) = asked.words.split_once(".").unwrap_or(("", ""));
-    match part {
-        "node" => write_of_node(member, line),
-        "material" | "pbr" | "normal" | "occlusion" | "glossiness" => {
-            write_of_material(asked.words, line)
-        }
-        _ => write_of_extension(asked.words, line),
-    }
-}
-
-/// Writes a default of a node.
-fn write_of_node(member: &str, line: &mut String) -> Written {
-    match member {
-        "translation" => write!(line, "{:?}", defaults::TRANSLATION),
-        "rotation" => write!(line, "{:?}", defaults::ROTATION),
-        "scale" => write!(line, "{:?}", defaults::SCALE),
-        _ => line.push_str("no member"),
-    }
-}
-
-/// Writes a default of a material.
-fn write_of_material(name: &str, line: &mut String) -> Written {
-    match name {
+    match asked.words {
+        "node.translation" => write!(line, "{:?}", defaults::TRANSLATION),
+        "node.rotation" => write!(line, "{:?}", defaults::ROTATION),
+        "node.scale" => write!(line, "{:?}", defaults::SCALE),
         "material.alphaCutoff" => write!(line, "{:?}", defaults::ALPHA_CUTOFF),
         "material.emissiveFactor" => write!(line, "{:?}", defaults::EMISSIVE_FACTOR),
         "pbr.baseColorFactor" => write!(line, "{:?}", defaults::BASE_COLOR_FACTOR),
@@ -38,13 +19,6 @@ fn write_of_material(name: &str, line: &mut String) -> Written {
         "glossiness.diffuseFactor" => write!(line, "{:?}", defaults::DIFFUSE_FACTOR),
         "glossiness.specularFactor" => write!(line, "{:?}", defaults::GLOSSY_SPECULAR_FACTOR),
         "glossiness.glossinessFactor" => write!(line, "{:?}", defaults::GLOSSINESS_FACTOR),
-        _ => line.push_str("no member"),
-    }
-}
-
-/// Writes a default of another extension.
-fn write_of_extension(name: &str, line: &mut String) -> Written {
-    match name {
         "transmission.transmissionFactor" => write!(line, "{:?}", defaults::TRANSMISSION_FACTOR),
         "volume.thicknessFactor" => write!(line, "{:?}", defaults::THICKNESS_FACTOR),
         "volume.attenuationColor" => write!(line, "{:?}", defaults::ATTENUATION_COLOR),

@@ -71,7 +71,7 @@ fn mode_of(code: usize) -> Mode {
     }
 }
 
-/// Writes what steps over items give, where there are items.
+/// Writes what each step over items gives, where there are items.
 fn write_items<S: Sequence>(
     alloc: Global,
     items: Option<Items<S>>,
@@ -81,22 +81,9 @@ fn write_items<S: Sequence>(
 where
     S::Item: Debug,
 {
-    match items {
-        Some(items) => write_steps(alloc, items, steps, line),
-        None => line.push_str("no items"),
-    }
-}
-
-/// Writes what each step over items gives.
-fn write_steps<S: Sequence>(
-    alloc: Global,
-    mut items: Items<S>,
-    steps: &str,
-    line: &mut String,
-) -> Written
-where
-    S::Item: Debug,
-{
+    let Some(mut items) = items else {
+        return line.push_str("no items");
+    };
     for step in steps.split_whitespace() {
         if !line.is_empty() {
             line.push_str("; ")?;

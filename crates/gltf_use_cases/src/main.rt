@@ -34,15 +34,9 @@ fn answer_file(rt: &HostRuntime, path: &str) -> Result<(), Error> {
     println!(rt; "{path}")?;
     let cases = fs::read_to_string(rt, path)?;
     for case in cases.lines() {
-        let line = answer_of(rt, Asked::of(case))?;
+        let mut line = String::new(rt.alloc());
+        calls::answer(rt, Asked::of(case), &mut line)?;
         println!(rt; "{line}")?;
     }
     Ok(())
-}
-
-/// The line that answers a case.
-fn answer_of(rt: &HostRuntime, asked: Asked<'_>) -> Result<String, Error> {
-    let mut line = String::new(rt.alloc());
-    calls::answer(rt, asked, &mut line)?;
-    Ok(line)
 }

@@ -20,8 +20,8 @@ pub(crate) fn write(
     write_by(alloc, asked, document, &bytes, line)
 }
 
-/// Writes the items of an accessor by the bytes of all buffers. It holds no memory: there is an exit
-/// for each type.
+/// Writes the items of an accessor by the bytes of all buffers. It holds no memory: there is an
+/// exit for each type.
 fn write_by(
     alloc: Global,
     asked: Asked<'_>,
