@@ -62,7 +62,7 @@ bench:
 # built. The last line adds up all: `N passed, M failed`.
 test:
 	@tools/copies.sh
-	@python3 crates/gltf_cases/cases.py --check
+	@python3 tools/cases.py --check
 	@python3 crates/gltf_json_cases/cases.py --check
 	@python3 tools/links.py
 	@python3 tools/trust.py

@@ -1,7 +1,9 @@
 //! Values, as they print.
-pub use gltf_lines::Written;
 use std::alloc::{AllocError, Global};
 use std::fmt::Debug;
+
+/// What writes into a line answers.
+pub type Written = Result<(), AllocError>;
 
 /// Prints a value, which is dropped here.
 pub fn show<T: Debug + Drop>(answer: Result<T, AllocError>, line: &mut String) -> Written {

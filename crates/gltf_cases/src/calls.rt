@@ -1,11 +1,11 @@
 //! The calls by their names.
 use crate::containers::container;
-use crate::refused::write_error;
 use crate::told::tell;
 use crate::{broken, documents, files, imported, items, named, streamed};
 use gltf::Glb;
 use gltf_case::asked::Asked;
 use gltf_case::bytes::{bytes_of, write_hex};
+use gltf_case::refused::write_error;
 use gltf_case::shown::Written;
 use gltf_case::{iterators, texts};
 use gltf_pack::repack;

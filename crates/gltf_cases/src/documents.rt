@@ -1,12 +1,12 @@
 //! Documents and their records, read from a text or from a file without its buffers.
-use crate::members::write_member;
-use crate::refused::write_error;
 use crate::told::{Told, tell};
 use crate::{items, lists};
 use gltf::json::{Root, Value, deserialize};
 use gltf::{Document, Error, Gltf, RawGltf, Refused, Result, Valid, json};
 use gltf_case::asked::Asked;
 use gltf_case::bytes::bytes_of;
+use gltf_case::members::write_member;
+use gltf_case::refused::write_error;
 use gltf_case::shown::{Written, prints_alike, tell_copy};
 use std::alloc::Global;
 

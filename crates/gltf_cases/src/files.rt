@@ -1,19 +1,15 @@
 //! Imports of files that name others.
 use crate::containers::container;
-use crate::refused::write_error;
 use gltf::buffer::Data;
 use gltf::{Document, Error, Name, NamedBytes, Result, Shelf, import_from};
 use gltf_case::asked::Asked;
-use gltf_case::bytes::bytes_of;
+use gltf_case::refused::write_error;
+use gltf_case::shelf::shelf_of;
 use gltf_case::shown::Written;
-use std::alloc::{AllocError, Global};
+use std::alloc::Global;
 
 /// The import of the file `a.gltf` from a shelf, where it is the given text, or a container of the
-/// text and the blob. The words say what else is on the shelf:
-///
-/// - `NAME=DIGITS`: the bytes that the digits spell, by a relative reference, or by the path of a
-///   file after `file:`, where `+` stands for a space.
-/// - `fail=K`: the read after the next K ones fails.
+/// text and the blob. The words say what else is on the shelf, as `shelf_of` has them.
 ///
 /// The line has the bytes of the buffers, or what is wrong, and which name failed.
 pub(crate) fn of_shelf(alloc: Global, asked: Asked<'_>, line: &mut String) -> Written {
@@ -59,33 +55,5 @@ fn write_import(
         Ok(read) => write!(line, "{:?}", read.1),
         Err(Error::Io(_)) => line.push_str("not read"),
         Err(error) => write_error(asked, error, line),
-    }
-}
-
-/// A shelf of what the words put there.
-pub(crate) fn shelf_of(alloc: Global, asked: Asked<'_>) -> std::result::Result<Shelf, AllocError> {
-    let mut shelf = Shelf::new(alloc);
-    for word in asked.words.split_whitespace() {
-        put(alloc, &mut shelf, word)?;
-    }
-    Ok(shelf)
-}
-
-/// What one word puts on a shelf.
-pub(crate) fn put(
-    alloc: Global,
-    shelf: &mut Shelf,
-    word: &str,
-) -> std::result::Result<(), AllocError> {
-    let (name, told) = word.split_once("=").unwrap_or((word, ""));
-    if name == "fail" {
-        shelf.fail_at(told.parse::<usize>().unwrap_or(0));
-        return Ok(());
-    }
-    let bytes = bytes_of(alloc, told)?;
-    let name = name.replace(alloc, "+", " ")?;
-    match name.strip_prefix("file:") {
-        Some(path) => shelf.put(Name::File(path), &bytes),
-        None => shelf.put(Name::Relative(name.as_str()), &bytes),
     }
 }

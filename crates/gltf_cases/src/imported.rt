@@ -1,11 +1,11 @@
 //! What a line says of an import.
-use crate::members::write_member;
 use crate::told::{Told, tell};
 use crate::{items, reads};
 use gltf::buffer::Data;
 use gltf::json::Root;
 use gltf::{Document, import_slice};
 use gltf_case::asked::Asked;
+use gltf_case::members::write_member;
 use gltf_case::shown::Written;
 use std::alloc::Global;
 

@@ -1,5 +1,5 @@
-//! Answers files of cases, a case a line, with a line each. `cases.py` and `tables/` beside this
-//! folder say what they are and what has to be answered.
+//! Answers files of cases, a case a line, with a line each. `tables/` beside this folder says what
+//! they are and what has to be answered.
 #![tactic(auto)]
 
 mod broken;
@@ -10,10 +10,8 @@ mod files;
 mod imported;
 mod items;
 mod lists;
-mod members;
 mod named;
 mod reads;
-mod refused;
 mod streamed;
 mod told;
 

@@ -1,7 +1,5 @@
 //! Named bytes, and the buffers of documents and sources that name them.
 use crate::documents::document_of;
-use crate::files::{put, shelf_of};
-use crate::refused::write_error;
 use crate::told::{Told, tell};
 use gltf::buffer::{Data, Source};
 use gltf::{
@@ -10,8 +8,10 @@ use gltf::{
 };
 use gltf_case::asked::Asked;
 use gltf_case::bytes::bytes_of;
+use gltf_case::refused::write_error;
+use gltf_case::shelf::{blob_of, put, shelf_of};
 use gltf_case::shown::{Written, tell_copy};
-use std::alloc::{AllocError, Global};
+use std::alloc::Global;
 use std::rt::HostRuntime;
 
 /// Answers a call on files of the system, whose path or folder is given.
@@ -170,14 +170,6 @@ fn buffers_of(alloc: Global, asked: Asked<'_>, document: &Document) -> Result<Ve
     }
     let mut shelf = shelf_of(alloc, asked)?;
     import_buffers_from(alloc, document, Some(&mut shelf), blob)
-}
-
-/// The blob of a case; none where there is none, and with `+none`.
-fn blob_of(alloc: Global, asked: Asked<'_>) -> std::result::Result<Option<Vec<u8>>, AllocError> {
-    match asked.blob {
-        Some("none") | None => Ok(None),
-        Some(digits) => Ok(Some(bytes_of(alloc, digits)?)),
-    }
 }
 
 impl Told for Data {

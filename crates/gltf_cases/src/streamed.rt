@@ -1,9 +1,9 @@
 //! Files out of readers, and containers into writers, at a pace and where these fail.
-use crate::refused::write_error;
 use crate::told::tell;
 use gltf::{Glb, Gltf};
 use gltf_case::asked::Asked;
 use gltf_case::bytes::write_hex;
+use gltf_case::refused::write_error;
 use gltf_case::shown::Written;
 use std::alloc::Global;
 use std::io;

@@ -1,7 +1,7 @@
 //! What a line says of the answer of a call.
-use crate::refused::write_error;
 use gltf::Result;
 use gltf_case::asked::Asked;
+use gltf_case::refused::write_error;
 use gltf_case::shown::Written;
 use std::alloc::Global;
 

@@ -1,12 +1,12 @@
 //! What a line says of a call that is refused.
+use crate::asked::Asked;
+use crate::shown::Written;
 use gltf::{Error, binary, json};
-use gltf_case::asked::Asked;
-use gltf_case::shown::Written;
 
 /// Writes why a call is refused. The texts of I/O errors, and of faults in base64 and JSON text,
 /// are claimed nowhere, so words stand for them. The fault of a container is written with its
 /// numbers.
-pub(crate) fn write_error(asked: Asked<'_>, error: &Error, line: &mut String) -> Written {
+pub fn write_error(asked: Asked<'_>, error: &Error, line: &mut String) -> Written {
     match error {
         Error::Base64(_) => line.push_str("payload refused"),
         Error::Deserialize(json::Error::Text(_)) => line.push_str("no JSON"),

@@ -1,9 +1,9 @@
 //! The members of the records of a document.
+use crate::shown::Written;
 use gltf::json::Root;
-use gltf_case::shown::Written;
 
 /// Prints a member of the records, by its name in JSON; all of them where it is the name of none.
-pub(crate) fn write_member(root: &Root, name: &str, line: &mut String) -> Written {
+pub fn write_member(root: &Root, name: &str, line: &mut String) -> Written {
     match name {
         "accessors" => write!(line, "{:?}", root.accessors),
         "animations" => write!(line, "{:?}", root.animations),

@@ -1,16 +1,16 @@
 #!/usr/bin/env python3
-"""Writes what the program gltf_cases is run on, and what it has to print then, from the tables
-beside this script.
+"""Writes what the programs of cases are run on, and what they have to print then, from the tables
+of their crates.
 
-usage: cases.py            writes data/, args and stdout
+usage: cases.py            writes data/, args and stdout of each crate
        cases.py --check    fails where these are not what the tables say
-       cases.py --compare FILE [TABLE..]    shows where FILE, which a run of these tables printed,
-                                            is not what they say
+       cases.py --compare CRATE FILE [TABLE..]    shows where FILE, which a run of these tables
+                                                  printed, is not what they say
 
-A table `tables/NAME.txt` has rows: a case, and below it, indented, its answer. Answers are made by
-hand from the format, and never from what the program prints. A case is `CALL [+BLOB] WORD.. :
-GIVEN`; src/calls.rt says what the calls are. Lines of a case are joined by nothing, those of an
-answer by a space. Besides rows a table has
+A table `tables/NAME.txt` of a crate has rows: a case, and below it, indented, its answer. Answers
+are made by hand from the format, and never from what the program prints. A case is `CALL [+BLOB]
+WORD.. : GIVEN`; the crate's src/calls.rt says what the calls are. Lines of a case are joined by
+nothing, those of an answer by a space. Besides rows a table has
 
     # ..                a comment
     let NAME = TEXT     a text that recurs, as $NAME; its further lines are indented
@@ -32,26 +32,34 @@ and in cases and answers
 
 A table `tables/NAME.py` has a list ROWS of cases and answers.
 """
+import collections
 import pathlib
 import re
 import runpy
 import sys
 
 sys.dont_write_bytecode = True
-HERE = pathlib.Path(__file__).resolve().parent
-EXAMPLES = HERE.parent.parent / "examples"
-# The tables in the order in which the program reads them.
-TABLES = """containers imports faults rules documents geometry meshes materials scenes animations
-    items walks iterators lists looks surfaces primitives nodes channels reads uris payloads
-    repacked files streams named examples memory growths""".split()
-# Of the examples, each under its name without its folder.
-FILES = (
-    "box.glb",
-    "triangle.gltf",
-    "dangling.gltf",
-    "two files/square.gltf",
-    "two files/square data.bin",
-)
+TOP = pathlib.Path(__file__).resolve().parent.parent
+# Of each crate: its tables in the order in which the program reads them; and the files of
+# examples/ that stand beside them, each under its name without its folder.
+CRATES = {
+    "gltf_cases": (
+        """containers imports faults rules documents geometry meshes materials scenes animations
+        items walks iterators lists looks surfaces primitives nodes channels reads uris payloads
+        repacked files streams named examples memory growths""".split(),
+        (
+            "box.glb",
+            "triangle.gltf",
+            "dangling.gltf",
+            "two files/square.gltf",
+            "two files/square data.bin",
+        ),
+    ),
+    "gltf_use_cases": (
+        "joined numbers walks reasons buffers names pointers".split(),
+        ("two files/square data.bin",),
+    ),
+}
 BYTES = r'"([^"]*)"|(\d+)\.(?!\S)|([0-9A-Fa-f]{2})×(\d+)|([0-9A-Fa-f]+)|\S+'
 # Lines at the margin, and lines below them that are not.
 BLOCKS = r"(?m)^(?![ \n#])(.*\n(?:(?![ \n#]).+\n)*)((?: .*\n)*)"
@@ -156,55 +164,62 @@ def shown(answer):
     return re.sub(r"\bIndex (\d+)", r"Index { value: \1, .. }", answer)
 
 
-def rows_of(name):
+def folder_of(crate):
+    """The folder of a crate."""
+    return TOP / "crates" / crate
+
+
+def rows_of(crate, name):
     """The cases and answers of a table."""
-    file = HERE / "tables" / f"{name}.py"
+    file = folder_of(crate) / "tables" / f"{name}.py"
     if file.exists():
         return runpy.run_path(str(file))["ROWS"]
     return Table(name, file.with_suffix(".txt").read_text("utf-8")).rows
 
 
-def files_of(tables):
-    """What is to stand in each file of the crate, and the number of cases."""
+def files_of(crate):
+    """What is to stand in each file of a crate, and the number of its cases."""
+    tables, examples = CRATES[crate]
     files = {"args": "".join(f"{name}.txt\n" for name in tables)}
     stdout, cases = "", []
     for name in tables:
-        rows = rows_of(name)
+        rows = rows_of(crate, name)
         files[f"data/{name}.txt"] = "".join(f"{case}\n" for case, _ in rows)
         stdout += f"{name}.txt\n" + "".join(f"{answer}\n" for _, answer in rows)
         cases += [case for case, _ in rows]
-    twice = sorted({it for it in cases if cases.count(it) > 1})
+    twice = [case for case, count in collections.Counter(cases).items() if count > 1]
     if twice:
-        raise ValueError(f"told twice: {twice[:3]}")
+        raise ValueError(f"there twice: {twice[:3]}")
     files = {path: text.encode() for path, text in {**files, "stdout": stdout}.items()}
-    examples = [EXAMPLES / name for name in FILES]
+    examples = [TOP / "examples" / name for name in examples]
     files.update({f"data/{path.name}": path.read_bytes() for path in examples})
     return files, len(cases)
 
 
-def write(files):
+def write(folder, files):
     """Writes the files, and takes away others of data/."""
     for path, text in files.items():
-        (HERE / path).parent.mkdir(exist_ok=True)
-        (HERE / path).write_bytes(text)
-    for path in (HERE / "data").iterdir():
+        (folder / path).parent.mkdir(exist_ok=True)
+        (folder / path).write_bytes(text)
+    for path in (folder / "data").iterdir():
         if f"data/{path.name}" not in files:
             path.unlink()
 
 
-def differences(files):
+def differences(folder, files):
     """The files that are not what the tables say."""
-    there = {f"data/{path.name}": path for path in (HERE / "data").iterdir()}
-    there.update({name: HERE / name for name in ("args", "stdout") if (HERE / name).exists()})
+    data, whole = folder / "data", ("args", "stdout")
+    there = {f"data/{path.name}": path for path in data.iterdir()} if data.exists() else {}
+    there.update({name: folder / name for name in whole if (folder / name).exists()})
     found = {name: path.read_bytes() for name, path in there.items()}
     return sorted(it for it in {**found, **files} if found.get(it) != files.get(it))
 
 
-def compare(printed, tables):
+def compare(crate, printed, tables):
     """Shows the cases whose answers are not what is printed."""
-    lines, wrong, at = printed.splitlines(), 0, 0
+    lines, wrong, at = printed.split("\n")[:-1], 0, 0
     for name in tables:
-        for case, answer in [("the file's name", f"{name}.txt"), *rows_of(name)]:
+        for case, answer in [("the file's name", f"{name}.txt"), *rows_of(crate, name)]:
             found = lines[at] if at < len(lines) else "nothing"
             at += 1
             if found != answer:
@@ -217,20 +232,25 @@ def compare(printed, tables):
 
 def main():
     words = sys.argv[1:]
-    if words[:1] == ["--compare"] and len(words) > 1:
-        return bool(compare(pathlib.Path(words[1]).read_text("utf-8"), words[2:] or TABLES))
-    files, cases = files_of(TABLES)
-    if words == ["--check"]:
-        wrong = differences(files)
-        if wrong:
-            print(f"not what the tables say: {', '.join(wrong)}; cases.py writes them")
-            return 1
-    elif words:
+    if words[:1] == ["--compare"] and len(words) > 2 and words[1] in CRATES:
+        printed = pathlib.Path(words[2]).read_text("utf-8")
+        return bool(compare(words[1], printed, words[3:] or CRATES[words[1]][0]))
+    if words not in ([], ["--check"]):
         print(__doc__)
         return 2
-    else:
-        write(files)
-    print(f"{cases} cases")
+    wrong, total = [], 0
+    for crate in CRATES:
+        files, cases = files_of(crate)
+        if words:
+            wrong += [f"{crate}/{name}" for name in differences(folder_of(crate), files)]
+        else:
+            write(folder_of(crate), files)
+        print(f"{crate}: {cases} cases")
+        total += cases
+    if wrong:
+        print(f"not what the tables say: {', '.join(wrong)}; cases.py writes them")
+        return 1
+    print(f"{total} cases")
     return 0
 
 
