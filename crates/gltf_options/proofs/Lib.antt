@@ -1,1 +1,7 @@
 mod Listed
+mod Shown
+mod Documents
+mod Readers
+mod Buffers
+mod WithBuffers
+mod Files

@@ -1,5 +1,6 @@
 pub mod Names
 pub mod Besides
+pub mod Opened
 pub mod Import
 pub mod Files
 pub mod Reader

@@ -1,9 +1,9 @@
 //! Documents without the names that the caller handles.
-ghost use Rattle.std.specs.Prelude.{◌≡◌, [], IfOk, IfErr, map};
-ghost use Rattle.gltf_validation.specs.Documents.{Faults};
+ghost use Rattle.std.specs.Prelude.{◌≡◌, IfOk, IfErr, map};
 ghost use Rattle.gltf.specs.Errors.{OutOfMemoryOr};
 ghost use Rattle.gltf_options.specs.Besides.{IsBesides, RefusesBesides, listed, required_of};
 ghost use Rattle.gltf_options.specs.Names.{texts, taken_of};
+ghost use Rattle.gltf_options.specs.Opened.{IsOpened};
 
 use crate::file::Opened;
 use crate::options::Options;
@@ -15,12 +15,7 @@ use std::mem;
 
 /// The file without the names that the caller handles, where it breaks no rule then.
 pub(crate) fn opened(alloc: Global, raw: RawGltf, options: &Options<'_>) -> Result<Opened>
-    ensures root { IfOk result (λ file. IsBesides (listed options.now) raw.document
-        file.gltf.document) }
-    ensures names { IfOk result (λ file. texts file.also_required.items
-        ≡ taken_of (listed options.now) (required_of raw.document)) }
-    ensures rules { IfOk result (λ file. Faults file.gltf.document ≡ []) }
-    ensures blob { IfOk result (λ file. file.gltf.blob ≡ raw.blob) }
+    ensures opened { IfOk result (IsOpened (listed options.now) raw.document raw.blob) }
     ensures refused { IfErr result
         (OutOfMemoryOr (RefusesBesides (listed options.now) raw.document)) }
 {

@@ -1,0 +1,86 @@
+-- What the bytes that a source gave for a path say of the whole, for `import_from_with`.
+use Rattle.std.proofs.Common.{◌≡◌, ◌≢◌, ℕ, List, Result, Ok, Err, refl, sym, subst, inr, ◌∙◌}
+use Rattle.std.proofs.Common.{Option, Some, None}
+use Rattle.std.specs.Prelude.{IfOk, IfErr}
+use Rattle.gltf_glb.specs.declared.error.Error.{Error}
+use Rattle.gltf_glb.specs.declared.error.Error.TheVariants as error
+use Rattle.gltf_json.specs.declared.root.Root.{Root}
+use Rattle.gltf_names.specs.Named.{Named, File}
+use Rattle.gltf_buffers.specs.Errors.{IsUnanswered}
+use Rattle.gltf_buffers.specs.Names.{Names, Nowhere, Anywhere, Held, AreKnown, Gives, names_of}
+use Rattle.gltf.specs.Files.{IsNotIo}
+use Rattle.gltf.specs.Shown.{bytes_of_each}
+use Rattle.gltf_options.specs.Files.{FailsOrRefusesBesides, AcceptsFileBesides}
+use Rattle.gltf_options.specs.Files.{RefusesFileAtBesides, IsOnlyFileBesides}
+use Rattle.gltf_options.specs.Files.{IsNotAcceptedFileBesides}
+use Rattle.gltf_options.specs.Import.{AcceptsBesides, IsOnlyImportBesides, IsNotAcceptedBesides}
+use Rattle.gltf_options.specs.Names.{texts}
+use Rattle.gltf_options.specs.declared.imports.Imported.{Imported}
+
+one_file : (names : Names) (name : Named) (a b : List ℕ) → AreKnown names → Gives names name a
+    → Gives names name b → a ≡ b
+one_file Nowhere name a b known p q = absurd p
+one_file Anywhere name a b known p q = absurd known
+one_file (Held holds) name a b known p q = let e : Some a ≡ Some b = sym p ∙ q in cc
+
+-- the bytes that are given are those that a file at the path is accepted for
+accepts_given : (also : List (List ℕ)) (names : Names) (path bytes : List ℕ) (r : Root)
+    (taken buffers : List (List ℕ)) → AreKnown names → Gives names (File path) bytes
+    → AcceptsFileBesides also names path r taken buffers
+    → AcceptsBesides also names bytes r taken buffers
+accepts_given also names path bytes r taken buffers known gives file =
+    subst (λ (t : List ℕ). AcceptsBesides also names t r taken buffers)
+    (one_file names (File path) file.bytes bytes known file.gives gives) file.accepted
+
+pub ok_file : (also : List (List ℕ)) (names : Names) (path bytes : List ℕ)
+    (result : Result Imported Error) → Gives names (File path) bytes
+    → IfOk result (λ read. AcceptsBesides also names bytes read.document
+    (texts read.also_required.items) (bytes_of_each read.buffers.items))
+    → IfOk result (λ read. AcceptsFileBesides also names path read.document
+    (texts read.also_required.items) (bytes_of_each read.buffers.items))
+ok_file also names path bytes (Ok read) gives accepted =
+    record { bytes = bytes; gives = gives; accepted = accepted }
+ok_file also names path bytes (Err e) gives accepted = tt
+
+pub only_file : (also : List (List ℕ)) (names : Names) (path bytes : List ℕ)
+    (result : Result Imported Error) → AreKnown names → Gives names (File path) bytes
+    → IfOk result (λ read. IsOnlyImportBesides also names bytes read.document
+    (texts read.also_required.items) (bytes_of_each read.buffers.items))
+    → IfOk result (λ read. IsOnlyFileBesides also names path read.document
+    (texts read.also_required.items) (bytes_of_each read.buffers.items))
+only_file also names path bytes (Ok read) known gives only = λ s others data_ file.
+    only s others data_
+    (accepts_given also names path bytes s others data_ known gives file)
+only_file also names path bytes (Err e) known gives only = tt
+
+pub err_not_file : {T : Type 0} (also : List (List ℕ)) (names : Names) (path bytes : List ℕ)
+    (result : Result T Error) → AreKnown names → Gives names (File path) bytes
+    → IfErr result (λ e. e ≢ error.Memory → IsNotIo e → IsNotAcceptedBesides also names bytes)
+    → IfErr result (λ e. e ≢ error.Memory → IsNotIo e → IsNotAcceptedFileBesides also names path)
+err_not_file also names path bytes (Ok x) known gives exact = tt
+err_not_file also names path bytes (Err e) known gives exact = λ other fine s taken buffers file.
+    exact other fine s taken buffers
+    (accepts_given also names path bytes s taken buffers known gives file)
+
+pub err_file : {T : Type 0} (also : List (List ℕ)) (names : Names) (path bytes : List ℕ)
+    (old new : List Named) (result : Result T Error) → Gives names (File path) bytes
+    → IfErr result (FailsOrRefusesBesides also names bytes old new)
+    → IfErr result (RefusesFileAtBesides also names path old new)
+err_file also names path bytes old new (Ok x) gives told = tt
+err_file also names path bytes old new (Err e) gives told =
+    inr (record { bytes = bytes; gives = gives; fails = told })
+
+not_nowhere : (held : Option (Named → Option (List ℕ))) → names_of held ≡ Nowhere → ⊥
+not_nowhere None e = cc
+not_nowhere (Some holds) e = cc
+
+-- a path that was not answered failed, or there was not enough memory
+pub path_failed : (also : List (List ℕ)) (held : Option (Named → Option (List ℕ)))
+    (path : List ℕ) (old new : List Named) (e : Error)
+    → IsUnanswered (names_of held) (File path) old new e
+    → e ≢ error.Memory → IsNotIo e → IsNotAcceptedFileBesides also (names_of held) path
+path_failed also held path old new (error.Io cause) told other fine = absurd fine
+path_failed also held path old new error.Memory told other fine = absurd (other refl)
+path_failed also held path old new error.ExternalReferenceInSliceImport told other fine =
+    absurd (not_nowhere held told.0)
+path_failed also held path old new _ told other fine = absurd told
