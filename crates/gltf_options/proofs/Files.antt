@@ -32,16 +32,6 @@ accepts_given also names path bytes r taken buffers known gives file =
     subst (λ (t : List ℕ). AcceptsBesides also names t r taken buffers)
     (one_file names (File path) file.bytes bytes known file.gives gives) file.accepted
 
-pub ok_file : (also : List (List ℕ)) (names : Names) (path bytes : List ℕ)
-    (result : Result Imported Error) → Gives names (File path) bytes
-    → IfOk result (λ read. AcceptsBesides also names bytes read.document
-    (texts read.also_required.items) (bytes_of_each read.buffers.items))
-    → IfOk result (λ read. AcceptsFileBesides also names path read.document
-    (texts read.also_required.items) (bytes_of_each read.buffers.items))
-ok_file also names path bytes (Ok read) gives accepted =
-    record { bytes = bytes; gives = gives; accepted = accepted }
-ok_file also names path bytes (Err e) gives accepted = tt
-
 pub only_file : (also : List (List ℕ)) (names : Names) (path bytes : List ℕ)
     (result : Result Imported Error) → AreKnown names → Gives names (File path) bytes
     → IfOk result (λ read. IsOnlyImportBesides also names bytes read.document
@@ -61,26 +51,3 @@ err_not_file also names path bytes (Ok x) known gives exact = tt
 err_not_file also names path bytes (Err e) known gives exact = λ other fine s taken buffers file.
     exact other fine s taken buffers
     (accepts_given also names path bytes s taken buffers known gives file)
-
-pub err_file : {T : Type 0} (also : List (List ℕ)) (names : Names) (path bytes : List ℕ)
-    (old new : List Named) (result : Result T Error) → Gives names (File path) bytes
-    → IfErr result (FailsOrRefusesBesides also names bytes old new)
-    → IfErr result (RefusesFileAtBesides also names path old new)
-err_file also names path bytes old new (Ok x) gives told = tt
-err_file also names path bytes old new (Err e) gives told =
-    inr (record { bytes = bytes; gives = gives; fails = told })
-
-not_nowhere : (held : Option (Named → Option (List ℕ))) → names_of held ≡ Nowhere → ⊥
-not_nowhere None e = cc
-not_nowhere (Some holds) e = cc
-
--- a path that was not answered failed, or there was not enough memory
-pub path_failed : (also : List (List ℕ)) (held : Option (Named → Option (List ℕ)))
-    (path : List ℕ) (old new : List Named) (e : Error)
-    → IsUnanswered (names_of held) (File path) old new e
-    → e ≢ error.Memory → IsNotIo e → IsNotAcceptedFileBesides also (names_of held) path
-path_failed also held path old new (error.Io cause) told other fine = absurd fine
-path_failed also held path old new error.Memory told other fine = absurd (other refl)
-path_failed also held path old new error.ExternalReferenceInSliceImport told other fine =
-    absurd (not_nowhere held told.0)
-path_failed also held path old new _ told other fine = absurd told

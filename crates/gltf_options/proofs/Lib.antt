@@ -5,3 +5,4 @@ mod Readers
 mod Buffers
 mod WithBuffers
 mod Files
+mod Left

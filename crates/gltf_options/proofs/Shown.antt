@@ -1,5 +1,5 @@
 -- Of documents that show the same, what is left without the names of a list shows the same too.
-use Rattle.std.proofs.Common.{◌≡◌, ℕ, List, ap, ap₂, ◌∙◌, sym}
+use Rattle.std.proofs.Common.{◌≡◌, ℕ, List, ap, ap₂, ◌∙◌, sym, refl}
 use Rattle.gltf_json.specs.Alike.{AreAlikeInEachMember}
 use Rattle.gltf_json.specs.Documents.{root}
 use Rattle.gltf_json.specs.declared.root.Root.{Root}
@@ -37,3 +37,12 @@ same_besides also r s a b alike same besides_r besides_s =
     ∙ ap₂ with_required same
     (besides_r.names ∙ ap (left_of also) (same_required r s alike same) ∙ sym besides_s.names)
     ∙ sym (shows_required s b besides_s.others)
+
+-- where all names are left, what is left shows the same
+pub same_required_left : (r s : Root)
+    → s ≡ record r { extensions_required = s.extensions_required }
+    → required_of s ≡ required_of r → root.content r ≡ root.content s
+same_required_left r s others names =
+    shows_required r r refl
+    ∙ ap (with_required (root.content r)) (sym names)
+    ∙ sym (shows_required r s others)

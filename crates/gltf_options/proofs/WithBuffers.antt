@@ -75,20 +75,6 @@ not_accepted_of_none also names bytes none s taken buffers accepted =
 
 -- ---- what an error says
 
-no_io : (also : List (List ℕ)) (bytes : List ℕ) (cause : IoError)
-    → RefusesDocumentBesides also bytes (error.Io cause) → ⊥
-no_io also bytes cause (inl (inl told)) = let names = told.names in cc
-no_io also bytes cause (inl (inr told)) = let names = told.names in cc
-no_io also bytes cause (inr told) = told.fails
-
--- what refuses a document refuses it whatever names hold, and asks for none
-pub refuses_document : (also : List (List ℕ)) (names : Names) (bytes : List ℕ) (old : List Named)
-    (e : Error) → OutOfMemoryOr (RefusesDocumentBesides also bytes) e
-    → FailsOrRefusesBesides also names bytes old old e
-refuses_document also names bytes old error.Memory told = refl
-refuses_document also names bytes old (error.Io cause) told = absurd (no_io also bytes cause told)
-refuses_document also names bytes old e told = (refl, inl told)
-
 pub refuses_buffers : (also : List (List ℕ)) (names : Names) (bytes : List ℕ) (r : Root)
     (taken : List (List ℕ)) (blob : Option (List ℕ)) (old new : List Named) (e : Error)
     → IsValidBesides also bytes r taken blob
@@ -107,20 +93,6 @@ refuses_buffers also names bytes r taken blob old new e valid fails = (
 )
 
 -- ---- where no name can be asked for
-
-refused : (also : List (List ℕ)) (bytes : List ℕ) (old new : List Named) (e : Error)
-    → FailsOrRefusesBesides also Nowhere bytes old new e
-    → OutOfMemoryOr (RefusesImportBesides also Nowhere bytes) e
-refused also bytes old new (error.Io cause) told = absurd told.1.asked.leads.0
-refused also bytes old new error.Memory told = tt
-refused also bytes old new e told = told.1
-
-pub nowhere_refused : {T : Type 0} (also : List (List ℕ)) (bytes : List ℕ)
-    (old new : List Named) (result : Result T Error)
-    → IfErr result (FailsOrRefusesBesides also Nowhere bytes old new)
-    → IfErr result (OutOfMemoryOr (RefusesImportBesides also Nowhere bytes))
-nowhere_refused also bytes old new (Ok x) told = tt
-nowhere_refused also bytes old new (Err e) told = refused also bytes old new e told
 
 not_io : (also : List (List ℕ)) (bytes : List ℕ) (old new : List Named) (e : Error)
     → FailsOrRefusesBesides also Nowhere bytes old new e → IsNotIo e

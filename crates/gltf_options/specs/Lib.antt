@@ -4,3 +4,4 @@ pub mod Opened
 pub mod Import
 pub mod Files
 pub mod Reader
+pub mod Laws

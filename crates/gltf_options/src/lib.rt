@@ -8,6 +8,7 @@
 mod besides;
 mod file;
 mod imports;
+pub mod laws;
 mod options;
 mod split;
 

@@ -1,0 +1,28 @@
+//! Laws of lists of names. Each is a statement over the definitions of `specs/`, proved as the
+//! contract of a function; the calls in a body are laws that its proof stands on, and do nothing.
+ghost use Rattle.gltf_options.specs.Laws.{AcceptedWithNoList, AcceptedWithList};
+ghost use Rattle.gltf_options.specs.Laws.{EmptyListTakesNothing};
+
+use gltf_json::laws::what_shows_the_same_is_alike_in_each_member;
+use gltf_rules::laws::what_shows_the_same_breaks_the_same_rules;
+
+/// Where no name was left out, the calls of `gltf` accept the same bytes, with a document that
+/// shows the same, and the same buffers.
+pub fn what_nothing_was_left_out_of_is_accepted_with_no_list()
+    ensures { AcceptedWithNoList }
+{
+    what_shows_the_same_is_alike_in_each_member();
+    what_shows_the_same_breaks_the_same_rules();
+}
+
+/// What the calls of `gltf` accept is accepted with each list that has no name which the document
+/// requires: the same document, with the same buffers and no name left out.
+pub fn what_requires_no_listed_name_is_accepted_with_the_list()
+    ensures { AcceptedWithList }
+{}
+
+/// No name is in the empty list. So with [`crate::Options::new`] the bytes that are accepted are
+/// those that the calls of `gltf` accept.
+pub fn an_empty_list_takes_nothing()
+    ensures { EmptyListTakesNothing }
+{}
