@@ -6,3 +6,4 @@ mod Buffers
 mod WithBuffers
 mod Files
 mod Left
+mod Handled
