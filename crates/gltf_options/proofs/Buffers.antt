@@ -1,18 +1,15 @@
 -- A document has one list of bytes of its buffers where it is known what names hold, and none where
 -- a buffer has a fault: `one_buffers` and `no_buffers`. A buffer has one result (`one_bytes`), by
 -- cases on what its URI means and on the names.
-use Rattle.std.proofs.Common.{ℕ, ◌≡◌, ◌≢◌, ◌<◌, List, [], ◌∷◌, length, map, get_or, refl, sym, ◌∙◌}
+use Rattle.std.proofs.Common.{ℕ, ◌≡◌, ◌<◌, List, [], ◌∷◌, length, map, get_or, refl, sym, ◌∙◌}
 use Rattle.std.proofs.Common.{ap, arith, inl, inr, Result, Ok, Err}
 use Rattle.std.specs.Prelude.{Option, Some, None}
 use Rattle.std.proofs.lemmas.Option.{slice_get_cases, slice_get_within}
 use Rattle.std.proofs.lemmas.List.{ext_get_or}
-use Rattle.gltf_glb.specs.declared.error.Error.{Error}
-use Rattle.gltf_glb.specs.declared.error.Error.TheVariants as error
 use Rattle.gltf_json_geometry.specs.Buffers.{buffer}
 use Rattle.gltf_json_geometry.specs.declared.buffer.Buffer.{Buffer}
 use Rattle.gltf_json.specs.Alike.{AreAlikeInEachMember}
 use Rattle.gltf_json.specs.declared.root.Root.{Root}
-use Rattle.gltf_names.specs.Named.{Named}
 use Rattle.gltf_buffers.specs.Uri.{Meaning, uri_of}
 use Rattle.gltf_buffers.specs.Uri as uri
 use Rattle.gltf_buffers.specs.Buffers.{Source, BufferFault, source_of, sources_of, bytes_outside}

@@ -14,7 +14,7 @@ use Rattle.gltf.specs.Errors.{OutOfMemoryOr, TellsRules}
 use Rattle.gltf.specs.Import.{IsDocument, IsOnlyDocument, IsNoDocument, RefusesRecords}
 use Rattle.gltf.specs.Shown.{blob_bytes}
 use Rattle.gltf_options.specs.Besides.{IsBesides, RefusesBesides, required_of}
-use Rattle.gltf_options.specs.Import.{IsDocumentBesides, IsValidBesides, IsOnlyBesides}
+use Rattle.gltf_options.specs.Import.{IsValidBesides, IsOnlyBesides}
 use Rattle.gltf_options.specs.Import.{IsNoValidBesides, RefusesRulesBesides}
 use Rattle.gltf_options.specs.Import.{RefusesDocumentBesides}
 use Rattle.gltf_options.specs.Names.{texts, taken_of}

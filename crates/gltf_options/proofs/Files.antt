@@ -1,17 +1,16 @@
 -- What the bytes that a source gave for a path say of the whole, for `import_from_with`.
-use Rattle.std.proofs.Common.{◌≡◌, ◌≢◌, ℕ, List, Result, Ok, Err, refl, sym, subst, inr, ◌∙◌}
-use Rattle.std.proofs.Common.{Option, Some, None}
+use Rattle.std.proofs.Common.{◌≡◌, ◌≢◌, ℕ, List, Result, Ok, Err, sym, subst, ◌∙◌}
+use Rattle.std.proofs.Common.{Some}
 use Rattle.std.specs.Prelude.{IfOk, IfErr}
 use Rattle.gltf_glb.specs.declared.error.Error.{Error}
 use Rattle.gltf_glb.specs.declared.error.Error.TheVariants as error
 use Rattle.gltf_json.specs.declared.root.Root.{Root}
 use Rattle.gltf_names.specs.Named.{Named, File}
-use Rattle.gltf_buffers.specs.Errors.{IsUnanswered}
-use Rattle.gltf_buffers.specs.Names.{Names, Nowhere, Anywhere, Held, AreKnown, Gives, names_of}
+use Rattle.gltf_buffers.specs.Names.{Names, Nowhere, Anywhere, Held, AreKnown, Gives}
 use Rattle.gltf.specs.Files.{IsNotIo}
 use Rattle.gltf.specs.Shown.{bytes_of_each}
-use Rattle.gltf_options.specs.Files.{FailsOrRefusesBesides, AcceptsFileBesides}
-use Rattle.gltf_options.specs.Files.{RefusesFileAtBesides, IsOnlyFileBesides}
+use Rattle.gltf_options.specs.Files.{AcceptsFileBesides}
+use Rattle.gltf_options.specs.Files.{IsOnlyFileBesides}
 use Rattle.gltf_options.specs.Files.{IsNotAcceptedFileBesides}
 use Rattle.gltf_options.specs.Import.{AcceptsBesides, IsOnlyImportBesides, IsNotAcceptedBesides}
 use Rattle.gltf_options.specs.Names.{texts}

@@ -1,5 +1,5 @@
 -- The rules of a document without the names of a list, and those of the whole.
-use Rattle.std.proofs.Common.{◌≡◌, ℕ, ◌+◌, List, [], ◌∷◌, ◌⊎◌, String, Global, Bool, true, false}
+use Rattle.std.proofs.Common.{◌≡◌, ℕ, ◌+◌, List, [], ◌∷◌, String, Global, Bool, true, false}
 use Rattle.std.proofs.Common.{inl, inr, refl, sym, subst, ◌∙◌, if◌then◌else◌}
 use Rattle.std.proofs.Common.{true≢false, string_bytes}
 use Rattle.std.proofs.lemmas.List.Elements.{All-nil, All-cons, All-head, All-tail}

@@ -4,12 +4,9 @@ use Rattle.std.proofs.Common.{if◌then◌else◌}
 use Rattle.std.specs.Prelude.{filter, not}
 use Rattle.gltf_json.specs.Documents.{root}
 use Rattle.gltf_json.specs.declared.root.Root.{Root}
-use Rattle.gltf_buffers.specs.Names.{Names}
-use Rattle.gltf.specs.Import.{AcceptsWith}
 use Rattle.gltf_options.specs.Besides.{IsBesides, required_of}
-use Rattle.gltf_options.specs.Import.{AcceptsBesides}
 use Rattle.gltf_options.specs.Laws.{AcceptedWithNoList, AcceptedWithList, EmptyListTakesNothing}
-use Rattle.gltf_options.specs.Names.{taken_of, left_of}
+use Rattle.gltf_options.specs.Names.{taken_of}
 use Rattle.gltf_options.proofs.Buffers.{sources_alike}
 use Rattle.gltf_options.proofs.Documents.{SameRules}
 use Rattle.gltf_options.proofs.Shown.{Alike, same_required_left}

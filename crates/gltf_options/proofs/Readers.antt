@@ -1,6 +1,6 @@
 -- From the bytes that came out of a reader to the answers of `from_reader_with`, by cases on the
 -- error.
-use Rattle.std.proofs.Common.{◌≡◌, ◌≢◌, ℕ, List, Result, Ok, Err, inl, inr, Vec, Global}
+use Rattle.std.proofs.Common.{◌≢◌, ℕ, List, Result, Ok, Err, inl, inr, Vec, Global}
 use Rattle.std.specs.Prelude.{Option, IfOk, IfErr, MatchResult}
 use Rattle.gltf_glb.specs.declared.error.Error.{Error}
 use Rattle.gltf_glb.specs.declared.error.Error.TheVariants as error

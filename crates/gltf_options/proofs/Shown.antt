@@ -4,7 +4,7 @@ use Rattle.gltf_json.specs.Alike.{AreAlikeInEachMember}
 use Rattle.gltf_json.specs.Documents.{root}
 use Rattle.gltf_json.specs.declared.root.Root.{Root}
 use Rattle.gltf_options.specs.Besides.{IsBesides, required_of}
-use Rattle.gltf_options.specs.Names.{texts, left_of}
+use Rattle.gltf_options.specs.Names.{left_of}
 
 -- what a document shows, with these names in `extensionsRequired`
 with_required : root.Content → List (List ℕ) → root.Content

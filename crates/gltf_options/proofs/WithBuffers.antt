@@ -1,9 +1,8 @@
 -- From a document and its buffers to the import, for the contracts of `import_bytes` and of
 -- `import_slice_with`. The bytes are imported in one way (`one_import`), and not refused as well
 -- (`not_accepted`).
-use Rattle.std.proofs.Common.{◌≡◌, ◌≢◌, ℕ, List, Result, Ok, Err, length, refl, sym, inl, inr}
-use Rattle.std.specs.Prelude.{Option, IfOk, IfErr}
-use Rattle.std.specs.declared.io.Error.{Error as IoError}
+use Rattle.std.proofs.Common.{◌≡◌, ◌≢◌, ℕ, List, Result, Ok, Err, length, refl, inr}
+use Rattle.std.specs.Prelude.{Option, IfErr}
 use Rattle.gltf_glb.specs.declared.error.Error.{Error}
 use Rattle.gltf_glb.specs.declared.error.Error.TheVariants as error
 use Rattle.gltf_json.specs.Documents.{root}
@@ -14,13 +13,11 @@ use Rattle.gltf_buffers.specs.Buffers.{IsAskedFor}
 use Rattle.gltf_buffers.specs.ErrorLaws.{named_fault}
 use Rattle.gltf_buffers.specs.Errors.{FailsOrNames}
 use Rattle.gltf_buffers.specs.Names.{Names, Nowhere, AreKnown}
-use Rattle.gltf.specs.Errors.{OutOfMemoryOr}
 use Rattle.gltf.specs.Files.{IsNotIo}
 use Rattle.gltf_options.specs.Files.{FailsOrRefusesBesides}
 use Rattle.gltf_options.specs.Import.{IsValidBesides, IsOnlyBesides, AcceptsBesides}
 use Rattle.gltf_options.specs.Import.{IsOnlyImportBesides, IsNoValidBesides}
-use Rattle.gltf_options.specs.Import.{IsNotAcceptedBesides, RefusesDocumentBesides}
-use Rattle.gltf_options.specs.Import.{RefusesImportBesides}
+use Rattle.gltf_options.specs.Import.{IsNotAcceptedBesides}
 use Rattle.gltf_options.proofs.Buffers.{sources_alike, one_buffers, no_buffers}
 use Rattle.gltf_options.proofs.Shown.{Alike}
 
