@@ -10,7 +10,7 @@ use gltf_rules::laws::{
 
 /// Where no name was left out, the calls of `gltf` accept the same bytes, with a document that
 /// shows the same, and the same buffers.
-pub fn what_nothing_was_left_out_of_is_accepted_with_no_list()
+pub fn nothing_left_out_is_accepted_with_no_list()
     ensures { AcceptedWithNoList }
 {
     what_shows_the_same_is_alike_in_each_member();
@@ -19,7 +19,7 @@ pub fn what_nothing_was_left_out_of_is_accepted_with_no_list()
 
 /// What the calls of `gltf` accept is accepted with each list that has no name which the document
 /// requires: the same document, with the same buffers and no name left out.
-pub fn what_requires_no_listed_name_is_accepted_with_the_list()
+pub fn no_listed_name_is_accepted_with_the_list()
     ensures { AcceptedWithList }
 {}
 
@@ -31,7 +31,7 @@ pub fn an_empty_list_takes_nothing()
 
 /// Without the names of a list no rule is broken exactly where the rules of every other member
 /// hold, and each required extension is supported by the loader or in the list.
-pub fn no_rule_is_broken_where_each_required_name_is_handled()
+pub fn no_rule_is_broken_where_names_are_handled()
     ensures { HoldsWhereHandled }
 {
     no_rule_is_broken_where_all_hold();

@@ -1,5 +1,5 @@
 use Rattle.gltf_options.proofs.Left.{accepted_with_no_list}
-use Rattle.gltf_options.proofs.laws.what_nothing_was_left_out_of_is_accepted_with_no_list.Goals as goal
+use Rattle.gltf_options.proofs.laws.nothing_left_out_is_accepted_with_no_list.Goals as goal
 
 pub returns : goal.returns
 returns c =
