@@ -1,0 +1,9 @@
+mod Listed
+mod Shown
+mod Documents
+mod Readers
+mod Buffers
+mod WithBuffers
+mod Files
+mod Left
+mod Handled

@@ -1,0 +1,42 @@
+//! Documents without the names that the caller handles.
+ghost use Rattle.std.specs.Prelude.{◌≡◌, IfOk, IfErr, map};
+ghost use Rattle.gltf.specs.Errors.{OutOfMemoryOr};
+ghost use Rattle.gltf_options.specs.Besides.{IsBesides, RefusesBesides, listed, required_of};
+ghost use Rattle.gltf_options.specs.Names.{texts, taken_of};
+ghost use Rattle.gltf_options.specs.Opened.{IsOpened};
+
+use crate::file::Opened;
+use crate::options::Options;
+use crate::split::split;
+use gltf::{Document, Gltf, RawGltf, Result};
+use gltf_json::root::Root;
+use std::alloc::{AllocError, Global};
+use std::mem;
+
+/// The file without the names that the caller handles, where it breaks no rule then.
+pub(crate) fn opened(alloc: Global, raw: RawGltf, options: &Options<'_>) -> Result<Opened>
+    ensures opened { IfOk result (IsOpened (listed options.now) raw.document raw.blob) }
+    ensures refused { IfErr result
+        (OutOfMemoryOr (RefusesBesides (listed options.now) raw.document)) }
+{
+    let RawGltf { document, blob } = raw;
+    let (root, also_required) = besides(alloc, document.into_json(), options.also_supported)?;
+    let document = Document::from_json(alloc, root)?;
+    Ok(Opened {
+        gltf: Gltf { document, blob },
+        also_required,
+    })
+}
+
+/// The records without these names in `extensionsRequired`, and the names that were there.
+fn besides(alloc: Global, root: Root, also: &[&str]) -> Result<(Root, Vec<String>), AllocError>
+    ensures root { IfOk result (λ parts. IsBesides (map (λ k. k.now) also.now) root parts.0) }
+    ensures names { IfOk result (λ parts. texts parts.1.items
+        ≡ taken_of (map (λ k. k.now) also.now) (required_of root)) }
+{
+    let mut left = root;
+    let names = mem::replace(&mut left.extensions_required, Vec::new(alloc));
+    let (others, taken) = split(alloc, names, also)?;
+    left.extensions_required = others;
+    Ok((left, taken))
+}

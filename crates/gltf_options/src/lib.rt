@@ -1,0 +1,17 @@
+//! Documents that require extensions which the caller handles: the calls of `gltf`, with a list of
+//! names beside those that the loader supports (glTF 2.0, section 3.12, "Specifying Extensions").
+//!
+//! The document of such a call is the one of the file without these names in `extensionsRequired`.
+//! All rules are checked of it, and the names that were left out come beside it, in their order.
+#![tactic(auto)]
+
+mod besides;
+mod file;
+mod imports;
+pub mod laws;
+mod options;
+mod split;
+
+pub use file::{Opened, from_reader_with, from_slice_with};
+pub use imports::{Imported, import_from_with, import_slice_with, import_with};
+pub use options::Options;
