@@ -43,7 +43,7 @@ void loader_counts(void *file, size_t counts[COUNTS])
     counts[BUFFERS] = data->buffers_count;
     counts[BYTES] = 0;
     for (k = 0; k < data->buffers_count; k++)
-        counts[BYTES] += data->buffers[k].size;
+        counts[BYTES] += (data->buffers[k].size + 3) & ~(size_t)3;
 }
 
 long long loader_items(void *file)

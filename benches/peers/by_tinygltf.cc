@@ -42,7 +42,7 @@ void loader_counts(void *file, size_t counts[COUNTS])
     counts[BUFFERS] = model->buffers.size();
     counts[BYTES] = 0;
     for (const auto &buffer : model->buffers)
-        counts[BYTES] += buffer.data.size();
+        counts[BYTES] += (buffer.data.size() + 3) & ~(size_t)3;
 }
 
 long long loader_items(void *)

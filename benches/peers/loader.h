@@ -8,7 +8,8 @@
 extern "C" {
 #endif
 
-/* What loader_counts counts. BYTES are those of all buffers. */
+/* What loader_counts counts. BYTES are those of all buffers, each
+ * filled up to a multiple of four. */
 enum { ACCESSORS, MESHES, NODES, MATERIALS, TEXTURES, ANIMATIONS, BUFFERS, BYTES, COUNTS };
 
 /* Parses a file, loads its buffers and validates it, by the loader's own calls. NULL where the file
