@@ -2,6 +2,15 @@
 //! lie, without a copy, or copied one item after the other. And why a reader of items read none.
 #![tactic(auto)]
 
+pub mod animation;
+mod flat;
+mod item;
+pub mod mesh;
+mod not_read;
 mod raw;
+pub mod skin;
+mod why;
 
+pub use flat::to_bytes;
+pub use not_read::NotRead;
 pub use raw::{Bytes, RawBytes};

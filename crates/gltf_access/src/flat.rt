@@ -1,0 +1,138 @@
+//! The bytes of all items of an accessor, one item after the other.
+
+ghost use Rattle.std.specs.Prelude.{◌≡◌, ◌*◌, ◌≤◌, IfOk, option_map};
+ghost use Rattle.std.specs.List.{concat};
+ghost use Rattle.gltf_data.specs.Iter.{counted_items};
+ghost use Rattle.gltf_handles.specs.Accessors.{accessor_handle};
+ghost use Rattle.gltf_handles.specs.Sizes.{component_size, item_size, multiplicity};
+ghost use Rattle.gltf_access.specs.Flat.{IsFlat};
+
+use crate::item::ItemBytes;
+use gltf_data::accessor::{Accessor, DataType, Dimensions, Iter};
+use gltf_data::buffer::Buffer;
+use std::alloc::{AllocError, Global};
+
+/// The bytes of all items of an accessor one after the other, without padding between items, and
+/// with the values of its sparse part in their places (glTF 2.0, section 3.6.2, "Accessors"). None
+/// exactly where the accessor cannot be read as items of its own size: where its view, or one of its
+/// sparse part, is not there, too short or without bytes, or where items overlap. The closure gives
+/// the bytes of buffers.
+///
+/// There are `accessor.count() * accessor.size()` of them. A sparse accessor without a view may have
+/// any count, whatever the size of the file: ask before you make room.
+pub fn to_bytes<'s, F: Fn(Buffer) -> Option<&'s [u8]>>(
+    alloc: Global,
+    accessor: Accessor,
+    get_buffer_data: &F,
+) -> Result<Option<Vec<u8>>, AllocError>
+    requires { F.IsAlwaysCallable get_buffer_data.now }
+    ensures { let a = accessor_handle accessor.entry in
+        IfOk result (λ flat. IsFlat (λ b o. F.post get_buffer_data.now b o) (item_size a.json)
+        a.document a.json (option_map (λ bytes. bytes.items) flat)) }
+{
+    let shape = accessor.dimensions();
+    match accessor.data_type() {
+        DataType::I8 | DataType::U8 => of_bytes(alloc, shape, accessor, get_buffer_data),
+        DataType::I16 | DataType::U16 => of_halves(alloc, shape, accessor, get_buffer_data),
+        DataType::U32 | DataType::F32 => of_words(alloc, shape, accessor, get_buffer_data),
+    }
+}
+
+/// The same where a component has one byte.
+fn of_bytes<'s, F: Fn(Buffer) -> Option<&'s [u8]>>(
+    alloc: Global,
+    shape: Dimensions,
+    accessor: Accessor,
+    get_buffer_data: &F,
+) -> Result<Option<Vec<u8>>, AllocError>
+    requires { F.IsAlwaysCallable get_buffer_data.now }
+    ensures { let a = accessor_handle accessor.entry in
+        IfOk result (λ flat. IsFlat (λ b o. F.post get_buffer_data.now b o) (1 * multiplicity shape)
+        a.document a.json (option_map (λ bytes. bytes.items) flat)) }
+{
+    match shape {
+        Dimensions::Scalar => of_size::<1, F>(alloc, accessor, get_buffer_data),
+        Dimensions::Vec2 => of_size::<2, F>(alloc, accessor, get_buffer_data),
+        Dimensions::Vec3 => of_size::<3, F>(alloc, accessor, get_buffer_data),
+        Dimensions::Vec4 | Dimensions::Mat2 => of_size::<4, F>(alloc, accessor, get_buffer_data),
+        Dimensions::Mat3 => of_size::<9, F>(alloc, accessor, get_buffer_data),
+        Dimensions::Mat4 => of_size::<16, F>(alloc, accessor, get_buffer_data),
+    }
+}
+
+/// The same where a component has two bytes.
+fn of_halves<'s, F: Fn(Buffer) -> Option<&'s [u8]>>(
+    alloc: Global,
+    shape: Dimensions,
+    accessor: Accessor,
+    get_buffer_data: &F,
+) -> Result<Option<Vec<u8>>, AllocError>
+    requires { F.IsAlwaysCallable get_buffer_data.now }
+    ensures { let a = accessor_handle accessor.entry in
+        IfOk result (λ flat. IsFlat (λ b o. F.post get_buffer_data.now b o) (2 * multiplicity shape)
+        a.document a.json (option_map (λ bytes. bytes.items) flat)) }
+{
+    match shape {
+        Dimensions::Scalar => of_size::<2, F>(alloc, accessor, get_buffer_data),
+        Dimensions::Vec2 => of_size::<4, F>(alloc, accessor, get_buffer_data),
+        Dimensions::Vec3 => of_size::<6, F>(alloc, accessor, get_buffer_data),
+        Dimensions::Vec4 | Dimensions::Mat2 => of_size::<8, F>(alloc, accessor, get_buffer_data),
+        Dimensions::Mat3 => of_size::<18, F>(alloc, accessor, get_buffer_data),
+        Dimensions::Mat4 => of_size::<32, F>(alloc, accessor, get_buffer_data),
+    }
+}
+
+/// The same where a component has four bytes.
+fn of_words<'s, F: Fn(Buffer) -> Option<&'s [u8]>>(
+    alloc: Global,
+    shape: Dimensions,
+    accessor: Accessor,
+    get_buffer_data: &F,
+) -> Result<Option<Vec<u8>>, AllocError>
+    requires { F.IsAlwaysCallable get_buffer_data.now }
+    ensures { let a = accessor_handle accessor.entry in
+        IfOk result (λ flat. IsFlat (λ b o. F.post get_buffer_data.now b o) (4 * multiplicity shape)
+        a.document a.json (option_map (λ bytes. bytes.items) flat)) }
+{
+    match shape {
+        Dimensions::Scalar => of_size::<4, F>(alloc, accessor, get_buffer_data),
+        Dimensions::Vec2 => of_size::<8, F>(alloc, accessor, get_buffer_data),
+        Dimensions::Vec3 => of_size::<12, F>(alloc, accessor, get_buffer_data),
+        Dimensions::Vec4 | Dimensions::Mat2 => of_size::<16, F>(alloc, accessor, get_buffer_data),
+        Dimensions::Mat3 => of_size::<36, F>(alloc, accessor, get_buffer_data),
+        Dimensions::Mat4 => of_size::<64, F>(alloc, accessor, get_buffer_data),
+    }
+}
+
+/// The same of items of N bytes.
+fn of_size<'s, const N: usize, F: Fn(Buffer) -> Option<&'s [u8]>>(
+    alloc: Global,
+    accessor: Accessor,
+    get_buffer_data: &F,
+) -> Result<Option<Vec<u8>>, AllocError>
+    requires callable { F.IsAlwaysCallable get_buffer_data.now }
+    requires small { N ≤ 64 }
+    ensures { let a = accessor_handle accessor.entry in
+        IfOk result (λ flat. IsFlat (λ b o. F.post get_buffer_data.now b o) N
+        a.document a.json (option_map (λ bytes. bytes.items) flat)) }
+{
+    match Iter::<ItemBytes<N>>::new(accessor, get_buffer_data) {
+        Some(items) => Ok(Some(all_bytes(alloc, items)?)),
+        None => Ok(None),
+    }
+}
+
+/// The bytes of all items that are left.
+fn all_bytes<const N: usize>(
+    alloc: Global,
+    mut items: Iter<'_, ItemBytes<N>>,
+) -> Result<Vec<u8>, AllocError>
+    requires small { N ≤ 64 }
+    ensures { IfOk result (λ bytes. bytes.items ≡ concat (counted_items items.entry).items) }
+{
+    let mut bytes = Vec::new(alloc);
+    'items: while let Some(item) = items.next() {
+        bytes.extend_from_slice(&item.bytes)?;
+    }
+    Ok(bytes)
+}
