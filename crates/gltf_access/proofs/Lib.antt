@@ -1,0 +1,5 @@
+mod Raw
+mod Why
+mod Explained
+mod Members
+mod Flat
