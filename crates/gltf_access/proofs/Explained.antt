@@ -82,7 +82,7 @@ module _ {Gives : Results} {r : Root} {a : Accessor} {why : Option NotRead}
 
   no_row : {E : Type 0} (result : Option E) → IsOfType a why → result ≡ None
       → NoneIff why (is_some result ≡ true)
-  no_row result type none = nothing_read why _ result type.2.2.2.2 none
+  no_row result type none = nothing_read why _ result type.4 none
 
   pub indices_read : (type : Option DataType) (result : Option ReadIndices)
       → IsWhy Gives r a (index_row type) why → AreIndicesOf (IsRead Gives r a) type result

@@ -1,5 +1,6 @@
-mod Raw
-mod Why
+mod Cut
+mod Views
+mod Sizes
+mod Tried
 mod Explained
 mod Members
-mod Flat

@@ -1,6 +1,7 @@
 -- The bytes of all items of an accessor, one item after the other (glTF 2.0, section 3.6.2,
 -- "Accessors").
 use Rattle.std.specs.Prelude.{◌≡◌, ℕ, zero, suc, ◌<◌, List, take, replicate, Option, option_map}
+use Rattle.std.specs.Prelude.{Result, IfOk}
 use Rattle.std.specs.List.{concat}
 use Rattle.std.proofs.Common.{arith, refl}
 use Rattle.std.proofs.lemmas.List.{take-take}
@@ -35,3 +36,8 @@ pub record IsFlat (Gives : Results) (n : ℕ) (r : Root) (a : Accessor)
   pub reads : Reads Gives (as_bytes n) r a items
   pub alike : ReadsAlike Gives (as_bytes n) r a items
   pub flat : result ≡ option_map concat items
+
+-- so they are, where memory sufficed
+pub record Flattens {V E : Type 0} (items : V → List ℕ) (Gives : Results) (n : ℕ) (r : Root)
+    (a : Accessor) (result : Result (Option V) E) : Type 0 where
+  pub ok : IfOk result (λ flat. IsFlat Gives n r a (option_map items flat))

@@ -57,6 +57,11 @@ abbrev pub IsWhy : Results → Root → Accessor → Option ℕ → Option NotRe
 IsWhy Gives r a None why = IsOfType a why
 IsWhy Gives r a (Some size) why = IsTried Gives size r a why
 
+-- by the rows of a reader, where there is one
+abbrev pub IsWhyRow : Option Rows → Results → Root → Accessor → Option NotRead → Type 0
+IsWhyRow None Gives r a why = why ≡ Some reason.NoReader
+IsWhyRow (Some rows) Gives r a why = IsWhy Gives r a (rows a) why
+
 -- ---- of a member that names an accessor
 
 abbrev pub IsWhyMember : Rows → Results → Root → Option ℕ → Option NotRead → Type 0

@@ -1,14 +1,15 @@
 //! The bytes of all items of an accessor, one item after the other.
 
 ghost use Rattle.std.specs.Prelude.{◌≡◌, ◌*◌, ◌≤◌, IfOk, option_map};
+ghost use Rattle.std.specs.Iterator.{YieldsFirst};
 ghost use Rattle.std.specs.List.{concat};
 ghost use Rattle.gltf_data.specs.Iter.{counted_items};
 ghost use Rattle.gltf_handles.specs.Accessors.{accessor_handle};
 ghost use Rattle.gltf_handles.specs.Sizes.{component_size, item_size, multiplicity};
-ghost use Rattle.gltf_access.specs.Flat.{IsFlat};
+ghost use Rattle.gltf_access.specs.Flat.{IsFlat, Flattens};
 
 use crate::item::ItemBytes;
-use gltf_data::accessor::{Accessor, DataType, Dimensions, Iter};
+use gltf_data::accessor::{Accessor, DataType, Dimensions, Item, Iter};
 use gltf_data::buffer::Buffer;
 use std::alloc::{AllocError, Global};
 
@@ -30,8 +31,29 @@ pub fn to_bytes<'s, F: Fn(Buffer) -> Option<&'s [u8]>>(
         IfOk result (λ flat. IsFlat (λ b o. F.post get_buffer_data.now b o) (item_size a.json)
         a.document a.json (option_map (λ bytes. bytes.items) flat)) }
 {
-    let shape = accessor.dimensions();
-    match accessor.data_type() {
+    of_type(
+        alloc,
+        accessor.data_type(),
+        accessor.dimensions(),
+        accessor,
+        get_buffer_data,
+    )
+}
+
+/// The same where an item is made of such components in such a shape.
+fn of_type<'s, F: Fn(Buffer) -> Option<&'s [u8]>>(
+    alloc: Global,
+    component: DataType,
+    shape: Dimensions,
+    accessor: Accessor,
+    get_buffer_data: &F,
+) -> Result<Option<Vec<u8>>, AllocError>
+    requires { F.IsAlwaysCallable get_buffer_data.now }
+    ensures { let a = accessor_handle accessor.entry in
+        Flattens (λ bytes. bytes.items) (λ b o. F.post get_buffer_data.now b o)
+        (component_size component * multiplicity shape) a.document a.json result }
+{
+    match component {
         DataType::I8 | DataType::U8 => of_bytes(alloc, shape, accessor, get_buffer_data),
         DataType::I16 | DataType::U16 => of_halves(alloc, shape, accessor, get_buffer_data),
         DataType::U32 | DataType::F32 => of_words(alloc, shape, accessor, get_buffer_data),
@@ -47,8 +69,8 @@ fn of_bytes<'s, F: Fn(Buffer) -> Option<&'s [u8]>>(
 ) -> Result<Option<Vec<u8>>, AllocError>
     requires { F.IsAlwaysCallable get_buffer_data.now }
     ensures { let a = accessor_handle accessor.entry in
-        IfOk result (λ flat. IsFlat (λ b o. F.post get_buffer_data.now b o) (1 * multiplicity shape)
-        a.document a.json (option_map (λ bytes. bytes.items) flat)) }
+        Flattens (λ bytes. bytes.items) (λ b o. F.post get_buffer_data.now b o)
+        (1 * multiplicity shape) a.document a.json result }
 {
     match shape {
         Dimensions::Scalar => of_size::<1, F>(alloc, accessor, get_buffer_data),
@@ -69,8 +91,8 @@ fn of_halves<'s, F: Fn(Buffer) -> Option<&'s [u8]>>(
 ) -> Result<Option<Vec<u8>>, AllocError>
     requires { F.IsAlwaysCallable get_buffer_data.now }
     ensures { let a = accessor_handle accessor.entry in
-        IfOk result (λ flat. IsFlat (λ b o. F.post get_buffer_data.now b o) (2 * multiplicity shape)
-        a.document a.json (option_map (λ bytes. bytes.items) flat)) }
+        Flattens (λ bytes. bytes.items) (λ b o. F.post get_buffer_data.now b o)
+        (2 * multiplicity shape) a.document a.json result }
 {
     match shape {
         Dimensions::Scalar => of_size::<2, F>(alloc, accessor, get_buffer_data),
@@ -91,8 +113,8 @@ fn of_words<'s, F: Fn(Buffer) -> Option<&'s [u8]>>(
 ) -> Result<Option<Vec<u8>>, AllocError>
     requires { F.IsAlwaysCallable get_buffer_data.now }
     ensures { let a = accessor_handle accessor.entry in
-        IfOk result (λ flat. IsFlat (λ b o. F.post get_buffer_data.now b o) (4 * multiplicity shape)
-        a.document a.json (option_map (λ bytes. bytes.items) flat)) }
+        Flattens (λ bytes. bytes.items) (λ b o. F.post get_buffer_data.now b o)
+        (4 * multiplicity shape) a.document a.json result }
 {
     match shape {
         Dimensions::Scalar => of_size::<4, F>(alloc, accessor, get_buffer_data),
@@ -113,6 +135,21 @@ fn of_size<'s, const N: usize, F: Fn(Buffer) -> Option<&'s [u8]>>(
     requires callable { F.IsAlwaysCallable get_buffer_data.now }
     requires small { N ≤ 64 }
     ensures { let a = accessor_handle accessor.entry in
+        Flattens (λ bytes. bytes.items) (λ b o. F.post get_buffer_data.now b o) N
+        a.document a.json result }
+{
+    read_of_size::<N, F>(alloc, accessor, get_buffer_data)
+}
+
+/// The items, read as their bytes.
+fn read_of_size<'s, const N: usize, F: Fn(Buffer) -> Option<&'s [u8]>>(
+    alloc: Global,
+    accessor: Accessor,
+    get_buffer_data: &F,
+) -> Result<Option<Vec<u8>>, AllocError>
+    requires callable { F.IsAlwaysCallable get_buffer_data.now }
+    requires small { N ≤ 64 }
+    ensures { let a = accessor_handle accessor.entry in
         IfOk result (λ flat. IsFlat (λ b o. F.post get_buffer_data.now b o) N
         a.document a.json (option_map (λ bytes. bytes.items) flat)) }
 {
@@ -120,6 +157,13 @@ fn of_size<'s, const N: usize, F: Fn(Buffer) -> Option<&'s [u8]>>(
         Some(items) => Ok(Some(all_bytes(alloc, items)?)),
         None => Ok(None),
     }
+}
+
+/// The next item.
+fn take<T: Item>(items: &mut Iter<'_, T>) -> Option<T>
+    ensures { YieldsFirst (λ s. (counted_items s).items) items.old result items.new }
+{
+    items.next()
 }
 
 /// The bytes of all items that are left.
@@ -131,7 +175,7 @@ fn all_bytes<const N: usize>(
     ensures { IfOk result (λ bytes. bytes.items ≡ concat (counted_items items.entry).items) }
 {
     let mut bytes = Vec::new(alloc);
-    'items: while let Some(item) = items.next() {
+    'items: while let Some(item) = take(&mut items) {
         bytes.extend_from_slice(&item.bytes)?;
     }
     Ok(bytes)

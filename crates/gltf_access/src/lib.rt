@@ -5,6 +5,7 @@
 pub mod animation;
 mod flat;
 mod item;
+pub mod laws;
 pub mod mesh;
 mod not_read;
 mod raw;
@@ -13,4 +14,4 @@ mod why;
 
 pub use flat::to_bytes;
 pub use not_read::NotRead;
-pub use raw::{Bytes, RawBytes};
+pub use raw::{Bytes, accessor_bytes, image_bytes, view_bytes};

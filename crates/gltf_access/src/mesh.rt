@@ -30,23 +30,23 @@ pub fn why_not_read<'s, F: Fn(Buffer) -> Option<&'s [u8]>>(
         semantic.now (λ b o. F.post get_buffer_data.now b o) p.document
         (attribute p semantic.now) result }
 {
-    let Some(accessor) = primitive.get(semantic) else {
-        return Some(NotRead::Absent);
-    };
-    match semantic {
-        Semantic::Extras(_) => Some(NotRead::NoReader),
-        Semantic::Positions | Semantic::Normals => {
-            why::items::<[F32; 3], F>(accessor, get_buffer_data)
-        }
-        Semantic::Tangents => why::items::<[F32; 4], F>(accessor, get_buffer_data),
-        Semantic::Colors(_) => why::colors(accessor, get_buffer_data),
-        Semantic::TexCoords(_) => {
-            why::fractions::<[u8; 2], [u16; 2], [F32; 2], F>(accessor, get_buffer_data)
-        }
-        Semantic::Joints(_) => why::joints(accessor, get_buffer_data),
-        Semantic::Weights(_) => {
-            why::fractions::<[u8; 4], [u16; 4], [F32; 4], F>(accessor, get_buffer_data)
-        }
+    attribute_reason(primitive, semantic, get_buffer_data)
+}
+
+/// The same, by the rows of the reader's table.
+fn attribute_reason<'s, F: Fn(Buffer) -> Option<&'s [u8]>>(
+    primitive: &Primitive,
+    semantic: &Semantic,
+    get_buffer_data: &F,
+) -> Option<NotRead>
+    requires { F.IsAlwaysCallable get_buffer_data.now }
+    ensures { let p = primitive_handle primitive.now in
+        IsWhyAttribute (attribute_rows semantic.now) (λ b o. F.post get_buffer_data.now b o)
+        p.document (attribute p semantic.now) result }
+{
+    match primitive.get(semantic) {
+        Some(accessor) => why::attribute(accessor, semantic, get_buffer_data),
+        None => Some(NotRead::Absent),
     }
 }
 

@@ -5,14 +5,15 @@ ghost use Rattle.std.specs.Prelude.{◌≡◌, Some};
 ghost use Rattle.gltf_handles.specs.Accessors.{accessor_handle};
 ghost use Rattle.gltf_read.specs.Reading.{type_of};
 ghost use Rattle.gltf_access.specs.Rows.{index_row, joint_row, fraction_row, signed_row, color_row};
-ghost use Rattle.gltf_access.specs.Rows.{output_row, colors_of};
-ghost use Rattle.gltf_access.specs.Why.{IsTried, IsOfType, IsWhy};
+ghost use Rattle.gltf_access.specs.Rows.{output_row, colors_of, attribute_rows};
+ghost use Rattle.gltf_access.specs.Why.{IsTried, IsOfType, IsWhy, IsWhyRow};
 
 use crate::not_read::NotRead;
 use gltf_data::accessor::{Accessor, DataType, Dimensions, Iter};
 use gltf_data::buffer::Buffer;
 use gltf_items::{F32, Item};
 use gltf_json::animation::Property;
+use gltf_json::mesh::Semantic;
 
 /// Items of one type, whatever the type of components and the dimensions.
 pub(crate) fn items<'s, T: Item, F: Fn(Buffer) -> Option<&'s [u8]>>(
@@ -58,7 +59,7 @@ pub(crate) fn indices<'s, F: Fn(Buffer) -> Option<&'s [u8]>>(
 }
 
 /// Joints.
-pub(crate) fn joints<'s, F: Fn(Buffer) -> Option<&'s [u8]>>(
+fn joints<'s, F: Fn(Buffer) -> Option<&'s [u8]>>(
     accessor: Accessor,
     get_buffer_data: &F,
 ) -> Option<NotRead>
@@ -75,7 +76,7 @@ pub(crate) fn joints<'s, F: Fn(Buffer) -> Option<&'s [u8]>>(
 }
 
 /// Floats, and fractions without a sign: a type of items for each type of components.
-pub(crate) fn fractions<'s, U8: Item, U16: Item, Float: Item, F: Fn(Buffer) -> Option<&'s [u8]>>(
+fn fractions<'s, U8: Item, U16: Item, Float: Item, F: Fn(Buffer) -> Option<&'s [u8]>>(
     accessor: Accessor,
     get_buffer_data: &F,
 ) -> Option<NotRead>
@@ -118,7 +119,7 @@ fn signed<
 }
 
 /// Colours.
-pub(crate) fn colors<'s, F: Fn(Buffer) -> Option<&'s [u8]>>(
+fn colors<'s, F: Fn(Buffer) -> Option<&'s [u8]>>(
     accessor: Accessor,
     get_buffer_data: &F,
 ) -> Option<NotRead>
@@ -150,15 +151,41 @@ pub(crate) fn outputs<'s, F: Fn(Buffer) -> Option<&'s [u8]>>(
         (output_row (Some property) (type_of a.json)) result }
 {
     match property {
-        Property::Translation | Property::Scale => {
-            items::<[F32; 3], F>(accessor, get_buffer_data)
-        }
+        Property::Translation => items::<[F32; 3], F>(accessor, get_buffer_data),
+        Property::Scale => items::<[F32; 3], F>(accessor, get_buffer_data),
         Property::Rotation => signed::<[i8; 4], [u8; 4], [i16; 4], [u16; 4], [F32; 4], F>(
             accessor,
             get_buffer_data,
         ),
         Property::MorphTargetWeights => {
             signed::<i8, u8, i16, u16, F32, F>(accessor, get_buffer_data)
+        }
+    }
+}
+
+/// What an attribute holds, by its meaning.
+pub(crate) fn attribute<'s, F: Fn(Buffer) -> Option<&'s [u8]>>(
+    accessor: Accessor,
+    semantic: &Semantic,
+    get_buffer_data: &F,
+) -> Option<NotRead>
+    requires { F.IsAlwaysCallable get_buffer_data.now }
+    ensures { let a = accessor_handle accessor.entry in
+        IsWhyRow (attribute_rows semantic.now) (λ b o. F.post get_buffer_data.now b o)
+        a.document a.json result }
+{
+    match semantic {
+        Semantic::Extras(_) => Some(NotRead::NoReader),
+        Semantic::Positions => items::<[F32; 3], F>(accessor, get_buffer_data),
+        Semantic::Normals => items::<[F32; 3], F>(accessor, get_buffer_data),
+        Semantic::Tangents => items::<[F32; 4], F>(accessor, get_buffer_data),
+        Semantic::Colors(_) => colors(accessor, get_buffer_data),
+        Semantic::TexCoords(_) => {
+            fractions::<[u8; 2], [u16; 2], [F32; 2], F>(accessor, get_buffer_data)
+        }
+        Semantic::Joints(_) => joints(accessor, get_buffer_data),
+        Semantic::Weights(_) => {
+            fractions::<[u8; 4], [u16; 4], [F32; 4], F>(accessor, get_buffer_data)
         }
     }
 }

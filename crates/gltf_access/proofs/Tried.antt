@@ -10,8 +10,15 @@ use Rattle.gltf_data.specs.Answers.{Results, Tries, ReadsAlike}
 use Rattle.gltf_data.specs.Parts.{items}
 use Rattle.gltf_data.specs.Unreadable.{Condition, where_all_hold, conditions}
 use Rattle.gltf_data.specs.declared.unreadable.Unreadable.{Unreadable}
-use Rattle.gltf_access.specs.Why.{reason_of, NoneIff, IsTried}
+use Rattle.gltf_access.specs.Why.{reason_of, NoneIff, IsTried, IsOfType}
 use Rattle.gltf_access.specs.declared.not_read.NotRead.{NotRead}
+use Rattle.gltf_access.specs.declared.not_read.NotRead.TheVariants as reason
+use Rattle.gltf_handles.specs.Sizes.{Means, data_type, dimensions}
+use Rattle.gltf_handles.specs.declared.accessor.DataType.{DataType}
+use Rattle.gltf_handles.specs.declared.accessor.Dimensions.{Dimensions}
+use Rattle.gltf_json_record.specs.declared.validation.Checked.{Checked}
+use Rattle.gltf_json_record.specs.declared.validation.Checked.TheVariants.{Invalid, Valid}
+use Rattle.gltf_read.specs.Reading.{meant}
 
 -- the reason does not depend on what there would be
 reason_where : {X : Type 0} (cs : List Condition) (x : X)
@@ -46,3 +53,15 @@ tried shown t r a out why h alike is = record {
       ∙ reason_where (conditions t.size r a h.answers) (items t r a h.answers);
   exact = λ answer always. rw is (none_iff shown _ out (alike answer always));
 }
+
+-- ---- by the type of items
+
+meant_is : {C M : Type 0} (meaning : C → M) (code : Checked C) (m : M) → Means meaning code m
+    → meant meaning code ≡ Some m
+meant_is meaning Invalid m means = absurd means
+meant_is meaning (Valid c) m means = ap Some (sym means)
+
+pub of_type : (a : Accessor) (c : DataType) (d : Dimensions) → Means data_type a.component_type c
+    → Means dimensions a.type_ d → IsOfType a (Some (reason.«Type» c d))
+of_type a c d m n =
+    (c, d, meant_is data_type a.component_type c m, meant_is dimensions a.type_ d n, refl)
