@@ -42,6 +42,7 @@ use Rattle.gltf_access.specs.Rows.{index_row, joint_row, fraction_row, signed_ro
 use Rattle.gltf_access.specs.Rows.{output_row}
 use Rattle.gltf_access.specs.Why.{NoneIff, IsTried, IsOfType, IsWhy}
 use Rattle.gltf_access.specs.declared.not_read.NotRead.{NotRead}
+use Rattle.gltf_access.specs.declared.not_read.NotRead.TheVariants as reason
 
 -- one thing exactly where the other
 turned : {P Q : Type 0} (why : Option NotRead) → NoneIff why P → (P → Q) → (Q → P) → NoneIff why Q
@@ -63,7 +64,12 @@ come variant why result each h =
     elim [ None ↦ refl | Some x ↦ refl ] in
     rw (h.told, same h.read) (each h.read h.is)
 
-module _ {Gives : Results} {r : Root} {a : Accessor} {why : Option NotRead}
+-- no row, and nothing read
+no_row : {E : Type 0} (a : Accessor) (why : Option NotRead) (result : Option E)
+    → IsOfType a why → result ≡ None → NoneIff why (is_some result ≡ true)
+no_row a why result type none = nothing_read why (reason.«Type» type.0 type.1) result type.4 none
+
+module _ (Gives : Results) (r : Root) (a : Accessor) (why : Option NotRead)
     (answer : ℕ → Option (List ℕ)) (always : AlwaysAnswers Gives r answer) where
   pub items_read : {X : Type 0} {t : Ghosts X} (result : Option (Iter X t))
       → IsTried Gives t.size r a why → AreItems (IsRead Gives r a) a result
@@ -80,24 +86,20 @@ module _ {Gives : Results} {r : Root} {a : Accessor} {why : Option NotRead}
   row variant result tried h =
       come variant why result (λ read is. items_read read tried is) h
 
-  no_row : {E : Type 0} (result : Option E) → IsOfType a why → result ≡ None
-      → NoneIff why (is_some result ≡ true)
-  no_row result type none = nothing_read why _ result type.4 none
-
   pub indices_read : (type : Option DataType) (result : Option ReadIndices)
       → IsWhy Gives r a (index_row type) why → AreIndicesOf (IsRead Gives r a) type result
       → NoneIff why (is_some result ≡ true)
   indices_read (Some U8) result w h = row index_.U8 result w h
   indices_read (Some U16) result w h = row index_.U16 result w h
   indices_read (Some U32) result w h = row index_.U32 result w h
-  indices_read _ result w h = no_row result w h
+  indices_read _ result w h = no_row a why result w h
 
   pub joints_read : (type : Option DataType) (result : Option ReadJoints)
       → IsWhy Gives r a (joint_row type) why → AreJointsOf (IsRead Gives r a) type result
       → NoneIff why (is_some result ≡ true)
   joints_read (Some U8) result w h = row joint.U8 result w h
   joints_read (Some U16) result w h = row joint.U16 result w h
-  joints_read _ result w h = no_row result w h
+  joints_read _ result w h = no_row a why result w h
 
   pub tex_coords_read : (type : Option DataType) (result : Option ReadTexCoords)
       → IsWhy Gives r a (fraction_row 2 4 8 type) why
@@ -105,7 +107,7 @@ module _ {Gives : Results} {r : Root} {a : Accessor} {why : Option NotRead}
   tex_coords_read (Some U8) result w h = row tex_coord.U8 result w h
   tex_coords_read (Some U16) result w h = row tex_coord.U16 result w h
   tex_coords_read (Some F32) result w h = row tex_coord.F32 result w h
-  tex_coords_read _ result w h = no_row result w h
+  tex_coords_read _ result w h = no_row a why result w h
 
   pub weights_read : (type : Option DataType) (result : Option ReadWeights)
       → IsWhy Gives r a (fraction_row 4 8 16 type) why
@@ -113,7 +115,7 @@ module _ {Gives : Results} {r : Root} {a : Accessor} {why : Option NotRead}
   weights_read (Some U8) result w h = row joint_weight.U8 result w h
   weights_read (Some U16) result w h = row joint_weight.U16 result w h
   weights_read (Some F32) result w h = row joint_weight.F32 result w h
-  weights_read _ result w h = no_row result w h
+  weights_read _ result w h = no_row a why result w h
 
   rgb_read : (type : Option DataType) (result : Option ReadColors)
       → IsWhy Gives r a (fraction_row 3 6 12 type) why
@@ -121,7 +123,7 @@ module _ {Gives : Results} {r : Root} {a : Accessor} {why : Option NotRead}
   rgb_read (Some U8) result w h = row color.RgbU8 result w h
   rgb_read (Some U16) result w h = row color.RgbU16 result w h
   rgb_read (Some F32) result w h = row color.RgbF32 result w h
-  rgb_read _ result w h = no_row result w h
+  rgb_read _ result w h = no_row a why result w h
 
   rgba_read : (type : Option DataType) (result : Option ReadColors)
       → IsWhy Gives r a (fraction_row 4 8 16 type) why
@@ -129,7 +131,7 @@ module _ {Gives : Results} {r : Root} {a : Accessor} {why : Option NotRead}
   rgba_read (Some U8) result w h = row color.RgbaU8 result w h
   rgba_read (Some U16) result w h = row color.RgbaU16 result w h
   rgba_read (Some F32) result w h = row color.RgbaF32 result w h
-  rgba_read _ result w h = no_row result w h
+  rgba_read _ result w h = no_row a why result w h
 
   pub colors_read : (dimensions : Option Dimensions) (type : Option DataType)
       (result : Option ReadColors) → IsWhy Gives r a (color_row dimensions type) why
@@ -137,7 +139,7 @@ module _ {Gives : Results} {r : Root} {a : Accessor} {why : Option NotRead}
       → NoneIff why (is_some result ≡ true)
   colors_read (Some Vec3) type result w h = rgb_read type result w h
   colors_read (Some Vec4) type result w h = rgba_read type result w h
-  colors_read _ type result w h = no_row result w h
+  colors_read _ type result w h = no_row a why result w h
 
   rotations_read : (type : Option DataType) (result : Option Rotations)
       → IsWhy Gives r a (signed_row 4 4 8 8 16 type) why
@@ -147,7 +149,7 @@ module _ {Gives : Results} {r : Root} {a : Accessor} {why : Option NotRead}
   rotations_read (Some I16) result w h = row rotation.I16 result w h
   rotations_read (Some U16) result w h = row rotation.U16 result w h
   rotations_read (Some F32) result w h = row rotation.F32 result w h
-  rotations_read _ result w h = no_row result w h
+  rotations_read _ result w h = no_row a why result w h
 
   target_weights_read : (type : Option DataType) (result : Option MorphTargetWeights)
       → IsWhy Gives r a (signed_row 1 1 2 2 4 type) why
@@ -158,7 +160,7 @@ module _ {Gives : Results} {r : Root} {a : Accessor} {why : Option NotRead}
   target_weights_read (Some I16) result w h = row target_weight.I16 result w h
   target_weights_read (Some U16) result w h = row target_weight.U16 result w h
   target_weights_read (Some F32) result w h = row target_weight.F32 result w h
-  target_weights_read _ result w h = no_row result w h
+  target_weights_read _ result w h = no_row a why result w h
 
   pub outputs_read : (property : Option Property) (type : Option DataType)
       (result : Option ReadOutputs) → IsWhy Gives r a (output_row property type) why
@@ -170,4 +172,4 @@ module _ {Gives : Results} {r : Root} {a : Accessor} {why : Option NotRead}
   outputs_read (Some animated.Scale) type result w h = row output.Scales result w h
   outputs_read (Some animated.MorphTargetWeights) type result w h =
       come output.MorphTargetWeights why result (λ read is. target_weights_read type read w is) h
-  outputs_read None type result w h = no_row result w h
+  outputs_read None type result w h = no_row a why result w h

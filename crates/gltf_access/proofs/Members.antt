@@ -74,7 +74,7 @@ explained Are rows Gives r (Some i) why each w answer always read h =
 items_explained : {X : Type 0} {t : Ghosts X} (size : ℕ) (Gives : Results) (r : Root)
     → t.size ≡ size → ExplainedBy (AreItems {X = X} {t = t}) (items_of size) Gives r
 items_explained {X} {t} size Gives r same answer always a why read w h =
-    items_read {t = t} answer always read (subst (λ n. IsTried Gives n r a why) (sym same) w) h
+    items_read Gives r a why answer always read (subst (λ n. IsTried Gives n r a why) (sym same) w) h
 
 pub explained_items : {X : Type 0} (t : Ghosts X) (size : ℕ) (Gives : Results) (r : Root)
     (index : Option ℕ) (why : Option NotRead) → t.size ≡ size
@@ -88,7 +88,7 @@ pub explained_indices : (Gives : Results) (r : Root) (index : Option ℕ) (why :
     → IsWhyMember indices_of Gives r index why → Explains AreIndices Gives r index why
 explained_indices Gives r index why w =
     explained AreIndices indices_of Gives r index why (λ answer always a why read w h.
-    indices_read answer always (type_of a) read w h) w
+    indices_read Gives r a why answer always (type_of a) read w h) w
 
 pub explained_outputs : (property : Option Property) (Gives : Results) (r : Root)
     (index : Option ℕ) (why : Option NotRead)
@@ -96,7 +96,7 @@ pub explained_outputs : (property : Option Property) (Gives : Results) (r : Root
     → Explains (AreOutputs property) Gives r index why
 explained_outputs property Gives r index why w =
     explained (AreOutputs property) (outputs_of property) Gives r index why
-    (λ answer always a why read w h. outputs_read answer always property (type_of a) read w h) w
+    (λ answer always a why read w h. outputs_read Gives r a why answer always property (type_of a) read w h) w
 
 pub explained_attribute : {X Y : Type 0} (t : Ghosts X) (u : Ghosts Y) (s : Semantic)
     (Gives : Results) (r : Root) (index : Option ℕ) (why : Option NotRead) → t.size ≡ 12
@@ -111,16 +111,16 @@ explained_attribute t u attributes.Tangents Gives r index why three four w =
     explained_items u 16 Gives r index why four w
 explained_attribute t u (attributes.Colors set) Gives r index why three four w =
     explained AreColors colors_of Gives r index why (λ answer always a why read w h.
-    colors_read answer always (dimensions_of a) (type_of a) read w h) w
+    colors_read Gives r a why answer always (dimensions_of a) (type_of a) read w h) w
 explained_attribute t u (attributes.TexCoords set) Gives r index why three four w =
     explained AreTexCoords tex_coords_of Gives r index why (λ answer always a why read w h.
-    tex_coords_read answer always (type_of a) read w h) w
+    tex_coords_read Gives r a why answer always (type_of a) read w h) w
 explained_attribute t u (attributes.Joints set) Gives r index why three four w =
     explained AreJoints joints_of Gives r index why (λ answer always a why read w h.
-    joints_read answer always (type_of a) read w h) w
+    joints_read Gives r a why answer always (type_of a) read w h) w
 explained_attribute t u (attributes.Weights set) Gives r index why three four w =
     explained AreWeights weights_of Gives r index why (λ answer always a why read w h.
-    weights_read answer always (type_of a) read w h) w
+    weights_read Gives r a why answer always (type_of a) read w h) w
 
 -- an attribute of an accessor
 pub of_attribute : (rows : Option Rows) (Gives : Results) (r : Root) (index : Option ℕ)

@@ -6,8 +6,8 @@ use Rattle.std.proofs.lemmas.Bool.{cases_Bool}
 use Rattle.gltf_json.specs.declared.root.Root.{Root}
 use Rattle.gltf_json_geometry.specs.declared.accessor.Accessor.{Accessor}
 use Rattle.gltf_items.specs.declared.item.Item.{Ghosts}
-use Rattle.gltf_data.specs.Answers.{Results, Tries, ReadsAlike}
-use Rattle.gltf_data.specs.Parts.{items}
+use Rattle.gltf_data.specs.Answers.{Results, Tries, ReadsAlike, answers_by}
+use Rattle.gltf_data.specs.Parts.{items, Readable}
 use Rattle.gltf_data.specs.Unreadable.{Condition, where_all_hold, conditions}
 use Rattle.gltf_data.specs.declared.unreadable.Unreadable.{Unreadable}
 use Rattle.gltf_access.specs.Why.{reason_of, NoneIff, IsTried, IsOfType}
@@ -21,12 +21,12 @@ use Rattle.gltf_json_record.specs.declared.validation.Checked.TheVariants.{Inval
 use Rattle.gltf_read.specs.Reading.{meant}
 
 -- the reason does not depend on what there would be
-reason_where : {X : Type 0} (cs : List Condition) (x : X)
-    → reason_of (where_all_hold cs x) ≡ reason_of (where_all_hold cs tt)
-reason_where [] x = refl
-reason_where (c ∷ cs) x =
+reason_where : {X Y : Type 0} (cs : List Condition) (x : X) (y : Y)
+    → reason_of (where_all_hold cs x) ≡ reason_of (where_all_hold cs y)
+reason_where [] x y = refl
+reason_where (c ∷ cs) x y =
     elim (cases_Bool c.0) [
-      | inl holds ↦ rw holds (reason_where cs x)
+      | inl holds ↦ rw holds (reason_where cs x y)
       | inr fails ↦ rw fails refl
     ]
 
@@ -35,10 +35,10 @@ reason_shown : {X I : Type 0} (shown : I → X) (out : Result I Unreadable)
 reason_shown shown (Ok it) = refl
 reason_shown shown (Err e) = refl
 
-none_iff : {X I P : Type 0} (shown : I → X) (x : X) (out : Result I Unreadable)
+none_iff : {X I : Type 0} (P : Type 0) (shown : I → X) (x : X) (out : Result I Unreadable)
     → SomeIff (option_map shown (result_ok out)) P x → NoneIff (reason_of out) P
-none_iff shown x (Ok it) h = h.0
-none_iff shown x (Err e) h = h
+none_iff P shown x (Ok it) h = h.0
+none_iff P shown x (Err e) h = h
 
 pub tried : {X I : Type 0} {Gives : Results} (shown : I → List X) (t : Ghosts X) (r : Root)
     (a : Accessor) (out : Result I Unreadable) (why : Option NotRead)
@@ -50,8 +50,10 @@ tried shown t r a out why h alike is = record {
   asked = h.asked;
   outcome =
       is ∙ sym (reason_shown shown out) ∙ ap reason_of h.outcome
-      ∙ reason_where (conditions t.size r a h.answers) (items t r a h.answers);
-  exact = λ answer always. rw is (none_iff shown _ out (alike answer always));
+      ∙ reason_where (conditions t.size r a h.answers) (items t r a h.answers) a;
+  exact = λ answer always.
+      rw is (none_iff (Readable t.size r a (answers_by answer t.size r a)) shown
+      (items t r a (answers_by answer t.size r a)) out (alike answer always));
 }
 
 -- ---- by the type of items

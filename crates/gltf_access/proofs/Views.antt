@@ -4,8 +4,11 @@ use Rattle.std.specs.Prelude.{Option, Some, None, unwrap_or, option_and_then, is
 use Rattle.gltf_json.specs.declared.root.Root.{Root}
 use Rattle.gltf_json_geometry.specs.declared.accessor.Accessor.{Accessor}
 use Rattle.gltf_json_geometry.specs.declared.buffer.View.{View}
+use Rattle.gltf_json_geometry.specs.declared.accessor.sparse.Sparse.{Sparse as SparseRecord}
 use Rattle.gltf_json_scene.specs.declared.image.Image.{Image}
 use Rattle.gltf_rules.specs.contracts.records.ValidRecords.TheImpl as valid
+use Rattle.gltf_handles.specs.Accessors.{IsSparse}
+use Rattle.gltf_handles.specs.declared.accessor.sparse.Sparse.{Sparse}
 use Rattle.gltf_handles.specs.Buffers.{IsView, view_handle}
 use Rattle.gltf_handles.specs.Members.{Follows}
 use Rattle.gltf_handles.specs.Sizes.{item_size}
@@ -33,12 +36,12 @@ lent v IsBy answer answered is_by = record {
   alike = λ always alike. subst IsBy (same_answer v answer always alike answered) is_by;
 }
 
--- a member of which nothing is given is absent
-pub absent : {M H : Type 0} {is : M → H → Type 0} (o : Option M) (given : Option H)
-    → Follows is o given → is_some given ≡ false → o ≡ None
-absent None given follows none = refl
-absent (Some m) None follows none = absurd follows
-absent (Some m) (Some h) follows none = absurd (cc none)
+-- a sparse part of which nothing is given is absent
+pub absent : (r : Root) (o : Option SparseRecord) (given : Option (Sparse Root valid.ghosts))
+    → Follows (IsSparse r) o given → is_some given ≡ false → o ≡ None
+absent r None given follows none = refl
+absent r (Some m) None follows none = absurd follows
+absent r (Some m) (Some h) follows none = absurd (cc none)
 
 -- the view at an index is that of the handle
 view_is : (r : Root) (o : Option ℕ) (v : ViewHandle Root valid.ghosts)

@@ -42,7 +42,7 @@ pub record IsTried (Gives : Results) (size : ℕ) (r : Root) (a : Accessor)
     (why : Option NotRead) : Type 0 where
   pub answers : Answers
   pub asked : IsAsked Gives size r a answers
-  pub outcome : why ≡ reason_of (where_all_hold (conditions size r a answers) tt)
+  pub outcome : why ≡ reason_of (where_all_hold (conditions size r a answers) a)
   pub exact : (answer : ℕ → Option (List ℕ)) → AlwaysAnswers Gives r answer
       → NoneIff why (Readable size r a (answers_by answer size r a))
 

@@ -54,9 +54,12 @@ fn of_type<'s, F: Fn(Buffer) -> Option<&'s [u8]>>(
         (component_size component * multiplicity shape) a.document a.json result }
 {
     match component {
-        DataType::I8 | DataType::U8 => of_bytes(alloc, shape, accessor, get_buffer_data),
-        DataType::I16 | DataType::U16 => of_halves(alloc, shape, accessor, get_buffer_data),
-        DataType::U32 | DataType::F32 => of_words(alloc, shape, accessor, get_buffer_data),
+        DataType::I8 => of_bytes(alloc, shape, accessor, get_buffer_data),
+        DataType::U8 => of_bytes(alloc, shape, accessor, get_buffer_data),
+        DataType::I16 => of_halves(alloc, shape, accessor, get_buffer_data),
+        DataType::U16 => of_halves(alloc, shape, accessor, get_buffer_data),
+        DataType::U32 => of_words(alloc, shape, accessor, get_buffer_data),
+        DataType::F32 => of_words(alloc, shape, accessor, get_buffer_data),
     }
 }
 
@@ -76,7 +79,8 @@ fn of_bytes<'s, F: Fn(Buffer) -> Option<&'s [u8]>>(
         Dimensions::Scalar => of_size::<1, F>(alloc, accessor, get_buffer_data),
         Dimensions::Vec2 => of_size::<2, F>(alloc, accessor, get_buffer_data),
         Dimensions::Vec3 => of_size::<3, F>(alloc, accessor, get_buffer_data),
-        Dimensions::Vec4 | Dimensions::Mat2 => of_size::<4, F>(alloc, accessor, get_buffer_data),
+        Dimensions::Vec4 => of_size::<4, F>(alloc, accessor, get_buffer_data),
+        Dimensions::Mat2 => of_size::<4, F>(alloc, accessor, get_buffer_data),
         Dimensions::Mat3 => of_size::<9, F>(alloc, accessor, get_buffer_data),
         Dimensions::Mat4 => of_size::<16, F>(alloc, accessor, get_buffer_data),
     }
@@ -98,7 +102,8 @@ fn of_halves<'s, F: Fn(Buffer) -> Option<&'s [u8]>>(
         Dimensions::Scalar => of_size::<2, F>(alloc, accessor, get_buffer_data),
         Dimensions::Vec2 => of_size::<4, F>(alloc, accessor, get_buffer_data),
         Dimensions::Vec3 => of_size::<6, F>(alloc, accessor, get_buffer_data),
-        Dimensions::Vec4 | Dimensions::Mat2 => of_size::<8, F>(alloc, accessor, get_buffer_data),
+        Dimensions::Vec4 => of_size::<8, F>(alloc, accessor, get_buffer_data),
+        Dimensions::Mat2 => of_size::<8, F>(alloc, accessor, get_buffer_data),
         Dimensions::Mat3 => of_size::<18, F>(alloc, accessor, get_buffer_data),
         Dimensions::Mat4 => of_size::<32, F>(alloc, accessor, get_buffer_data),
     }
@@ -120,7 +125,8 @@ fn of_words<'s, F: Fn(Buffer) -> Option<&'s [u8]>>(
         Dimensions::Scalar => of_size::<4, F>(alloc, accessor, get_buffer_data),
         Dimensions::Vec2 => of_size::<8, F>(alloc, accessor, get_buffer_data),
         Dimensions::Vec3 => of_size::<12, F>(alloc, accessor, get_buffer_data),
-        Dimensions::Vec4 | Dimensions::Mat2 => of_size::<16, F>(alloc, accessor, get_buffer_data),
+        Dimensions::Vec4 => of_size::<16, F>(alloc, accessor, get_buffer_data),
+        Dimensions::Mat2 => of_size::<16, F>(alloc, accessor, get_buffer_data),
         Dimensions::Mat3 => of_size::<36, F>(alloc, accessor, get_buffer_data),
         Dimensions::Mat4 => of_size::<64, F>(alloc, accessor, get_buffer_data),
     }
@@ -128,21 +134,6 @@ fn of_words<'s, F: Fn(Buffer) -> Option<&'s [u8]>>(
 
 /// The same of items of N bytes.
 fn of_size<'s, const N: usize, F: Fn(Buffer) -> Option<&'s [u8]>>(
-    alloc: Global,
-    accessor: Accessor,
-    get_buffer_data: &F,
-) -> Result<Option<Vec<u8>>, AllocError>
-    requires callable { F.IsAlwaysCallable get_buffer_data.now }
-    requires small { N ≤ 64 }
-    ensures { let a = accessor_handle accessor.entry in
-        Flattens (λ bytes. bytes.items) (λ b o. F.post get_buffer_data.now b o) N
-        a.document a.json result }
-{
-    read_of_size::<N, F>(alloc, accessor, get_buffer_data)
-}
-
-/// The items, read as their bytes.
-fn read_of_size<'s, const N: usize, F: Fn(Buffer) -> Option<&'s [u8]>>(
     alloc: Global,
     accessor: Accessor,
     get_buffer_data: &F,

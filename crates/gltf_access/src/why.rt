@@ -6,10 +6,10 @@ ghost use Rattle.gltf_handles.specs.Accessors.{accessor_handle};
 ghost use Rattle.gltf_read.specs.Reading.{type_of};
 ghost use Rattle.gltf_access.specs.Rows.{index_row, joint_row, fraction_row, signed_row, color_row};
 ghost use Rattle.gltf_access.specs.Rows.{output_row, colors_of, attribute_rows};
-ghost use Rattle.gltf_access.specs.Why.{IsTried, IsOfType, IsWhy, IsWhyRow};
+ghost use Rattle.gltf_access.specs.Why.{IsTried, IsOfType, IsWhy, IsWhyRow, reason_of};
 
 use crate::not_read::NotRead;
-use gltf_data::accessor::{Accessor, DataType, Dimensions, Iter};
+use gltf_data::accessor::{Accessor, DataType, Dimensions, Iter, Unreadable};
 use gltf_data::buffer::Buffer;
 use gltf_items::{F32, Item};
 use gltf_json::animation::Property;
@@ -24,9 +24,16 @@ pub(crate) fn items<'s, T: Item, F: Fn(Buffer) -> Option<&'s [u8]>>(
     ensures { let a = accessor_handle accessor.entry in
         IsTried (λ b o. F.post get_buffer_data.now b o) T.size a.document a.json result }
 {
-    match Iter::<T>::try_new(accessor, get_buffer_data) {
+    reason(&Iter::<T>::try_new(accessor, get_buffer_data))
+}
+
+/// Why items are not there.
+fn reason<T: Item>(tried: &Result<Iter<'_, T>, Unreadable>) -> Option<NotRead>
+    ensures { result ≡ reason_of tried.now }
+{
+    match tried {
         Ok(_) => None,
-        Err(reason) => Some(NotRead::Unreadable(reason)),
+        Err(reason) => Some(NotRead::Unreadable(*reason)),
     }
 }
 

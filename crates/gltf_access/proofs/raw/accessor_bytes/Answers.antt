@@ -6,7 +6,7 @@ returns g c =
     let a = c.args.accessor.inner in
     accessor_lent a.document.now a.json.now c.in_ok-view.field-0 c.offset.result c.count.result
     c.size.result _
-    (absent a.json.now.sparse c.sparse.result c.sparse.ensures
+    (absent a.document.now a.json.now.sparse c.sparse.result c.sparse.ensures
     (cc (c.is_some.ensures, c.if-is_some.false)))
     c.in_ok-view.ensures c.offset.ensures c.count.ensures c.size.ensures.gives
     c.part_bytes.ensures
