@@ -76,13 +76,13 @@ fn of_bytes<'s, F: Fn(Buffer) -> Option<&'s [u8]>>(
         (1 * multiplicity shape) a.document a.json result }
 {
     match shape {
-        Dimensions::Scalar => of_size::<1, F>(alloc, accessor, get_buffer_data),
-        Dimensions::Vec2 => of_size::<2, F>(alloc, accessor, get_buffer_data),
-        Dimensions::Vec3 => of_size::<3, F>(alloc, accessor, get_buffer_data),
-        Dimensions::Vec4 => of_size::<4, F>(alloc, accessor, get_buffer_data),
-        Dimensions::Mat2 => of_size::<4, F>(alloc, accessor, get_buffer_data),
-        Dimensions::Mat3 => of_size::<9, F>(alloc, accessor, get_buffer_data),
-        Dimensions::Mat4 => of_size::<16, F>(alloc, accessor, get_buffer_data),
+        Dimensions::Scalar => of_size::<F, 1>(alloc, accessor, get_buffer_data),
+        Dimensions::Vec2 => of_size::<F, 2>(alloc, accessor, get_buffer_data),
+        Dimensions::Vec3 => of_size::<F, 3>(alloc, accessor, get_buffer_data),
+        Dimensions::Vec4 => of_size::<F, 4>(alloc, accessor, get_buffer_data),
+        Dimensions::Mat2 => of_size::<F, 4>(alloc, accessor, get_buffer_data),
+        Dimensions::Mat3 => of_size::<F, 9>(alloc, accessor, get_buffer_data),
+        Dimensions::Mat4 => of_size::<F, 16>(alloc, accessor, get_buffer_data),
     }
 }
 
@@ -99,13 +99,13 @@ fn of_halves<'s, F: Fn(Buffer) -> Option<&'s [u8]>>(
         (2 * multiplicity shape) a.document a.json result }
 {
     match shape {
-        Dimensions::Scalar => of_size::<2, F>(alloc, accessor, get_buffer_data),
-        Dimensions::Vec2 => of_size::<4, F>(alloc, accessor, get_buffer_data),
-        Dimensions::Vec3 => of_size::<6, F>(alloc, accessor, get_buffer_data),
-        Dimensions::Vec4 => of_size::<8, F>(alloc, accessor, get_buffer_data),
-        Dimensions::Mat2 => of_size::<8, F>(alloc, accessor, get_buffer_data),
-        Dimensions::Mat3 => of_size::<18, F>(alloc, accessor, get_buffer_data),
-        Dimensions::Mat4 => of_size::<32, F>(alloc, accessor, get_buffer_data),
+        Dimensions::Scalar => of_size::<F, 2>(alloc, accessor, get_buffer_data),
+        Dimensions::Vec2 => of_size::<F, 4>(alloc, accessor, get_buffer_data),
+        Dimensions::Vec3 => of_size::<F, 6>(alloc, accessor, get_buffer_data),
+        Dimensions::Vec4 => of_size::<F, 8>(alloc, accessor, get_buffer_data),
+        Dimensions::Mat2 => of_size::<F, 8>(alloc, accessor, get_buffer_data),
+        Dimensions::Mat3 => of_size::<F, 18>(alloc, accessor, get_buffer_data),
+        Dimensions::Mat4 => of_size::<F, 32>(alloc, accessor, get_buffer_data),
     }
 }
 
@@ -122,18 +122,18 @@ fn of_words<'s, F: Fn(Buffer) -> Option<&'s [u8]>>(
         (4 * multiplicity shape) a.document a.json result }
 {
     match shape {
-        Dimensions::Scalar => of_size::<4, F>(alloc, accessor, get_buffer_data),
-        Dimensions::Vec2 => of_size::<8, F>(alloc, accessor, get_buffer_data),
-        Dimensions::Vec3 => of_size::<12, F>(alloc, accessor, get_buffer_data),
-        Dimensions::Vec4 => of_size::<16, F>(alloc, accessor, get_buffer_data),
-        Dimensions::Mat2 => of_size::<16, F>(alloc, accessor, get_buffer_data),
-        Dimensions::Mat3 => of_size::<36, F>(alloc, accessor, get_buffer_data),
-        Dimensions::Mat4 => of_size::<64, F>(alloc, accessor, get_buffer_data),
+        Dimensions::Scalar => of_size::<F, 4>(alloc, accessor, get_buffer_data),
+        Dimensions::Vec2 => of_size::<F, 8>(alloc, accessor, get_buffer_data),
+        Dimensions::Vec3 => of_size::<F, 12>(alloc, accessor, get_buffer_data),
+        Dimensions::Vec4 => of_size::<F, 16>(alloc, accessor, get_buffer_data),
+        Dimensions::Mat2 => of_size::<F, 16>(alloc, accessor, get_buffer_data),
+        Dimensions::Mat3 => of_size::<F, 36>(alloc, accessor, get_buffer_data),
+        Dimensions::Mat4 => of_size::<F, 64>(alloc, accessor, get_buffer_data),
     }
 }
 
 /// The same of items of N bytes.
-fn of_size<'s, const N: usize, F: Fn(Buffer) -> Option<&'s [u8]>>(
+fn of_size<'s, F: Fn(Buffer) -> Option<&'s [u8]>, const N: usize>(
     alloc: Global,
     accessor: Accessor,
     get_buffer_data: &F,
