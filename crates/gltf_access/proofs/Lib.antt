@@ -4,3 +4,4 @@ mod Sizes
 mod Tried
 mod Explained
 mod Members
+mod Joined

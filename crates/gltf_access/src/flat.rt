@@ -3,6 +3,7 @@
 ghost use Rattle.std.specs.Prelude.{◌≡◌, ◌*◌, ◌≤◌, IfOk, option_map};
 ghost use Rattle.std.specs.Iterator.{YieldsFirst};
 ghost use Rattle.std.specs.List.{concat};
+ghost use Rattle.gltf_data.specs.Answers.{Reads, ReadsAlike};
 ghost use Rattle.gltf_data.specs.Iter.{counted_items};
 ghost use Rattle.gltf_handles.specs.Accessors.{accessor_handle};
 ghost use Rattle.gltf_handles.specs.Sizes.{component_size, item_size, multiplicity};
@@ -76,13 +77,19 @@ fn of_bytes<'s, F: Fn(Buffer) -> Option<&'s [u8]>>(
         (1 * multiplicity shape) a.document a.json result }
 {
     match shape {
-        Dimensions::Scalar => of_size::<F, 1>(alloc, accessor, get_buffer_data),
-        Dimensions::Vec2 => of_size::<F, 2>(alloc, accessor, get_buffer_data),
-        Dimensions::Vec3 => of_size::<F, 3>(alloc, accessor, get_buffer_data),
-        Dimensions::Vec4 => of_size::<F, 4>(alloc, accessor, get_buffer_data),
-        Dimensions::Mat2 => of_size::<F, 4>(alloc, accessor, get_buffer_data),
-        Dimensions::Mat3 => of_size::<F, 9>(alloc, accessor, get_buffer_data),
-        Dimensions::Mat4 => of_size::<F, 16>(alloc, accessor, get_buffer_data),
+        Dimensions::Scalar => joined::<1>(
+            alloc,
+            read::<ItemBytes<1>, F>(accessor, get_buffer_data),
+        ),
+        Dimensions::Vec2 => joined::<2>(alloc, read::<ItemBytes<2>, F>(accessor, get_buffer_data)),
+        Dimensions::Vec3 => joined::<3>(alloc, read::<ItemBytes<3>, F>(accessor, get_buffer_data)),
+        Dimensions::Vec4 => joined::<4>(alloc, read::<ItemBytes<4>, F>(accessor, get_buffer_data)),
+        Dimensions::Mat2 => joined::<4>(alloc, read::<ItemBytes<4>, F>(accessor, get_buffer_data)),
+        Dimensions::Mat3 => joined::<9>(alloc, read::<ItemBytes<9>, F>(accessor, get_buffer_data)),
+        Dimensions::Mat4 => joined::<16>(
+            alloc,
+            read::<ItemBytes<16>, F>(accessor, get_buffer_data),
+        ),
     }
 }
 
@@ -99,13 +106,22 @@ fn of_halves<'s, F: Fn(Buffer) -> Option<&'s [u8]>>(
         (2 * multiplicity shape) a.document a.json result }
 {
     match shape {
-        Dimensions::Scalar => of_size::<F, 2>(alloc, accessor, get_buffer_data),
-        Dimensions::Vec2 => of_size::<F, 4>(alloc, accessor, get_buffer_data),
-        Dimensions::Vec3 => of_size::<F, 6>(alloc, accessor, get_buffer_data),
-        Dimensions::Vec4 => of_size::<F, 8>(alloc, accessor, get_buffer_data),
-        Dimensions::Mat2 => of_size::<F, 8>(alloc, accessor, get_buffer_data),
-        Dimensions::Mat3 => of_size::<F, 18>(alloc, accessor, get_buffer_data),
-        Dimensions::Mat4 => of_size::<F, 32>(alloc, accessor, get_buffer_data),
+        Dimensions::Scalar => joined::<2>(
+            alloc,
+            read::<ItemBytes<2>, F>(accessor, get_buffer_data),
+        ),
+        Dimensions::Vec2 => joined::<4>(alloc, read::<ItemBytes<4>, F>(accessor, get_buffer_data)),
+        Dimensions::Vec3 => joined::<6>(alloc, read::<ItemBytes<6>, F>(accessor, get_buffer_data)),
+        Dimensions::Vec4 => joined::<8>(alloc, read::<ItemBytes<8>, F>(accessor, get_buffer_data)),
+        Dimensions::Mat2 => joined::<8>(alloc, read::<ItemBytes<8>, F>(accessor, get_buffer_data)),
+        Dimensions::Mat3 => joined::<18>(
+            alloc,
+            read::<ItemBytes<18>, F>(accessor, get_buffer_data),
+        ),
+        Dimensions::Mat4 => joined::<32>(
+            alloc,
+            read::<ItemBytes<32>, F>(accessor, get_buffer_data),
+        ),
     }
 }
 
@@ -122,29 +138,60 @@ fn of_words<'s, F: Fn(Buffer) -> Option<&'s [u8]>>(
         (4 * multiplicity shape) a.document a.json result }
 {
     match shape {
-        Dimensions::Scalar => of_size::<F, 4>(alloc, accessor, get_buffer_data),
-        Dimensions::Vec2 => of_size::<F, 8>(alloc, accessor, get_buffer_data),
-        Dimensions::Vec3 => of_size::<F, 12>(alloc, accessor, get_buffer_data),
-        Dimensions::Vec4 => of_size::<F, 16>(alloc, accessor, get_buffer_data),
-        Dimensions::Mat2 => of_size::<F, 16>(alloc, accessor, get_buffer_data),
-        Dimensions::Mat3 => of_size::<F, 36>(alloc, accessor, get_buffer_data),
-        Dimensions::Mat4 => of_size::<F, 64>(alloc, accessor, get_buffer_data),
+        Dimensions::Scalar => joined::<4>(
+            alloc,
+            read::<ItemBytes<4>, F>(accessor, get_buffer_data),
+        ),
+        Dimensions::Vec2 => joined::<8>(alloc, read::<ItemBytes<8>, F>(accessor, get_buffer_data)),
+        Dimensions::Vec3 => joined::<12>(
+            alloc,
+            read::<ItemBytes<12>, F>(accessor, get_buffer_data),
+        ),
+        Dimensions::Vec4 => joined::<16>(
+            alloc,
+            read::<ItemBytes<16>, F>(accessor, get_buffer_data),
+        ),
+        Dimensions::Mat2 => joined::<16>(
+            alloc,
+            read::<ItemBytes<16>, F>(accessor, get_buffer_data),
+        ),
+        Dimensions::Mat3 => joined::<36>(
+            alloc,
+            read::<ItemBytes<36>, F>(accessor, get_buffer_data),
+        ),
+        Dimensions::Mat4 => joined::<64>(
+            alloc,
+            read::<ItemBytes<64>, F>(accessor, get_buffer_data),
+        ),
     }
 }
 
-/// The same of items of N bytes.
-fn of_size<'s, F: Fn(Buffer) -> Option<&'s [u8]>, const N: usize>(
-    alloc: Global,
+/// The items of an accessor.
+fn read<'s, T: Item, F: Fn(Buffer) -> Option<&'s [u8]>>(
     accessor: Accessor,
     get_buffer_data: &F,
-) -> Result<Option<Vec<u8>>, AllocError>
-    requires callable { F.IsAlwaysCallable get_buffer_data.now }
-    requires small { N ≤ 64 }
-    ensures { let a = accessor_handle accessor.entry in
-        IfOk result (λ flat. IsFlat (λ b o. F.post get_buffer_data.now b o) N
-        a.document a.json (option_map (λ bytes. bytes.items) flat)) }
+) -> Option<Iter<'s, T>>
+    requires { F.IsAlwaysCallable get_buffer_data.now }
+    ensures items { Reads (λ b o. F.post get_buffer_data.now b o) ⟦<T as Item>⟧
+        (accessor_handle accessor.entry).document (accessor_handle accessor.entry).json
+        (option_map (λ it. (counted_items it).items) result) }
+    ensures alike { ReadsAlike (λ b o. F.post get_buffer_data.now b o) ⟦<T as Item>⟧
+        (accessor_handle accessor.entry).document (accessor_handle accessor.entry).json
+        (option_map (λ it. (counted_items it).items) result) }
 {
-    match Iter::<ItemBytes<N>>::new(accessor, get_buffer_data) {
+    Iter::new(accessor, get_buffer_data)
+}
+
+/// The bytes of all items, where there are items.
+fn joined<const N: usize>(
+    alloc: Global,
+    items: Option<Iter<'_, ItemBytes<N>>>,
+) -> Result<Option<Vec<u8>>, AllocError>
+    requires small { N ≤ 64 }
+    ensures { IfOk result (λ flat. option_map (λ bytes. bytes.items) flat
+        ≡ option_map (λ it. concat (counted_items it).items) items.entry) }
+{
+    match items {
         Some(items) => Ok(Some(all_bytes(alloc, items)?)),
         None => Ok(None),
     }
