@@ -1,0 +1,7 @@
+mod Cut
+mod Views
+mod Sizes
+mod Tried
+mod Explained
+mod Members
+mod Joined

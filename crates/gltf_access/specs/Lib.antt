@@ -1,0 +1,5 @@
+pub mod Raw
+pub mod Flat
+pub mod Texts
+pub mod Rows
+pub mod Why

@@ -1,0 +1,82 @@
+//! Why a reader read nothing.
+
+ghost use Rattle.std.specs.Prelude.{◌≡◌};
+ghost use Rattle.gltf_access.specs.Texts.{component_text, shape_text};
+
+use gltf_data::accessor::{DataType, Dimensions, Unreadable};
+use std::fmt;
+
+/// Why a reader of items read nothing: the first of these that is so.
+#[derive(Clone, Copy, Debug, PartialEq, Eq)]
+pub enum NotRead {
+    /// The record has no such member.
+    Absent,
+    /// It is an attribute of the application (glTF 2.0, section 3.7.2.1, "Meshes: Overview"), which
+    /// no reader reads.
+    NoReader,
+    /// The reader reads no items of this type (section 3.6.2.2, "Accessor Data Types").
+    Type {
+        /// The type of each component of an item of the accessor.
+        component: DataType,
+        /// The components of an item.
+        dimensions: Dimensions,
+    },
+    /// The accessor cannot be read as items of the reader's type.
+    Unreadable(Unreadable),
+}
+
+/// The name of a type of components, as the standard writes it.
+fn component_name(component: DataType) -> &'static str
+    ensures { result.now ≡ component_text component }
+{
+    match component {
+        DataType::I8 => "BYTE",
+        DataType::U8 => "UNSIGNED_BYTE",
+        DataType::I16 => "SHORT",
+        DataType::U16 => "UNSIGNED_SHORT",
+        DataType::U32 => "UNSIGNED_INT",
+        DataType::F32 => "FLOAT",
+    }
+}
+
+/// The name of the dimensions of an item, as `type` has it.
+fn shape_name(dimensions: Dimensions) -> &'static str
+    ensures { result.now ≡ shape_text dimensions }
+{
+    match dimensions {
+        Dimensions::Scalar => "SCALAR",
+        Dimensions::Vec2 => "VEC2",
+        Dimensions::Vec3 => "VEC3",
+        Dimensions::Vec4 => "VEC4",
+        Dimensions::Mat2 => "MAT2",
+        Dimensions::Mat3 => "MAT3",
+        Dimensions::Mat4 => "MAT4",
+    }
+}
+
+impl fmt::Display for NotRead {
+    ghost use Rattle.std.specs.Prelude.{Some};
+    ghost use Rattle.gltf_access.specs.Texts.{not_read_text};
+
+    ghost output = { λ reason. Some (not_read_text reason) };
+
+    fn fmt<W: fmt::Write>(&self, f: &mut fmt::Formatter<W>) -> fmt::Result {
+        match self {
+            NotRead::Absent => write!(f, "there is no such member"),
+            NotRead::NoReader => write!(f, "no reader reads attributes of the application"),
+            NotRead::Type {
+                component,
+                dimensions,
+            } => {
+                let (shape, component) = (shape_name(*dimensions), component_name(*component));
+                write!(
+                    f,
+                    "the reader reads no items of type {shape} of {component}"
+                )
+            }
+            NotRead::Unreadable(reason) => write!(f, "{reason}"),
+        }
+    }
+}
+
+impl std::error::Error for NotRead {}
