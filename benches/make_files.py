@@ -207,9 +207,10 @@ def sparse(divisor):
     return container(document(members), blob)
 
 
-def million(member, record):
-    """A file with a million such records."""
-    return lambda divisor: document({member: listed(record, 1_000_000 // divisor)})
+def million(member, record, others=()):
+    """A file with a million such records, and other members."""
+    return lambda divisor: document(
+        {**dict(others), member: listed(record, 1_000_000 // divisor)})
 
 
 FILES = {
@@ -228,7 +229,8 @@ FILES = {
         "accessors", {"componentType": FLOAT, "count": 1, "type": "SCALAR"}),
     "million_meshes.gltf": million("meshes", {"primitives": [{"attributes": {}}]}),
     "million_animations.gltf": million("animations", {"channels": [], "samplers": []}),
-    "million_textures.gltf": million("textures", {}),
+    "million_textures.gltf": million(
+        "textures", {"source": 0}, {"images": [{"uri": "data:,"}]}),
 }
 
 
