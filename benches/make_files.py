@@ -230,7 +230,7 @@ FILES = {
     "million_meshes.gltf": million("meshes", {"primitives": [{"attributes": {}}]}),
     "million_animations.gltf": million("animations", {"channels": [], "samplers": []}),
     "million_textures.gltf": million(
-        "textures", {"source": 0}, {"images": [{"uri": "data:,"}]}),
+        "textures", {"source": 0}, {"images": '[{"uri":"data:,"}]'}),
 }
 
 
