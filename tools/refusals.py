@@ -21,15 +21,9 @@ PROGRAM = CRATE / "out" / "gltf_cases"
 TABLE = "growths.txt"
 OUT_OF_MEMORY = "out of memory"
 NO_COPY = ", and there is no memory for a copy"
-# How the sources and the writers of the program say, by call, that they had no memory of their own:
-# the loader sees a failure of theirs. A name that failed is not kept then.
-FAILED = {
-    "written": "neither read nor written",
-    "files": "not read",
-    "shelf": "not read",
-    "folder": "not read",
-    "broken": OUT_OF_MEMORY,
-}
+# The calls whose sources take memory of their own: the loader sees a failure of theirs.
+ASKING = ("files", "shelf", "folder")
+NOT_READ, NOT_WRITTEN = "not read", "neither read nor written"
 # How the program says that memory ran out, where no line has room for it.
 ENDED = ("Memory", "OutOfMemory")
 
@@ -120,9 +114,27 @@ def is_answer(case, lines, status, error, answer):
     line = lines[0].replace(NO_COPY, "")
     begun, found, _ = line.partition(OUT_OF_MEMORY)
     is_own = line == answer or bool(found) and (answer is None or answer.startswith(begun))
-    failed = FAILED.get(case.split()[0])
-    is_own = is_own or failed is not None and failed in line
-    return len(lines) == 1 and not error and is_own
+    return len(lines) == 1 and not error and (is_own or is_failure(case.split()[0], line, answer))
+
+
+def is_failure(call, line, answer):
+    """Whether the line says that the source or the writer of the call failed: of what is written,
+    a beginning of the container; of what is read, the answer's own parts, but for those that were
+    not read, and for the name that failed, which is not kept then; of a text that is counted, that
+    of the error."""
+    if call == "written":
+        said, _, took = line.partition("; ")
+        return said == NOT_WRITTEN and answer.partition("; ")[2].startswith(took)
+    if call == "broken":
+        return line == f"{len(OUT_OF_MEMORY)} bytes, and at the end {OUT_OF_MEMORY}"
+    if call not in ASKING:
+        return False
+    parts, own = line.split("; "), answer.split("; ")
+    names = ("None",) if own[-1].startswith("Some") else (None,) if "failed" in own[-1] else ()
+    parts += [None] * (len(own) - len(parts))
+    return len(parts) == len(own) and all(
+        part in (mine, OUT_OF_MEMORY, NOT_READ) or last and part in names
+        for part, mine, last in zip(parts, own, [False] * (len(own) - 1) + [True]))
 
 
 def main(words):
