@@ -1,0 +1,4 @@
+pub mod Joined
+pub mod JoinedLaws
+pub mod Bundled
+pub mod Faults
