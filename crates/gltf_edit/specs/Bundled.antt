@@ -106,12 +106,18 @@ one_buffer total (string s) = string s
 one_buffer total (array ds) = array (one_of total ds)
 one_buffer total (object ms) = object ms
 
+-- the members of a document that change, where they are there
+abbrev pub buffers_after : ℕ → Data → Option Data
+buffers_after total d = option_map (one_buffer total) (get (codes "buffers") d)
+
+abbrev pub views_after : List Span → Data → Option Data
+views_after spans d = option_map (each_item (moved spans)) (get (codes "bufferViews") d)
+
 -- one buffer of so many bytes in place of all, which stand in it there; all else stays as it is
 abbrev pub bundled : List Span → ℕ → Data → Data
 bundled spans total d =
-    with_some (codes "buffers") (option_map (one_buffer total) (get (codes "buffers") d))
-    (with_some (codes "bufferViews")
-    (option_map (each_item (moved spans)) (get (codes "bufferViews") d)) d)
+    with_some (codes "buffers") (buffers_after total d)
+    (with_some (codes "bufferViews") (views_after spans d) d)
 
 abbrev pub AllPlaced : List Span → Items → Type 0
 AllPlaced spans no_items = ⊤

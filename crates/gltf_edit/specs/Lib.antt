@@ -1,4 +1,5 @@
 pub mod Joined
 pub mod JoinedLaws
 pub mod Bundled
+pub mod BundledLaws
 pub mod Faults
