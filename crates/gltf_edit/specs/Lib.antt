@@ -2,4 +2,5 @@ pub mod Joined
 pub mod JoinedLaws
 pub mod Bundled
 pub mod BundledLaws
+pub mod DepthLaws
 pub mod Faults
