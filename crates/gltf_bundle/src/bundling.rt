@@ -1,21 +1,19 @@
 //! One container out of a file and the files that its buffers name.
-ghost use Rattle.std.specs.Prelude.{◌≡◌, ◌<◌, ◌^◌, ℕ, List, IfOk, length};
+ghost use Rattle.std.specs.Prelude.{IfOk};
 ghost use Rattle.gltf_buffers.specs.Names.{names_of};
-ghost use Rattle.gltf_bundle.specs.Bundle.{IsBundle, IsJoined, IsAccepted, blob_of};
-ghost use Rattle.gltf_edit.specs.Joined.{joined, spans_from};
-ghost use Rattle.gltf_glb.specs.Glb.{IsWritten};
-ghost use Rattle.gltf.specs.Shown.{bytes_of_each};
+ghost use Rattle.gltf_bundle.specs.Bundle.{IsBundle, IsJoined, IsAccepted, IsContainerOf};
+ghost use Rattle.gltf.specs.Shown.{blob_bytes, bytes_of_each};
+ghost use Rattle.serde_json.specs.View.{view};
 
 use crate::error::BundleError;
-use crate::loading::load;
-use crate::options::BundleOptions;
+use crate::loading::{Loaded, load};
 use gltf::buffer::Data;
 use gltf::{NamedBytes, import_slice};
 use gltf_edit::{Fault, Span, append, bundled};
 use gltf_glb::binary::Header;
-use gltf_glb::Glb;
+use gltf_glb::{Error, Glb};
 use serde_json::Value;
-use std::alloc::{AllocError, Global};
+use std::alloc::Global;
 use std::borrow::CowSlice;
 
 /// The file at a path as one GLB container (glTF 2.0, section 4.4), where files are asked of a
@@ -42,12 +40,75 @@ pub fn bundle<S: NamedBytes>(
         path.now answer.items) }
     ensures accepted { IfOk result (λ answer. IsAccepted answer.items) }
 {
-    let loaded = load(alloc, source, path)?;
-    let joined = join(alloc, &loaded.buffers)?;
-    let value = bundled(alloc, loaded.value, &joined.spans, joined.bytes.len() as u32)?;
-    let answer = container_of(alloc, &value, joined)?;
+    let Loaded { value, buffers } = load(alloc, source, path)?;
+    let joined = join(alloc, &buffers)?;
+    drop(buffers);
+    let value = bundled(alloc, value, &joined.spans, joined.total)?;
+    let answer = container_of(alloc, &value, joined.blob)?;
     match import_slice(alloc, &answer) {
         Ok(_) => Ok(answer),
+        Err(error) => Err(BundleError::Answer(error)),
+    }
+}
+
+/// The bytes of all buffers in one, where there are buffers, and where they stand there.
+#[derive(Drop)]
+struct Joined {
+    blob: Option<Vec<u8>>,
+    spans: Vec<Span>,
+    total: u32,
+}
+
+/// Joins the bytes of all buffers.
+fn join(alloc: Global, buffers: &[Data]) -> Result<Joined, Fault>
+    ensures { IfOk result (IsJoined (bytes_of_each buffers.now)) }
+{
+    let mut bytes = Vec::with_capacity(alloc, room_for(buffers))?;
+    let mut spans = Vec::with_capacity(alloc, buffers.len())?;
+    for buffer in buffers {
+        append(&mut bytes, &mut spans, &buffer.0)?;
+    }
+    let total = bytes.len() as u32;
+    let blob = if buffers.is_empty() {
+        None
+    } else {
+        Some(bytes)
+    };
+    Ok(Joined { blob, spans, total })
+}
+
+/// Room for all bytes, so that memory is taken once.
+fn room_for(buffers: &[Data]) -> usize {
+    let mut room: usize = 0;
+    for buffer in buffers {
+        room = room.saturating_add(buffer.0.len()).saturating_add(7);
+    }
+    room.min(u32::MAX as usize)
+}
+
+/// The value's text and the blob as a container.
+fn container_of(alloc: Global, value: &Value, blob: Option<Vec<u8>>) -> Result<Vec<u8>, BundleError>
+    ensures { IfOk result (λ answer. IsContainerOf (view value.now) (blob_bytes blob)
+        answer.items) }
+{
+    let text = value.to_string(alloc)?;
+    let bin = match blob {
+        Some(blob) => Some(CowSlice::Owned(blob)),
+        None => None,
+    };
+    // The header is that of no file: it is not looked at when the parts are written.
+    let glb = Glb {
+        header: Header {
+            magic: *b"glTF",
+            version: 2,
+            length: 0,
+        },
+        json: CowSlice::Borrowed(text.as_bytes()),
+        bin,
+    };
+    match glb.to_vec(alloc) {
+        Ok(answer) => Ok(answer),
+        Err(Error::Memory) => Err(BundleError::Import(Error::Memory)),
         Err(error) => Err(BundleError::Answer(error)),
     }
 }

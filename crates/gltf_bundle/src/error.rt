@@ -1,6 +1,6 @@
 //! Why a file was not bundled.
 ghost use Rattle.std.specs.Prelude.{◌≡◌};
-ghost use Rattle.gltf_bundle.specs.declared.error.BundleError.TheVariants.{Import, Answer};
+ghost use Rattle.gltf_bundle.specs.declared.error.BundleError.TheVariants.{Import};
 ghost use Rattle.gltf_bundle.specs.Causes.{of_fault};
 ghost use Rattle.gltf_glb.specs.declared.error.Error.TheVariants.{Memory};
 
@@ -17,8 +17,6 @@ pub enum BundleError {
     /// The view at this index, or what `EXT_meshopt_compression` says of it, does not lie in its
     /// buffer: over the one buffer it would read the bytes of another.
     View(usize),
-    /// The image at this index stands in another file.
-    Image(usize),
     /// The one buffer would have more than 4294967295 bytes.
     TooLong,
     /// The container would be too long, or not be accepted.
@@ -50,9 +48,6 @@ impl fmt::Display for BundleError {
         match self {
             BundleError::Import(error) => write!(f, "{error}"),
             BundleError::View(view) => write!(f, "bufferViews[{view}]: not within its buffer"),
-            BundleError::Image(image) => {
-                write!(f, "images[{image}]: stands in another file (--keep-images leaves it there)")
-            }
             BundleError::TooLong => write!(f, "more than 4294967295 bytes of buffers"),
             BundleError::Answer(error) => write!(f, "the container: {error}"),
         }

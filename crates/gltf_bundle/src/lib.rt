@@ -5,8 +5,6 @@ mod bundling;
 mod error;
 pub mod laws;
 mod loading;
-mod options;
 
 pub use bundling::bundle;
 pub use error::BundleError;
-pub use options::BundleOptions;

@@ -1,9 +1,9 @@
 //! The value of a file's JSON, and the bytes of its buffers.
-ghost use Rattle.std.specs.Prelude.{◌≡◌, IfOk, IfErr, ◌≢◌};
+ghost use Rattle.std.specs.Prelude.{IfOk};
 ghost use Rattle.std.specs.Cow.{cow_slice_items};
-ghost use Rattle.gltf_bundle.specs.Bundle.{IsLoaded};
+ghost use Rattle.gltf_bundle.specs.Bundle.{IsLoaded, IsTextOf, IsValueOf};
 ghost use Rattle.gltf_buffers.specs.Names.{names_of};
-ghost use Rattle.gltf.specs.Import.{AreParts};
+ghost use Rattle.serde_json.specs.View.{view};
 
 use crate::error::BundleError;
 use gltf::buffer::Data;
@@ -54,6 +54,7 @@ pub(crate) fn load<S: NamedBytes>(
 
 /// The value of the JSON text of a file.
 fn value_of(alloc: Global, bytes: &[u8]) -> Result<Value, BundleError>
+    ensures { IfOk result (λ v. IsValueOf bytes.now (view v)) }
 {
     let text = match text_of(bytes) {
         Ok(text) => text,
@@ -69,6 +70,7 @@ fn value_of(alloc: Global, bytes: &[u8]) -> Result<Value, BundleError>
 /// The JSON text of a file, lent.
 #[tactic(auto, unfolding(gltf::specs::Import::AreParts))]
 fn text_of(bytes: &[u8]) -> gltf_glb::Result<CowSlice<'_, u8>>
+    ensures { IfOk result (λ text. IsTextOf bytes.now (cow_slice_items text)) }
 {
     if bytes.starts_with(b"glTF") {
         let glb = Glb::from_slice(bytes)?;
