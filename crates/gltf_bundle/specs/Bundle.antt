@@ -18,15 +18,11 @@ use Rattle.gltf.specs.Shown.{blob_bytes, bytes_of_each}
 use Rattle.gltf_bundle.specs.declared.bundling.Joined.{Joined}
 use Rattle.gltf_bundle.specs.declared.loading.Loaded.{Loaded}
 
--- the JSON text of a file
-pub record IsTextOf (bytes text : List ℕ) : Type 0 where
-  pub blob : Option (List ℕ)
-  pub parts : AreParts bytes text blob
-
--- its value
+-- the value of the JSON text of a file
 pub record IsValueOf (bytes : List ℕ) (value : Data) : Type 0 where
   pub text : List ℕ
-  pub is_text : IsTextOf bytes text
+  pub blob : Option (List ℕ)
+  pub parts : AreParts bytes text blob
   pub reads : Reads text value
 
 -- the file at the path is accepted, by its JSON value, its records and the bytes of its buffers

@@ -1,7 +1,8 @@
 //! One container out of a file and the files that its buffers name.
-ghost use Rattle.std.specs.Prelude.{IfOk};
+ghost use Rattle.std.specs.Prelude.{◌≡◌, IfOk, if◌then◌else◌};
 ghost use Rattle.gltf_buffers.specs.Names.{names_of};
 ghost use Rattle.gltf_bundle.specs.Bundle.{IsBundle, IsJoined, IsAccepted, IsContainerOf};
+ghost use Rattle.gltf_glb.specs.Glb.{items_of};
 ghost use Rattle.gltf.specs.Shown.{blob_bytes, bytes_of_each};
 ghost use Rattle.serde_json.specs.View.{view};
 
@@ -92,10 +93,6 @@ fn container_of(alloc: Global, value: &Value, blob: Option<Vec<u8>>) -> Result<V
         answer.items) }
 {
     let text = value.to_string(alloc)?;
-    let bin = match blob {
-        Some(blob) => Some(CowSlice::Owned(blob)),
-        None => None,
-    };
     // The header is that of no file: it is not looked at when the parts are written.
     let glb = Glb {
         header: Header {
@@ -104,11 +101,21 @@ fn container_of(alloc: Global, value: &Value, blob: Option<Vec<u8>>) -> Result<V
             length: 0,
         },
         json: CowSlice::Borrowed(text.as_bytes()),
-        bin,
+        bin: owned(blob),
     };
     match glb.to_vec(alloc) {
         Ok(answer) => Ok(answer),
         Err(Error::Memory) => Err(BundleError::Import(Error::Memory)),
         Err(error) => Err(BundleError::Answer(error)),
+    }
+}
+
+/// The blob, owned.
+fn owned(blob: Option<Vec<u8>>) -> Option<CowSlice<'static, u8>>
+    ensures { items_of result ≡ blob_bytes blob }
+{
+    match blob {
+        Some(blob) => Some(CowSlice::Owned(blob)),
+        None => None,
     }
 }

@@ -1,7 +1,9 @@
 //! The value of a file's JSON, and the bytes of its buffers.
 ghost use Rattle.std.specs.Prelude.{IfOk};
 ghost use Rattle.std.specs.Cow.{cow_slice_items};
-ghost use Rattle.gltf_bundle.specs.Bundle.{IsLoaded, IsTextOf, IsValueOf};
+ghost use Rattle.gltf_bundle.specs.Bundle.{IsLoaded, IsValueOf};
+ghost use Rattle.gltf.specs.Import.{AreParts};
+ghost use Rattle.gltf_glb.specs.Glb.{items_of};
 ghost use Rattle.gltf_buffers.specs.Names.{names_of};
 ghost use Rattle.serde_json.specs.View.{view};
 
@@ -9,6 +11,7 @@ use crate::error::BundleError;
 use gltf::buffer::Data;
 use gltf::{Gltf, Name, NamedBytes, import_buffers_from};
 use gltf_buffers::Ask;
+use gltf_glb::binary::Header;
 use gltf_glb::laws::one_reading;
 use gltf_glb::{Error, Glb};
 use serde_json::Value;
@@ -56,25 +59,33 @@ pub(crate) fn load<S: NamedBytes>(
 fn value_of(alloc: Global, bytes: &[u8]) -> Result<Value, BundleError>
     ensures { IfOk result (λ v. IsValueOf bytes.now (view v)) }
 {
-    let text = match text_of(bytes) {
-        Ok(text) => text,
+    let glb = match glb_of(bytes) {
+        Ok(glb) => glb,
         Err(error) => return Err(BundleError::Import(error)),
     };
-    match Value::from_slice(alloc, text.as_slice()) {
+    match Value::from_slice(alloc, glb.json.as_slice()) {
         Ok(value) => Ok(value),
         // The file was accepted, so its text is that of a value.
         Err(_) => Err(BundleError::Import(Error::Memory)),
     }
 }
 
-/// The JSON text of a file, lent.
+/// The JSON text and the blob of a file, lent. The header is that of no file.
 #[tactic(auto, unfolding(gltf::specs::Import::AreParts))]
-fn text_of(bytes: &[u8]) -> gltf_glb::Result<CowSlice<'_, u8>>
-    ensures { IfOk result (λ text. IsTextOf bytes.now (cow_slice_items text)) }
+fn glb_of(bytes: &[u8]) -> gltf_glb::Result<Glb<'_>>
+    ensures { IfOk result (λ glb. AreParts bytes.now (cow_slice_items glb.json)
+        (items_of glb.bin)) }
 {
     if bytes.starts_with(b"glTF") {
-        let glb = Glb::from_slice(bytes)?;
-        return Ok(glb.json);
+        return Glb::from_slice(bytes);
     }
-    Ok(CowSlice::Borrowed(bytes))
+    Ok(Glb {
+        header: Header {
+            magic: *b"glTF",
+            version: 2,
+            length: 0,
+        },
+        json: CowSlice::Borrowed(bytes),
+        bin: None,
+    })
 }
