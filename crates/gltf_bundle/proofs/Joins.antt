@@ -1,6 +1,6 @@
 -- The bytes of the buffers so far.
 use Rattle.std.proofs.Common.{◌≡◌, ℕ, ◌+◌, ◌<◌, ◌^◌, List, [], ◌∷◌, ◌++◌, length, map, take, get_or}
-use Rattle.std.proofs.Common.{refl, sym, ap, subst, ◌∙◌, arith, add-one, Option, Some, None, Bool}
+use Rattle.std.proofs.Common.{refl, sym, ap, subst, ◌∙◌, arith, add-one, Option, Some, None, suc, false}
 use Rattle.std.proofs.Common.{if◌then◌else◌}
 use Rattle.std.proofs.Math.Seq.{take-suc}
 use Rattle.std.proofs.lemmas.List.{map-append}
@@ -51,7 +51,11 @@ go_on all b bytes bytes_after spans spans_after far more stands short = record {
   short = short;
 }
 
+not_zero : (n : ℕ) → (suc n == 0) ≡ false
+not_zero n = grind arith
+
 pub the_blob : (buffers : List Data) (bytes : List ℕ) → bytes ≡ joined (bytes_of_each buffers)
     → (if length buffers == 0 then None else Some bytes) ≡ blob_of (bytes_of_each buffers)
 the_blob [] bytes is = refl
-the_blob (b ∷ buffers) bytes is = ap (λ (xs : List ℕ). Some xs) is
+the_blob (b ∷ buffers) bytes is =
+    rw (not_zero (length buffers)) (ap (λ (xs : List ℕ). Some xs) is)

@@ -24,6 +24,7 @@ pub record IsValueOf (bytes : List ℕ) (value : Data) : Type 0 where
   pub blob : Option (List ℕ)
   pub parts : AreParts bytes text blob
   pub reads : Reads text value
+  pub nests : depth value ≤ max_depth
 
 -- the file at the path is accepted, by its JSON value, its records and the bytes of its buffers
 pub record IsSource (names : Names) (path : List ℕ) (value : Data) (r : Root)
@@ -34,6 +35,7 @@ pub record IsSource (names : Names) (path : List ℕ) (value : Data) (r : Root)
   pub blob : Option (List ℕ)
   pub parts : AreParts bytes text blob
   pub reads : Reads text value
+  pub nests : depth value ≤ max_depth
   pub records : root.is value r
   pub rules : Faults r ≡ []
   pub data_ : AreBytes names (sources_of r) blob (length (sources_of r)) buffers

@@ -70,12 +70,15 @@ fn join(alloc: Global, buffers: &[Data]) -> Result<Joined, Fault>
         append(&mut bytes, &mut spans, &buffer.0)?;
     }
     let total = bytes.len() as u32;
-    let blob = if buffers.is_empty() {
-        None
-    } else {
-        Some(bytes)
-    };
+    let blob = unless(buffers.is_empty(), bytes);
     Ok(Joined { blob, spans, total })
+}
+
+/// The bytes, unless there are to be none.
+fn unless(none: bool, bytes: Vec<u8>) -> Option<Vec<u8>>
+    ensures { blob_bytes result ≡ (if none then None else Some bytes.items) }
+{
+    if none { None } else { Some(bytes) }
 }
 
 /// Room for all bytes, so that memory is taken once.
@@ -92,7 +95,8 @@ fn container_of(alloc: Global, value: &Value, blob: Option<Vec<u8>>) -> Result<V
     ensures { IfOk result (λ answer. IsContainerOf (view value.now) (blob_bytes blob)
         answer.items) }
 {
-    let text = value.to_string(alloc)?;
+    let written = value.to_string(alloc)?;
+    let text = written.as_str();
     // The header is that of no file: it is not looked at when the parts are written.
     let glb = Glb {
         header: Header {

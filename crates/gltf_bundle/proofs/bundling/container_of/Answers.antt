@@ -1,13 +1,18 @@
-use Rattle.std.proofs.Common.{string_bytes}
+use Rattle.std.proofs.Common.{ap, sym, subst, ◌∙◌, List, ℕ, Some}
+use Rattle.std.specs.Prelude.{IsUtf8}
+use Rattle.gltf_json.specs.Reading.{Reads}
+use Rattle.serde_json.specs.Read.{read}
+use Rattle.serde_json.specs.View.{view}
 use Rattle.gltf_bundle.proofs.bundling.container_of.Goals as goal
 
 pub returns-in-Ok : goal.returns-in-Ok
 returns-in-Ok c =
-    let text = c.in_ok-text in
-    let w = rw (c.as_bytes.ensures.value, c.owned.ensures) at c.in-Ok.ensures.written in
+    let text = c.as_bytes.result.now in
+    let whole = c.as_bytes.ensures.value ∙ c.as_str-text.ensures.value in
+    let w = rw c.owned.ensures at c.in-Ok.ensures.written in
     record {
-      json = string_bytes text.text;
-      reads = λ short. (text.text.ok, text.ensures.reads_back short);
+      json = text;
+      reads = λ short. (c.as_bytes.ensures.utf8, ap read whole ∙ c.in_ok-written.ensures.reads_back short);
       fits = w.0;
       written = w.1;
     }
