@@ -1,10 +1,10 @@
 -- What a bundle is imported as: the law `one_buffer`. `the_parts` are what its container holds,
 -- `the_value` is its JSON value, and `the_buffers` are its buffers.
-use Rattle.std.proofs.Common.{◌≡◌, ℕ, zero, suc, ◌+◌, ◌-◌, ◌%◌, ◌<◌, ◌^◌, List, [], ◌∷◌, ◌++◌, length}
-use Rattle.std.proofs.Common.{Option, Some, None, option_map, Ok, Err, Result, Bool, true, false}
+use Rattle.std.proofs.Common.{◌≡◌, ℕ, suc, ◌-◌, ◌%◌, List, [], ◌∷◌, length}
+use Rattle.std.proofs.Common.{Option, Some, None, option_map, Ok, Result, false}
 use Rattle.std.proofs.Common.{nat_lt, get_or, map, codes, refl, sym, ap, subst, ◌∙◌, arith, ◌⊎◌, inl, inr}
-use Rattle.std.proofs.Common.{replicate, ⊎_elim}
-use Rattle.std.specs.Prelude.{MatchOption, IsSome, slice_get, option_and_then, string_bytes}
+use Rattle.std.proofs.Common.{⊎_elim}
+use Rattle.std.specs.Prelude.{MatchOption, IsSome, option_and_then, string_bytes}
 use Rattle.serde_json.specs.Data.{Data, null, boolean, number, string, array, object, item}
 use Rattle.serde_json.specs.Data.{Items, no_items}
 use Rattle.serde_json.specs.Find.{get, as_array, as_object}
@@ -18,13 +18,13 @@ use Rattle.gltf_json.specs.declared.root.Root.{Root}
 use Rattle.gltf_glb.specs.Bytes.{padded}
 use Rattle.gltf_glb.specs.FillingLaws.{padded_whole}
 use Rattle.gltf_glb.specs.Laws.{OneReading, ReadsBack}
-use Rattle.gltf_buffers.specs.Buffers.{Source, source_of, sources_of, AreBytes, bytes_of, blob_for}
+use Rattle.gltf_buffers.specs.Buffers.{source_of, AreBytes, bytes_of, blob_for}
 use Rattle.gltf_buffers.specs.Buffers.{checked_bytes, filled_bytes, raw_bytes, long_enough}
 use Rattle.gltf_buffers.specs.Names.{Names, Nowhere}
 use Rattle.gltf_buffers.specs.Padding as payload
 use Rattle.gltf_pack.specs.Laws.{SpacesBehind}
 use Rattle.gltf.specs.Import.{AreParts, Accepts}
-use Rattle.gltf_edit.specs.Bundled.{bundled, buffers_after, views_after, with_some, one_buffer}
+use Rattle.gltf_edit.specs.Bundled.{bundled, views_after, with_some, one_buffer}
 use Rattle.gltf_edit.specs.BundledLaws.{get_with, get_with_some_other, object_with_some, differ}
 use Rattle.gltf_edit.specs.Joined.{joined, spans_from}
 use Rattle.gltf_edit.specs.JoinedLaws.{joined_whole}

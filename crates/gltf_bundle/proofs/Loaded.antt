@@ -1,5 +1,5 @@
 -- What was loaded, and what is made of it.
-use Rattle.std.proofs.Common.{◌≡◌, ℕ, ◌≤◌, ◌<◌, ◌^◌, List, length, Option, Some, sym, ap, subst, ◌∙◌, arith}
+use Rattle.std.proofs.Common.{◌≡◌, ℕ, ◌≤◌, ◌<◌, ◌^◌, List, length, Option, sym, ap, subst, ◌∙◌, arith}
 use Rattle.serde_json.specs.Data.{Data, depth}
 use Rattle.serde_json.specs.Read.{max_depth}
 use Rattle.gltf_json.specs.Documents.{root}
@@ -16,7 +16,7 @@ use Rattle.gltf_edit.specs.Bundled.{bundled, ArePlaced}
 use Rattle.gltf_edit.specs.DepthLaws.{bundled_depth}
 use Rattle.gltf_edit.specs.Joined.{joined, spans_from}
 use Rattle.gltf_bundle.specs.declared.bundling.Joined.{Joined}
-use Rattle.gltf_bundle.specs.Bundle.{IsValueOf, IsSource, IsJoined, IsContainerOf, IsBundle, blob_of}
+use Rattle.gltf_bundle.specs.Bundle.{IsValueOf, IsSource, IsJoined, IsContainerOf, IsBundle}
 use Rattle.gltf_bundle.proofs.Parts.{one_parts, one_value}
 
 pub loaded : OneReading → (names : Names) (path bytes : List ℕ) → Gives names (File path) bytes

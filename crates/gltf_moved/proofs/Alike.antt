@@ -1,9 +1,9 @@
 -- A document whose buffers became one shows what the document before shows, over its own views.
-use Rattle.std.proofs.Common.{◌≡◌, ◌<◌, ◌-◌, ◌^◌, ℕ, List, length, Option, Bool, false, bytes_eq, codes}
-use Rattle.std.proofs.Common.{refl, sym, ap, subst, ◌∙◌}
-use Rattle.std.specs.Prelude.{MatchOption, IsSome, ⊤, slice_get, option_and_then, ◌↔◌}
+use Rattle.std.proofs.Common.{◌≡◌, ◌<◌, ◌-◌, ◌^◌, ℕ, List, length, Option, false, bytes_eq, codes}
+use Rattle.std.proofs.Common.{refl, sym, subst}
+use Rattle.std.specs.Prelude.{MatchOption, slice_get, option_and_then}
 use Rattle.serde_json.specs.Data.{Data}
-use Rattle.serde_json.specs.Find.{get, as_object}
+use Rattle.serde_json.specs.Find.{get}
 use Rattle.gltf_json_record.specs.Member.{member_at, unless_null}
 use Rattle.gltf_json.specs.Alike.{AreAlikeInEachMember}
 use Rattle.gltf_json.specs.Documents.{root}
@@ -15,7 +15,6 @@ use Rattle.gltf_data.specs.Parts.{view_at}
 use Rattle.gltf_edit.specs.Joined.{joined, spans_from}
 use Rattle.gltf_edit.specs.Bundled.{bundled}
 use Rattle.gltf_edit.specs.BundledLaws.{bundled_other, differ}
-use Rattle.gltf_edit.specs.declared.span.Span.{Span}
 use Rattle.gltf_moved.specs.Laws.{IsMoved, one_list, KeepsItems}
 use Rattle.gltf_moved.proofs.Items.{over, reads_after, reads_before}
 use Rattle.gltf_moved.proofs.Views.{MovesAt, ReadsViews, views_move, views_after}
@@ -36,26 +35,64 @@ module _ (buffers : List (List ℕ)) (r s : Root) (m : IsMoved buffers r s) wher
 
   is_over : root.is after (over r s)
   unfolding root
-  is_over =
-      (m.after.0, (keep (codes "asset") refl refl _ _ m.before.1.0,
-      (keep (codes "accessors") refl refl _ _ m.before.1.1.0,
-      (keep (codes "animations") refl refl _ _ m.before.1.1.1.0,
-      (m.after.1.1.1.1.0,
-      (m.after.1.1.1.1.1.0,
-      (keep (codes "cameras") refl refl _ _ m.before.1.1.1.1.1.1.0,
-      (keep (codes "images") refl refl _ _ m.before.1.1.1.1.1.1.1.0,
-      (keep (codes "materials") refl refl _ _ m.before.1.1.1.1.1.1.1.1.0,
-      (keep (codes "meshes") refl refl _ _ m.before.1.1.1.1.1.1.1.1.1.0,
-      (keep (codes "nodes") refl refl _ _ m.before.1.1.1.1.1.1.1.1.1.1.0,
-      (keep (codes "samplers") refl refl _ _ m.before.1.1.1.1.1.1.1.1.1.1.1.0,
-      (keep (codes "scene") refl refl _ _ m.before.1.1.1.1.1.1.1.1.1.1.1.1.0,
-      (keep (codes "scenes") refl refl _ _ m.before.1.1.1.1.1.1.1.1.1.1.1.1.1.0,
-      (keep (codes "skins") refl refl _ _ m.before.1.1.1.1.1.1.1.1.1.1.1.1.1.1.0,
-      (keep (codes "textures") refl refl _ _ m.before.1.1.1.1.1.1.1.1.1.1.1.1.1.1.1.0,
-      (keep (codes "extensionsUsed") refl refl _ _ m.before.1.1.1.1.1.1.1.1.1.1.1.1.1.1.1.1.0,
-      (keep (codes "extensionsRequired") refl refl _ _ m.before.1.1.1.1.1.1.1.1.1.1.1.1.1.1.1.1.1.0,
-      (keep (codes "extensions") refl refl _ _ m.before.1.1.1.1.1.1.1.1.1.1.1.1.1.1.1.1.1.1.0,
-      keep (codes "extras") refl refl _ _ m.before.1.1.1.1.1.1.1.1.1.1.1.1.1.1.1.1.1.1.1)))))))))))))))))))
+  is_over = (
+    m.after.0,
+    (
+      keep (codes "asset") refl refl _ _ m.before.1.0,
+      (
+        keep (codes "accessors") refl refl _ _ m.before.1.1.0,
+        (
+          keep (codes "animations") refl refl _ _ m.before.1.1.1.0,
+          (
+            m.after.1.1.1.1.0,
+            (
+              m.after.1.1.1.1.1.0,
+              (
+                keep (codes "cameras") refl refl _ _ m.before.1.1.1.1.1.1.0,
+                (
+                  keep (codes "images") refl refl _ _ m.before.1.1.1.1.1.1.1.0,
+                  (
+                    keep (codes "materials") refl refl _ _ m.before.1.1.1.1.1.1.1.1.0,
+                    (
+                      keep (codes "meshes") refl refl _ _ m.before.1.1.1.1.1.1.1.1.1.0,
+                      (
+                        keep (codes "nodes") refl refl _ _ m.before.1.1.1.1.1.1.1.1.1.1.0,
+                        (
+                          keep (codes "samplers") refl refl _ _ m.before.1.1.1.1.1.1.1.1.1.1.1.0,
+                          (
+                            keep (codes "scene") refl refl _ _ m.before.1.1.1.1.1.1.1.1.1.1.1.1.0,
+                            (
+                              keep (codes "scenes") refl refl _ _ m.before.1.1.1.1.1.1.1.1.1.1.1.1.1.0,
+                              (
+                                keep (codes "skins") refl refl _ _ m.before.1.1.1.1.1.1.1.1.1.1.1.1.1.1.0,
+                                (
+                                  keep (codes "textures") refl refl _ _ m.before.1.1.1.1.1.1.1.1.1.1.1.1.1.1.1.0,
+                                  (
+                                    keep (codes "extensionsUsed") refl refl _ _ m.before.1.1.1.1.1.1.1.1.1.1.1.1.1.1.1.1.0,
+                                    (
+                                      keep (codes "extensionsRequired") refl refl _ _ m.before.1.1.1.1.1.1.1.1.1.1.1.1.1.1.1.1.1.0,
+                                      (
+                                        keep (codes "extensions") refl refl _ _ m.before.1.1.1.1.1.1.1.1.1.1.1.1.1.1.1.1.1.1.0,
+                                        keep (codes "extras") refl refl _ _ m.before.1.1.1.1.1.1.1.1.1.1.1.1.1.1.1.1.1.1.1,
+                                      ),
+                                    ),
+                                  ),
+                                ),
+                              ),
+                            ),
+                          ),
+                        ),
+                      ),
+                    ),
+                  ),
+                ),
+              ),
+            ),
+          ),
+        ),
+      ),
+    ),
+  )
 
   same_content : root.content (over r s) ≡ root.content s
   same_content = root.alike after (over r s) s is_over m.after
@@ -85,9 +122,9 @@ keeps_items t front members alike buffers r s m index result =
     let same = same_content buffers r s m in
     let all = slice_get (one_list buffers) in (
       λ reads.
-        alike (over r s) s (members (over r s) s same) all index result
-        (reads_after buffers r s (views buffers r s m) t front m.fits index result reads),
+          alike (over r s) s (members (over r s) s same) all index result
+          (reads_after buffers r s (views buffers r s m) t front m.fits index result reads),
       λ reads.
-        reads_before buffers r s (views buffers r s m) t front m.fits index result
-        (alike s (over r s) (members s (over r s) (sym same)) all index result reads),
+          reads_before buffers r s (views buffers r s m) t front m.fits index result
+          (alike s (over r s) (members s (over r s) (sym same)) all index result reads),
     )

@@ -1,6 +1,6 @@
 -- The items of accessors, where the views of a document move to the one buffer.
 use Rattle.std.proofs.Common.{◌≡◌, ℕ, ◌-◌, ◌<◌, ◌≤◌, ◌^◌, List, length, Option, Some, None, refl, sym}
-use Rattle.std.proofs.Common.{ap, ◌∙◌, arith, unwrap_or}
+use Rattle.std.proofs.Common.{◌∙◌, arith, unwrap_or}
 use Rattle.std.specs.Prelude.{SomeIff, slice_get, option_and_then}
 use Rattle.byteorder.specs.Endian.{little_number}
 use Rattle.gltf_json.specs.declared.root.Root.{Root}
@@ -11,9 +11,9 @@ use Rattle.gltf_items.specs.Reading.{ReadsFront}
 use Rattle.gltf_items.specs.ReadingLemmas.{number-reads_front}
 use Rattle.gltf_items.specs.Sparse.{sparse}
 use Rattle.gltf_items.specs.declared.item.Item.{Ghosts}
-use Rattle.gltf_data.specs.Answers.{answers_with, answers_by}
+use Rattle.gltf_data.specs.Answers.{answers_with}
 use Rattle.gltf_data.specs.Documents.{IsReadable, items_of, accessor_at, ReadsAt}
-use Rattle.gltf_data.specs.Parts.{PartsReadable, Readable, items_with, view_at}
+use Rattle.gltf_data.specs.Parts.{PartsReadable, items_with, view_at}
 use Rattle.gltf_edit.specs.Joined.{joined}
 use Rattle.gltf_moved.specs.Laws.{one_list}
 use Rattle.gltf_moved.proofs.Parts.{part_after, part_before, base_after, base_before}

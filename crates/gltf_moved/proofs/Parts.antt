@@ -1,9 +1,8 @@
 -- The parts of an accessor, over the buffers and over the one buffer.
-use Rattle.std.proofs.Common.{◌≡◌, ℕ, ◌+◌, ◌-◌, ◌*◌, ◌<◌, ◌≤◌, ◌^◌, List, [], ◌∷◌, ◌++◌, length}
-use Rattle.std.proofs.Common.{map, drop, Option, Some, None, refl, sym, ap, subst, ◌∙◌, arith}
+use Rattle.std.proofs.Common.{◌≡◌, ℕ, ◌+◌, ◌-◌, ◌*◌, ◌≤◌, List, [], ◌∷◌, ◌++◌, length}
+use Rattle.std.proofs.Common.{drop, Option, Some, None, refl, sym, ap, subst, ◌∙◌, arith}
 use Rattle.std.proofs.Common.{length-append, unwrap_or}
 use Rattle.std.proofs.Math.Nat.{mul-le-mul_left}
-use Rattle.std.specs.List.{range_with_len}
 use Rattle.std.specs.Prelude.{slice_get, option_map}
 use Rattle.gltf_json_geometry.specs.declared.buffer.View.{View}
 use Rattle.gltf_handles.specs.Members.{above_zero}
@@ -79,14 +78,14 @@ module _ (buffers : List (List ℕ)) (v w : View) (m : Moves buffers v w) (o n s
       same_below (λ i. value (drop (address (part_of v o n size) i) m.bytes))
       (λ i. value (drop (address (part_of w o n size) i) (joined buffers))) 0 n
       (λ i h.
-        let items = fits.items_within in
-        let view = fits.view_within in
-        let far : stride v size * i ≤ stride v size * (n - 1) =
-                mul-le-mul_left (stride v size) (omega arith) in
-        sym (ap (λ (xs : List ℕ). value (drop (address (part_of w o n size) i) xs)) m.whole
-        ∙ ap (λ (k : ℕ). value (drop k (m.front ++ (m.bytes ++ m.back)))) (address_after i)
-        ∙ value_among size value reads m.front m.bytes m.back (address (part_of v o n size) i)
-        (omega arith)))
+      let items = fits.items_within in
+      let view = fits.view_within in
+      let far : stride v size * i ≤ stride v size * (n - 1) =
+      mul-le-mul_left (stride v size) (omega arith) in
+      sym (ap (λ (xs : List ℕ). value (drop (address (part_of w o n size) i) xs)) m.whole
+      ∙ ap (λ (k : ℕ). value (drop k (m.front ++ (m.bytes ++ m.back)))) (address_after i)
+      ∙ value_among size value reads m.front m.bytes m.back (address (part_of v o n size) i)
+      (omega arith)))
 
   answer_after : slice_get (one_list buffers) w.buffer ≡ Some (joined buffers)
   answer_after =

@@ -1,6 +1,6 @@
 -- The views of a document whose buffers became one.
 use Rattle.std.proofs.Common.{◌≡◌, ℕ, zero, suc, ◌+◌, ◌≤◌, List, [], ◌∷◌, ◌++◌, length, Option}
-use Rattle.std.proofs.Common.{Some, None, refl, sym, ap, subst, ◌∙◌, arith, codes, unwrap_or}
+use Rattle.std.proofs.Common.{Some, None, refl, sym, ap, ◌∙◌, arith, codes, unwrap_or}
 use Rattle.std.specs.Prelude.{MatchOption, IsSome, slice_get, option_map, option_and_then, ⊤}
 use Rattle.serde_json.specs.Data.{Data, null, boolean, number, string, array, object, unsigned}
 use Rattle.serde_json.specs.Data.{Items, no_items, item}
@@ -11,8 +11,8 @@ use Rattle.gltf_json_geometry.specs.Buffers.{buffer_view}
 use Rattle.gltf_json_geometry.specs.declared.buffer.View.{View}
 use Rattle.gltf_data.specs.Parts.{view_offset}
 use Rattle.gltf_edit.specs.Joined.{joined, spans_from}
-use Rattle.gltf_edit.specs.JoinedLaws.{Stands, stands}
-use Rattle.gltf_edit.specs.Bundled.{Lies, LiesIn, IsPlaced, AllPlaced, EachPlaced, moved, mapped}
+use Rattle.gltf_edit.specs.JoinedLaws.{stands}
+use Rattle.gltf_edit.specs.Bundled.{Lies, LiesIn, AllPlaced, EachPlaced, moved, mapped}
 use Rattle.gltf_edit.specs.Bundled.{span_of, size_at, size_or_zero, each_item, bundled}
 use Rattle.gltf_edit.specs.BundledLaws.{differ, moved_buffer, moved_offset, moved_other}
 use Rattle.gltf_edit.specs.BundledLaws.{bundled_views, bundled_no_views}
@@ -57,25 +57,25 @@ module _ (buffers : List (List ℕ)) (e : Data) (v w : View) (is : buffer_view.i
   moves_at s there lies =
       let spans = spans_from 0 buffers in
       let named : size_at (codes "buffer") e ≡ Some v.buffer =
-              required_index (codes "buffer") e v.buffer is.1.0 in
+      required_index (codes "buffer") e v.buffer is.1.0 in
       let at : slice_get spans v.buffer ≡ Some s =
-              sym (ap (option_and_then (slice_get spans)) named) ∙ there in
+      sym (ap (option_and_then (slice_get spans)) named) ∙ there in
       let stand = stands 0 buffers v.buffer s at in
       let length_of : size_at (codes "byteLength") e ≡ Some v.byte_length =
-              required_size (codes "byteLength") e v.byte_length is.1.1.0 in
+      required_size (codes "byteLength") e v.byte_length is.1.1.0 in
       let offset_of : size_at (codes "byteOffset") e ≡ v.byte_offset =
-              optional_size (codes "byteOffset") e v.byte_offset is.1.1.1.0 in
+      optional_size (codes "byteOffset") e v.byte_offset is.1.1.1.0 in
       let stride_of : size_at (codes "byteStride") e ≡ v.byte_stride =
-              optional_size (codes "byteStride") e v.byte_stride is.1.1.1.1.0 in
+      optional_size (codes "byteStride") e v.byte_stride is.1.1.1.1.0 in
       let begins : size_or_zero (codes "byteOffset") e ≡ view_offset v =
-              ap (λ (o : Option ℕ). unwrap_or o 0) offset_of in
+      ap (λ (o : Option ℕ). unwrap_or o 0) offset_of in
       let goes : size_or_zero (codes "byteLength") e ≡ v.byte_length =
-              ap (λ (o : Option ℕ). unwrap_or o 0) length_of in
+      ap (λ (o : Option ℕ). unwrap_or o 0) length_of in
       let moves = size_is (codes "byteOffset") (moved spans e) _ (moved_offset spans e s is.0 there) in
       let offset_after = optional_size (codes "byteOffset") (moved spans e) w.byte_offset
-              is_after.1.1.1.0 in
+      is_after.1.1.1.0 in
       let begins_after : s.place + size_or_zero (codes "byteOffset") e ≡ view_offset w =
-              ap (λ (o : Option ℕ). unwrap_or o 0) (sym moves ∙ offset_after) in
+      ap (λ (o : Option ℕ). unwrap_or o 0) (sym moves ∙ offset_after) in
       let stay = moved_other spans e s is.0 there in
       let place = stand.place in
       let long = stand.long in

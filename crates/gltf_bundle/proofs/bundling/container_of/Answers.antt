@@ -1,8 +1,5 @@
-use Rattle.std.proofs.Common.{ap, sym, subst, ◌∙◌, List, ℕ, Some}
-use Rattle.std.specs.Prelude.{IsUtf8}
-use Rattle.gltf_json.specs.Reading.{Reads}
+use Rattle.std.proofs.Common.{ap, ◌∙◌}
 use Rattle.serde_json.specs.Read.{read}
-use Rattle.serde_json.specs.View.{view}
 use Rattle.gltf_bundle.proofs.bundling.container_of.Goals as goal
 
 pub returns-in-Ok : goal.returns-in-Ok
