@@ -1,0 +1,4 @@
+pub mod Joins
+pub mod Parts
+pub mod Imported
+pub mod Loaded

@@ -1,0 +1,18 @@
+use Rattle.gltf_buffers.specs.Names.{names_of}
+use Rattle.gltf.specs.Shown.{blob_bytes, bytes_of_each}
+use Rattle.serde_json.specs.View.{view}
+use Rattle.gltf_bundle.proofs.Loaded.{loaded}
+use Rattle.gltf_bundle.proofs.loading.load.Goals as goal
+
+pub returns : goal.returns
+returns g c =
+    let names = names_of (g.S.NamedBytes.bytes_by_name c.args.source.now) in
+    let bytes = c.in-Ok.bytes.items in
+    let file = c.in-Ok-from_slice.file in (
+      file.document,
+      loaded c.one_reading.ensures names c.args.path.now bytes c.in-Ok.ensures.gives file.document
+          (blob_bytes file.blob) (rw c.deref.ensures.value at c.in-Ok-from_slice.ensures.valid)
+          (view c.in_ok-value.value) (rw c.deref-2.ensures.value at c.in_ok-value.ensures)
+          (bytes_of_each c.in-Ok-import_buffers_from.buffers.items)
+          (rw c.in-Ok.ensures.kept at c.in-Ok-import_buffers_from.ensures.ok),
+    )

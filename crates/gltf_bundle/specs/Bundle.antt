@@ -1,0 +1,83 @@
+-- Which bytes a file is bundled to (glTF 2.0, sections 3.6.1 and 4.4).
+use Rattle.std.specs.Prelude.{◌≡◌, ◌<◌, ◌≤◌, ◌^◌, ℕ, List, [], ◌∷◌, length, Option, Some, None}
+use Rattle.serde_json.specs.Data.{Data, depth}
+use Rattle.serde_json.specs.Read.{max_depth}
+use Rattle.serde_json.specs.View.{view}
+use Rattle.gltf_edit.specs.Bundled.{bundled, ArePlaced}
+use Rattle.gltf_edit.specs.Joined.{joined, spans_from}
+use Rattle.gltf_json.specs.Documents.{root}
+use Rattle.gltf_json.specs.Reading.{Reads}
+use Rattle.gltf_json.specs.declared.root.Root.{Root}
+use Rattle.gltf_validation.specs.Documents.{Faults}
+use Rattle.gltf_glb.specs.Written.{container_bytes, total_of}
+use Rattle.gltf_names.specs.Named.{File}
+use Rattle.gltf_buffers.specs.Buffers.{sources_of, AreBytes}
+use Rattle.gltf_buffers.specs.Names.{Names, Gives}
+use Rattle.gltf.specs.Import.{AreParts, Accepts}
+use Rattle.gltf.specs.Shown.{blob_bytes, bytes_of_each}
+use Rattle.gltf_bundle.specs.declared.bundling.Joined.{Joined}
+use Rattle.gltf_bundle.specs.declared.loading.Loaded.{Loaded}
+
+-- the value of the JSON text of a file
+pub record IsValueOf (bytes : List ℕ) (value : Data) : Type 0 where
+  pub text : List ℕ
+  pub blob : Option (List ℕ)
+  pub parts : AreParts bytes text blob
+  pub reads : Reads text value
+  pub nests : depth value ≤ max_depth
+
+-- the file at the path is accepted, by its JSON value, its records and the bytes of its buffers
+pub record IsSource (names : Names) (path : List ℕ) (value : Data) (r : Root)
+    (buffers : List (List ℕ)) : Type 0 where
+  pub bytes : List ℕ
+  pub gives : Gives names (File path) bytes
+  pub text : List ℕ
+  pub blob : Option (List ℕ)
+  pub parts : AreParts bytes text blob
+  pub reads : Reads text value
+  pub nests : depth value ≤ max_depth
+  pub records : root.is value r
+  pub rules : Faults r ≡ []
+  pub data_ : AreBytes names (sources_of r) blob (length (sources_of r)) buffers
+
+-- that is what was loaded
+abbrev pub IsLoaded : Names → List ℕ → Loaded → Type 0
+IsLoaded names path loaded =
+    (r : Root) × IsSource names path (view loaded.value) r (bytes_of_each loaded.buffers.items)
+
+-- the binary buffer of a container: there is none without buffers
+abbrev pub blob_of : List (List ℕ) → Option (List ℕ)
+blob_of [] = None
+blob_of (bytes ∷ more) = Some (joined (bytes ∷ more))
+
+pub record IsJoined (buffers : List (List ℕ)) (all : Joined) : Type 0 where
+  pub blob : blob_bytes all.blob ≡ blob_of buffers
+  pub spans : all.spans.items ≡ spans_from 0 buffers
+  pub total : all.total ≡ length (joined buffers)
+  pub fits : length (joined buffers) < 2 ^ 32
+
+-- the canonical container of some text of a value and a blob
+pub record IsContainerOf (value : Data) (blob : Option (List ℕ)) (answer : List ℕ)
+    : Type 0 where
+  pub json : List ℕ
+  pub reads : depth value ≤ max_depth → Reads json value
+  pub fits : total_of json blob < 2 ^ 32
+  pub written : answer ≡ container_bytes json blob
+
+-- the answer is the canonical container of the edited value of the file at the path, and of the
+-- bytes of its buffers in one, where each view lies in its buffer
+pub record IsBundle (names : Names) (path answer : List ℕ) : Type 0 where
+  pub value : Data
+  pub root_ : Root
+  pub buffers : List (List ℕ)
+  pub source : IsSource names path value root_ buffers
+  pub placed : ArePlaced (spans_from 0 buffers) value
+  pub short : length (joined buffers) < 2 ^ 32
+  pub json : List ℕ
+  pub reads : Reads json (bundled (spans_from 0 buffers) (length (joined buffers)) value)
+  pub fits : total_of json (blob_of buffers) < 2 ^ 32
+  pub written : answer ≡ container_bytes json (blob_of buffers)
+
+-- the bytes are accepted where no name can be asked for
+abbrev pub IsAccepted : List ℕ → Type 0
+IsAccepted bytes = (r : Root) × (buffers : List (List ℕ)) × Accepts bytes r buffers

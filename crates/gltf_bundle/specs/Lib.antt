@@ -1,0 +1,3 @@
+pub mod Causes
+pub mod Bundle
+pub mod Laws

@@ -1,0 +1,125 @@
+//! One container out of a file and the files that its buffers name.
+ghost use Rattle.std.specs.Prelude.{◌≡◌, IfOk, if◌then◌else◌};
+ghost use Rattle.gltf_buffers.specs.Names.{names_of};
+ghost use Rattle.gltf_bundle.specs.Bundle.{IsBundle, IsJoined, IsAccepted, IsContainerOf};
+ghost use Rattle.gltf_glb.specs.Glb.{items_of};
+ghost use Rattle.gltf.specs.Shown.{blob_bytes, bytes_of_each};
+ghost use Rattle.serde_json.specs.View.{view};
+
+use crate::error::BundleError;
+use crate::loading::{Loaded, load};
+use gltf::buffer::Data;
+use gltf::{NamedBytes, import_slice};
+use gltf_edit::{Fault, Span, append, bundled};
+use gltf_glb::binary::Header;
+use gltf_glb::{Error, Glb};
+use serde_json::Value;
+use std::alloc::Global;
+use std::borrow::CowSlice;
+
+/// The file at a path as one GLB container (glTF 2.0, section 4.4), where files are asked of a
+/// source as [`gltf::import_from`] asks them.
+///
+/// The one buffer of the container has the bytes of all buffers, as they are imported, one after
+/// the other, each from a multiple of eight bytes on. Each view has its bytes there, and so has
+/// what `EXT_meshopt_compression` says of it. All other members keep their values; the names and
+/// extras of the buffers go with these. A chunk of unknown type and a blob that no buffer takes
+/// are dropped. An extension that is not known here and names buffers itself cannot be seen: its
+/// indices stay as they are.
+///
+/// Answers [`BundleError::Import`] with the error of the import, or where there is not enough
+/// memory; [`BundleError::View`] with the first view that does not lie in the bytes of its buffer;
+/// [`BundleError::TooLong`] where the one buffer, and [`BundleError::Answer`] where the container
+/// would have more than 4294967295 bytes. The container is imported before it is answered:
+/// [`BundleError::Answer`] also says that it is refused, which is not expected of any file.
+pub fn bundle<S: NamedBytes>(
+    alloc: Global,
+    source: &mut S,
+    path: &str,
+) -> Result<Vec<u8>, BundleError>
+    ensures bundle { IfOk result (λ answer. IsBundle (names_of (S.bytes_by_name source.old))
+        path.now answer.items) }
+    ensures accepted { IfOk result (λ answer. IsAccepted answer.items) }
+{
+    let Loaded { value, buffers } = load(alloc, source, path)?;
+    let joined = join(alloc, &buffers)?;
+    drop(buffers);
+    let value = bundled(alloc, value, &joined.spans, joined.total)?;
+    let answer = container_of(alloc, &value, joined.blob)?;
+    match import_slice(alloc, &answer) {
+        Ok(_) => Ok(answer),
+        Err(error) => Err(BundleError::Answer(error)),
+    }
+}
+
+/// The bytes of all buffers in one, where there are buffers, and where they stand there.
+#[derive(Drop)]
+struct Joined {
+    blob: Option<Vec<u8>>,
+    spans: Vec<Span>,
+    total: u32,
+}
+
+/// Joins the bytes of all buffers.
+fn join(alloc: Global, buffers: &[Data]) -> Result<Joined, Fault>
+    ensures { IfOk result (IsJoined (bytes_of_each buffers.now)) }
+{
+    let mut bytes = Vec::with_capacity(alloc, room_for(buffers))?;
+    let mut spans = Vec::with_capacity(alloc, buffers.len())?;
+    for buffer in buffers {
+        append(&mut bytes, &mut spans, &buffer.0)?;
+    }
+    let total = bytes.len() as u32;
+    let blob = unless(buffers.is_empty(), bytes);
+    Ok(Joined { blob, spans, total })
+}
+
+/// The bytes, unless there are to be none.
+fn unless(none: bool, bytes: Vec<u8>) -> Option<Vec<u8>>
+    ensures { blob_bytes result ≡ (if none then None else Some bytes.items) }
+{
+    if none { None } else { Some(bytes) }
+}
+
+/// Room for all bytes, so that memory is taken once.
+fn room_for(buffers: &[Data]) -> usize {
+    let mut room: usize = 0;
+    for buffer in buffers {
+        room = room.saturating_add(buffer.0.len()).saturating_add(7);
+    }
+    room.min(u32::MAX as usize)
+}
+
+/// The value's text and the blob as a container.
+fn container_of(alloc: Global, value: &Value, blob: Option<Vec<u8>>) -> Result<Vec<u8>, BundleError>
+    ensures { IfOk result (λ answer. IsContainerOf (view value.now) (blob_bytes blob)
+        answer.items) }
+{
+    let written = value.to_string(alloc)?;
+    let text = written.as_str();
+    // The header is that of no file: it is not looked at when the parts are written.
+    let glb = Glb {
+        header: Header {
+            magic: *b"glTF",
+            version: 2,
+            length: 0,
+        },
+        json: CowSlice::Borrowed(text.as_bytes()),
+        bin: owned(blob),
+    };
+    match glb.to_vec(alloc) {
+        Ok(answer) => Ok(answer),
+        Err(Error::Memory) => Err(BundleError::Import(Error::Memory)),
+        Err(error) => Err(BundleError::Answer(error)),
+    }
+}
+
+/// The blob, owned.
+fn owned(blob: Option<Vec<u8>>) -> Option<CowSlice<'static, u8>>
+    ensures { items_of result ≡ blob_bytes blob }
+{
+    match blob {
+        Some(blob) => Some(CowSlice::Owned(blob)),
+        None => None,
+    }
+}

@@ -1,0 +1,55 @@
+//! Why a file was not bundled.
+ghost use Rattle.std.specs.Prelude.{◌≡◌};
+ghost use Rattle.gltf_bundle.specs.declared.error.BundleError.TheVariants.{Import};
+ghost use Rattle.gltf_bundle.specs.Causes.{of_fault};
+ghost use Rattle.gltf_glb.specs.declared.error.Error.TheVariants.{Memory};
+
+use gltf_edit::Fault;
+use gltf_glb::Error;
+use std::alloc::AllocError;
+use std::fmt;
+
+/// Why a file was not bundled.
+#[derive(Debug, Drop)]
+pub enum BundleError {
+    /// The file is not imported: the error of [`gltf::import_from`]. Or there was not enough memory.
+    Import(Error),
+    /// The view at this index, or what `EXT_meshopt_compression` says of it, does not lie in its
+    /// buffer: over the one buffer it would read the bytes of another.
+    View(usize),
+    /// The one buffer would have more than 4294967295 bytes.
+    TooLong,
+    /// The container would be too long, or not be accepted.
+    Answer(Error),
+}
+
+impl From<AllocError> for BundleError {
+    ghost from_gives = { λ _ e. e ≡ Import Memory };
+
+    fn from(_cause: AllocError) -> BundleError {
+        BundleError::Import(Error::Memory)
+    }
+}
+
+impl From<Fault> for BundleError {
+    ghost from_gives = { λ fault e. e ≡ of_fault fault };
+
+    fn from(fault: Fault) -> BundleError {
+        match fault {
+            Fault::Outside(view) => BundleError::View(view),
+            Fault::TooLong => BundleError::TooLong,
+            Fault::Memory => BundleError::Import(Error::Memory),
+        }
+    }
+}
+
+impl fmt::Display for BundleError {
+    fn fmt<W: fmt::Write>(&self, f: &mut fmt::Formatter<W>) -> fmt::Result {
+        match self {
+            BundleError::Import(error) => write!(f, "{error}"),
+            BundleError::View(view) => write!(f, "bufferViews[{view}]: not within its buffer"),
+            BundleError::TooLong => write!(f, "more than 4294967295 bytes of buffers"),
+            BundleError::Answer(error) => write!(f, "the container: {error}"),
+        }
+    }
+}

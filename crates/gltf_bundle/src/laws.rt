@@ -1,0 +1,25 @@
+//! Laws of bundles. Each is a statement over definitions, proved as the contract of a function that
+//! does nothing.
+ghost use Rattle.gltf_bundle.specs.Laws.{HasOneBuffer, KeepsItems};
+
+use gltf_glb::laws::{one_reading, reads_back};
+use gltf_items::Item;
+use gltf_pack::laws::spaces_behind;
+
+/// Whatever document and buffers a bundle is imported as, the document is that of the file whose
+/// buffers became one, and its buffer is all buffers.
+pub fn one_buffer()
+    ensures { HasOneBuffer }
+{
+    one_reading();
+    reads_back();
+    spaces_behind();
+}
+
+/// Each accessor of a bundle has the items that it has in the file.
+pub fn items_are_kept<T: Item>()
+    ensures { KeepsItems ⟦<T as Item>⟧ }
+{
+    one_buffer();
+    gltf_moved::laws::items_are_kept::<T>();
+}

@@ -1,0 +1,91 @@
+//! The value of a file's JSON, and the bytes of its buffers.
+ghost use Rattle.std.specs.Prelude.{IfOk};
+ghost use Rattle.std.specs.Cow.{cow_slice_items};
+ghost use Rattle.gltf_bundle.specs.Bundle.{IsLoaded, IsValueOf};
+ghost use Rattle.gltf.specs.Import.{AreParts};
+ghost use Rattle.gltf_glb.specs.Glb.{items_of};
+ghost use Rattle.gltf_buffers.specs.Names.{names_of};
+ghost use Rattle.serde_json.specs.View.{view};
+
+use crate::error::BundleError;
+use gltf::buffer::Data;
+use gltf::{Gltf, Name, NamedBytes, import_buffers_from};
+use gltf_buffers::Ask;
+use gltf_glb::binary::Header;
+use gltf_glb::laws::one_reading;
+use gltf_glb::{Error, Glb};
+use serde_json::Value;
+use std::alloc::Global;
+use std::borrow::CowSlice;
+
+/// The value of a file's JSON, and the bytes of its buffers.
+#[derive(Drop)]
+pub(crate) struct Loaded {
+    /// The value.
+    pub(crate) value: Value,
+    /// The bytes, by index.
+    pub(crate) buffers: Vec<Data>,
+}
+
+/// Imports the file at the path, as [`gltf::import_from`] does.
+pub(crate) fn load<S: NamedBytes>(
+    alloc: Global,
+    source: &mut S,
+    path: &str,
+) -> Result<Loaded, BundleError>
+    ensures { IfOk result (IsLoaded (names_of (S.bytes_by_name source.old)) path.now) }
+{
+    // A law that the proof stands on; the call does nothing.
+    one_reading();
+    let bytes = match source.ask(alloc, Name::File(path)) {
+        Ok(bytes) => bytes,
+        Err(error) => return Err(BundleError::Import(error)),
+    };
+    let file = match Gltf::from_slice(alloc, &bytes) {
+        Ok(file) => file,
+        Err(error) => return Err(BundleError::Import(error)),
+    };
+    let Gltf { document, blob } = file;
+    let value = value_of(alloc, &bytes)?;
+    drop(bytes);
+    let buffers = match import_buffers_from(alloc, &document, Some(source), blob) {
+        Ok(buffers) => buffers,
+        Err(error) => return Err(BundleError::Import(error)),
+    };
+    Ok(Loaded { value, buffers })
+}
+
+/// The value of the JSON text of a file.
+fn value_of(alloc: Global, bytes: &[u8]) -> Result<Value, BundleError>
+    ensures { IfOk result (λ v. IsValueOf bytes.now (view v)) }
+{
+    let glb = match glb_of(bytes) {
+        Ok(glb) => glb,
+        Err(error) => return Err(BundleError::Import(error)),
+    };
+    match Value::from_slice(alloc, glb.json.as_slice()) {
+        Ok(value) => Ok(value),
+        // The file was accepted, so its text is that of a value.
+        Err(_) => Err(BundleError::Import(Error::Memory)),
+    }
+}
+
+/// The JSON text and the blob of a file, lent. The header is that of no file.
+#[tactic(auto, unfolding(gltf::specs::Import::AreParts))]
+fn glb_of(bytes: &[u8]) -> gltf_glb::Result<Glb<'_>>
+    ensures { IfOk result (λ glb. AreParts bytes.now (cow_slice_items glb.json)
+        (items_of glb.bin)) }
+{
+    if bytes.starts_with(b"glTF") {
+        return Glb::from_slice(bytes);
+    }
+    Ok(Glb {
+        header: Header {
+            magic: *b"glTF",
+            version: 2,
+            length: 0,
+        },
+        json: CowSlice::Borrowed(bytes),
+        bin: None,
+    })
+}

@@ -1,0 +1,6 @@
+pub mod Joined
+pub mod JoinedLaws
+pub mod Bundled
+pub mod BundledLaws
+pub mod DepthLaws
+pub mod Faults

@@ -1,0 +1,16 @@
+//! The law of reading. It is a statement over definitions, proved as the contract of a function that
+//! does nothing.
+ghost use Rattle.gltf_moved.specs.Laws.{KeepsItems};
+
+use gltf_data::laws::alike_documents_are_read_alike;
+use gltf_items::Item;
+use gltf_json::laws::what_shows_the_same_is_alike_in_each_member;
+
+/// A document whose buffers became one has the same items at each accessor as before, over the one
+/// buffer, where each view lies in its buffer.
+pub fn items_are_kept<T: Item>()
+    ensures { KeepsItems ⟦<T as Item>⟧ }
+{
+    what_shows_the_same_is_alike_in_each_member();
+    alike_documents_are_read_alike::<T>();
+}

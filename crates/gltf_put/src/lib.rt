@@ -1,0 +1,9 @@
+//! Files that are written whole or not at all.
+#![tactic(auto)]
+
+mod fault;
+mod place;
+mod putting;
+
+pub use fault::PutFault;
+pub use putting::put;
