@@ -7,7 +7,7 @@ set -euo pipefail
 name=$1 crates=$2 text=$3 work=$4
 top=$(cd "$(dirname "$0")/.." && pwd)
 mkdir -p "$work/crates/$name/src" "$work/.git"
-beside='^gltf_(tests|items_tests|cases?|show|repack|refusals|c)[: ]'
+beside='^gltf_(tests|guide|cases?|json_cases|use_cases|option_cases|show|repack|convert|c)[: ]'
 grep '^gltf' "$top/crates.txt" | grep -v -E "$beside" > "$work/crates.txt"
 for crate in $(cut -d: -f1 "$work/crates.txt"); do
     cp -r "$top/crates/$crate" "$work/crates"

@@ -89,7 +89,7 @@ relocated_at d (Some s) =
     let buffer = with_leaf (codes "buffer") 0 d in
     let at = s.place + size_or_zero (codes "byteOffset") d in
     let offset : depth (with_member (codes "byteOffset") (whole at) inner) ≤ depth inner =
-            with_leaf (codes "byteOffset") at inner in
+    with_leaf (codes "byteOffset") at inner in
     omega (arith, buffer, offset)
 
 module _ (spans : List Span) where

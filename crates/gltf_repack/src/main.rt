@@ -1,7 +1,6 @@
 //! Repacks a glTF file as one GLB container.
 #![tactic(auto)]
 
-mod place;
 mod refusal;
 mod run;
 

@@ -1,6 +1,6 @@
 //! Why nothing was repacked.
 use gltf_glb::Error;
-use std::alloc::AllocError;
+use gltf_put::PutFault;
 use std::{fmt, io};
 
 const USAGE: &str = "usage: gltf_repack IN OUT
@@ -21,14 +21,12 @@ the old file, a hard link, leads to it.";
 pub(crate) enum Refusal<'w> {
     /// The words are not two.
     Usage,
-    /// What stands at this name could not be read, or not be looked at.
+    /// The file of this name could not be read.
     Read(&'w str, io::Error),
     /// The first file is refused.
     File(Error),
-    /// What stands at this name is neither a file nor a link to one.
-    NoFile(&'w str),
-    /// The file of this name could not be written whole, or not take its last name.
-    Write(String, io::Error),
+    /// The second file could not be written.
+    Put(PutFault<'w>),
     /// The second file is whole, and the line that says so could not be written.
     Line(io::Error),
 }
@@ -49,9 +47,9 @@ impl From<Error> for Refusal<'_> {
     }
 }
 
-impl From<AllocError> for Refusal<'_> {
-    fn from(_cause: AllocError) -> Self {
-        Refusal::File(Error::Memory)
+impl<'w> From<PutFault<'w>> for Refusal<'w> {
+    fn from(fault: PutFault<'w>) -> Self {
+        Refusal::Put(fault)
     }
 }
 
@@ -61,8 +59,7 @@ impl fmt::Display for Refusal<'_> {
             Refusal::Usage => write!(f, "{USAGE}"),
             Refusal::Read(name, cause) => write!(f, "{name}: {cause}"),
             Refusal::File(error) => write!(f, "{error}"),
-            Refusal::NoFile(name) => write!(f, "{name}: not a regular file"),
-            Refusal::Write(name, cause) => write!(f, "{name}: {cause}"),
+            Refusal::Put(fault) => write!(f, "{fault}"),
             Refusal::Line(cause) => write!(f, "{cause}"),
         }
     }
