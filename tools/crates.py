@@ -7,7 +7,7 @@ TOP = pathlib.Path(__file__).resolve().parent.parent
 # What a crate is made of.
 PARTS = ("src", "specs", "proofs")
 # The programs for users.
-PROGRAMS = ("gltf_show", "gltf_repack")
+PROGRAMS = ("gltf_show", "gltf_repack", "gltf_convert")
 
 
 def listed():

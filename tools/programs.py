@@ -1,6 +1,6 @@
 #!/usr/bin/env python3
-"""Runs the proved programs `gltf_show` and `gltf_repack` on files that it makes. A row is a call:
-its words, its status, and what it writes; and after `gltf_repack` what is in the folder.
+"""Runs the proved programs `gltf_show`, `gltf_repack` and `gltf_convert` on files that it makes. A
+row is a call: its words, its status, and what it writes; and after the last two what is in the folder.
 `make test` calls it after `rt ci`. The last line is `N passed, M failed`."""
 import json
 import os
@@ -345,6 +345,92 @@ def takes_no_line(program, room):
     return report(program.name, ["in.gltf", "out.glb"], good, ran)
 
 
+# A file of two buffers beside it, of which one is no multiple of four bytes long.
+TWO = {
+    "asset": {"version": "2.0", "extras": [1.5, "\u00e9\n", None, 9007199254740993]},
+    "buffers": [{"byteLength": 3, "uri": "a%20b.bin"}, {"byteLength": 5, "uri": "c.bin"}],
+    "bufferViews": [
+        {"buffer": 0, "byteLength": 2, "byteOffset": 1, "name": "first"},
+        {"buffer": 1, "byteLength": 4, "byteOffset": 1, "STUDIO": {"buffer": 1}},
+        {"buffer": 1, "byteLength": 5, "extensions": {"EXT_meshopt_compression": {
+            "buffer": 0, "byteLength": 3, "byteStride": 1, "count": 3, "mode": "INDICES"}}},
+    ],
+    "accessors": [{"bufferView": 1, "componentType": 5121, "count": 4, "type": "SCALAR"}],
+    "images": [{"uri": "picture.png"}],
+    "unknown": {"b": 1e3, "a": []},
+}
+# The same with one buffer: the second begins at byte 8, the next multiple of eight.
+ONE = TWO | {
+    "buffers": [{"byteLength": 13}],
+    "bufferViews": [
+        {"buffer": 0, "byteLength": 2, "byteOffset": 1, "name": "first"},
+        {"buffer": 0, "byteLength": 4, "byteOffset": 9, "STUDIO": {"buffer": 1}},
+        {"buffer": 0, "byteLength": 5, "byteOffset": 8, "extensions": {"EXT_meshopt_compression": {
+            "buffer": 0, "byteLength": 3, "byteOffset": 0, "byteStride": 1, "count": 3,
+            "mode": "INDICES"}}},
+    ],
+}
+JOINED = bytes([1, 2, 3, 0, 0, 0, 0, 0, 4, 5, 6, 7, 8])
+CONVERT_USAGE = Begins("usage: gltf_convert IN OUT.glb\n")
+ENDING = "out.gltf: has to end in .glb: JSON with files beside it is not written\n"
+# The words, the status and the error of calls that write nothing.
+NOT_CONVERTED = [
+    (["two.gltf", "out.gltf"], 2, ENDING),
+    (["no.gltf", "out.glb"], 1, Failed("no.gltf")),
+    (["lacks.gltf", "out.glb"], 1, Failed("no.bin")),
+    (["beyond.gltf", "out.glb"], 1, "bufferViews[0]: not within its buffer\n"),
+    (["dangling.gltf", "out.glb"], 1, DANGLING),
+    (["two.gltf", "folder"], 2, "folder: " + ENDING.partition(": ")[2]),
+    (["two.gltf"], 2, CONVERT_USAGE),
+    (["two.gltf", "out.glb", "out.glb"], 2, CONVERT_USAGE),
+]
+
+
+def make_converted(room):
+    """The folder that `gltf_convert` is called in."""
+    beyond = TWO | {"bufferViews": [{"buffer": 0, "byteLength": 4}], "accessors": []}
+    lacks = TWO | {"buffers": [TWO["buffers"][0], {"byteLength": 5, "uri": "no.bin"}]}
+    make(room, {
+        "two.gltf": json.dumps(TWO).encode(),
+        "beyond.gltf": json.dumps(beyond).encode(),
+        "lacks.gltf": json.dumps(lacks).encode(),
+        "dangling.gltf": document(nodes=[{"mesh": 3, "skin": 0}]),
+        "a b.bin": JOINED[:3],
+        "c.bin": JOINED[8:],
+    })
+
+
+def converts(convert, show, room):
+    """Whether a file of two buffers becomes one container with the edited value and the joined
+    bytes, which is accepted alone, and is converted to itself."""
+    how = {"cwd": room, "capture_output": True, "text": True, "preexec_fn": started()}
+    ran = subprocess.run([convert, "two.gltf", "out.glb"], **how)
+    made = (room / "out.glb").read_bytes()
+    length = int.from_bytes(made[12:16], "little")
+    rest = made[20 + length :]
+    good = (ran.returncode, ran.stdout, ran.stderr) == (0, f"out.glb: {len(made)} bytes\n", "")
+    good = good and made[:12] == b"glTF" + struct.pack("<2I", 2, len(made))
+    good = good and made[16:20] == b"JSON" and json.loads(made[20 : 20 + length]) == ONE
+    good = good and rest == struct.pack("<I", 16) + b"BIN\0" + JOINED + bytes(3)
+    alone = room / "alone"
+    alone.mkdir()
+    (alone / "out.glb").write_bytes(made)
+    how["cwd"] = alone
+    checked = subprocess.run([show, "check", "out.glb"], **how)
+    good = good and checked.stdout == "ok buffers=1 accessors=1 meshes=0 nodes=0\n"
+    alone.chmod(0o777)
+    again = subprocess.run([convert, "out.glb", "again.glb"], **how)
+    good = good and again.returncode == 0
+    good = good and json.loads((alone / "again.glb").read_bytes()[20 : 20 + length]) == ONE | {
+        "buffers": [{"byteLength": 16}]}
+    return report(convert.name, ["two.gltf", "out.glb"], good, (ran, checked, again))
+
+
+def refuses(program, room, words, status, error):
+    """Whether a call is refused so, and leaves the folder as it was."""
+    return leaves(program, room, words, status, "", error, {})
+
+
 def copy_of(name, place):
     """A copy of a proved program, which nobody may run."""
     program = place / name
@@ -366,7 +452,11 @@ def main():
         make_repacked(room)
         good += [leaves(repack, room, *row) for row in REPACKS]
         good.append(takes_no_line(repack, room))
-        good += [takes_text_alone(program, room) for program in (show, repack)]
+        convert, room = copy_of("gltf_convert", place), place / "converted"
+        make_converted(room)
+        good += [refuses(convert, room, *row) for row in NOT_CONVERTED]
+        good.append(converts(convert, show, room))
+        good += [takes_text_alone(program, room) for program in (show, repack, convert)]
     print(f"{sum(good)} passed, {len(good) - sum(good)} failed")
     return 0 if all(good) else 1
 

@@ -4,6 +4,7 @@
 mod refusal;
 mod run;
 
+use gltf::Folder;
 pub use run::run;
 use std::env;
 use std::io::{ErrorKind, Write};
@@ -21,7 +22,14 @@ fn main(rt: HostRuntime) -> std::io::Result<ExitCode> {
     for word in &arguments {
         words.push(word.as_str())?;
     }
-    let status = run(&rt, words.as_slice(), &mut rt.stdout(), &mut rt.stderr());
+    let mut folder = Folder::new(&rt, base_of(words.as_slice()));
+    let status = run(
+        &rt,
+        &mut folder,
+        words.as_slice(),
+        &mut rt.stdout(),
+        &mut rt.stderr(),
+    );
     Ok(ExitCode::from(status))
 }
 
@@ -32,4 +40,12 @@ fn refused<E: Write>(err: &mut E, cause: std::io::Error) -> std::io::Result<Exit
     }
     writeln!(err, "gltf_convert: the words have to be UTF-8")?;
     Ok(ExitCode::from(2))
+}
+
+/// The folders of the first path: relative names are put after them.
+fn base_of<'w>(words: &[&'w str]) -> &'w str {
+    match words {
+        [path, ..] => gltf::base_of(*path),
+        [] => "",
+    }
 }

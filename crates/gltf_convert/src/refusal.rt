@@ -1,7 +1,7 @@
 //! Why nothing was converted.
+use gltf::Error;
 use gltf_bundle::BundleError;
 use gltf_put::PutFault;
-use std::alloc::AllocError;
 use std::{fmt, io};
 
 const USAGE: &str = "usage: gltf_convert IN OUT.glb
@@ -28,12 +28,8 @@ pub(crate) enum Refusal<'w> {
     Ending(&'w str),
     /// The file is refused.
     File(BundleError),
-    /// A file of this name, which was asked for, could not be read.
-    Name(String, BundleError),
     /// The container could not be written.
     Put(PutFault<'w>),
-    /// There is not enough memory for a name.
-    Memory,
     /// The container is written, and the line that says so could not be.
     Line(io::Error),
 }
@@ -46,6 +42,11 @@ impl Refusal<'_> {
             _ => 1,
         }
     }
+
+    /// Whether a file could not be read.
+    pub(crate) fn is_failed_read(&self) -> bool {
+        matches!(self, Refusal::File(BundleError::Import(Error::Io(_))))
+    }
 }
 
 impl<'w> From<PutFault<'w>> for Refusal<'w> {
@@ -54,9 +55,9 @@ impl<'w> From<PutFault<'w>> for Refusal<'w> {
     }
 }
 
-impl From<AllocError> for Refusal<'_> {
-    fn from(_cause: AllocError) -> Self {
-        Refusal::Memory
+impl From<BundleError> for Refusal<'_> {
+    fn from(error: BundleError) -> Self {
+        Refusal::File(error)
     }
 }
 
@@ -71,9 +72,7 @@ impl fmt::Display for Refusal<'_> {
                 )
             }
             Refusal::File(error) => write!(f, "{error}"),
-            Refusal::Name(name, error) => write!(f, "{name}: {error}"),
             Refusal::Put(fault) => write!(f, "{fault}"),
-            Refusal::Memory => write!(f, "out of memory"),
             Refusal::Line(cause) => write!(f, "{cause}"),
         }
     }
