@@ -28,12 +28,12 @@ abbrev pub is_scalar : Checked «Type» → Bool
 is_scalar (Valid Scalar) = true
 is_scalar _ = false
 
-abbrev pub indices_view_checks : Root → ℕ → Checks
-indices_view_checks r i =
-    optional_checks (λ v. indices_stride_checks v) (slice_get r.buffer_views.items i)
-
 abbrev pub indices_stride_checks : View → Checks
 indices_stride_checks v = Condition (is_none v.byte_stride) IndicesWithByteStride
+
+abbrev pub indices_view_checks : Root → ℕ → Checks
+indices_view_checks r i =
+    optional_checks indices_stride_checks (slice_get r.buffer_views.items i)
 
 -- the indices "MUST have SCALAR type and an unsigned integer component type" (5.24.2), as they
 -- stand, and their view has no stride (3.6.2.4)
@@ -46,13 +46,19 @@ indices_checks r a =
 abbrev pub indices_index_checks : Root → ℕ → Checks
 indices_index_checks r i = optional_checks (indices_checks r) (slice_get r.accessors.items i)
 
+abbrev pub has_attributes : Primitive → Bool
+has_attributes p = has_elements p.attributes.entries || has_elements p.unknown_attributes.items
+
 -- attributes hold one at least (5.24.1), and positions are to be there (3.7.2.1)
+abbrev pub all_attributes_checks : Root → Primitive → Checks
+all_attributes_checks r p =
+    Condition (has_attributes p) EmptyEntity
+    & Condition (is_some (first_of 1 p.attributes.entries)) NoPosition
+    & attributes_checks r.accessors.items p.attributes.entries
+
 abbrev pub primitive_checks : Root → Primitive → Checks
 primitive_checks r p =
-    member (codes "attributes")
-    (Condition (has_elements p.attributes.entries || has_elements p.unknown_attributes.items) EmptyEntity
-    & Condition (is_some (first_of 1 p.attributes.entries)) NoPosition
-    & attributes_checks r.accessors.items p.attributes.entries)
+    member (codes "attributes") (all_attributes_checks r p)
     & member (codes "indices") (optional_checks (indices_index_checks r) p.indices)
 
 -- a mesh has one primitive at least (5.23.1)

@@ -2,7 +2,7 @@
 use Rattle.std.specs.Prelude.{ℕ, ◌==◌, if◌then◌else◌, List, [], ◌∷◌, codes}
 use Rattle.gltf_json.specs.declared.root.Root.{Root}
 use Rattle.gltf_json_record.specs.Place.{Place, named, numbered, keyed}
-use Rattle.gltf_json_record.specs.Member.{bytes_eq}
+use Rattle.std.specs.Prelude.{bytes_eq}
 use Rattle.gltf_validation.specs.declared.error.Error.{Error}
 use Rattle.gltf_validation.specs.declared.error.Error.TheVariants.{IndexOutOfBounds, Invalid}
 use Rattle.gltf_validation.specs.declared.error.Error.TheVariants.{Missing, Oversize, Unsupported}

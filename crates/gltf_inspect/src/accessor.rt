@@ -1,5 +1,5 @@
 //! Accessors and their sparse parts (glTF 2.0, section 3.6.2).
-ghost use Rattle.std.specs.Prelude.{◌≡◌, ◌<◌, OnOk};
+ghost use Rattle.std.specs.Prelude.{◌≡◌, ◌<◌, OnOk, slice_get};
 ghost use Rattle.gltf_validation.specs.Locations.{places_of};
 ghost use Rattle.gltf_findings.specs.Checks.{told_after, optional_checks};
 ghost use Rattle.gltf_inspect.specs.Accessors.{may_be_normalized, in_view_checks};
@@ -124,12 +124,8 @@ fn tell_sparse(
         count: sparse.count,
     };
     let at = Location::Member(location, "indices");
-    tell_part(
-        indices,
-        views.get(sparse.indices.buffer_view.value()),
-        &at,
-        findings,
-    )?;
+    let view = sparse.indices.buffer_view.value();
+    tell_part(indices, views, view, &at, findings)?;
     let size = component_size(accessor.component_type);
     let values = Part {
         offset: sparse.values.byte_offset,
@@ -139,12 +135,8 @@ fn tell_sparse(
         count: sparse.count,
     };
     let at = Location::Member(location, "values");
-    tell_part(
-        values,
-        views.get(sparse.values.buffer_view.value()),
-        &at,
-        findings,
-    )
+    let view = sparse.values.buffer_view.value();
+    tell_part(values, views, view, &at, findings)
 }
 
 /// Packed items of a sparse part.
@@ -159,16 +151,17 @@ struct Part {
 
 fn tell_part(
     part: Part,
-    view: Option<&View>,
+    views: &[View],
+    index: usize,
     location: &Location<'_>,
     findings: &mut Findings,
 ) -> Result<(), AllocError>
     requires { 0 < part.align }
     ensures { OnOk result (findings.new ≡ told_after findings.old (places_of location.now)
-        (optional_checks (λ v. part_checks part.offset part.align part.stride part.last part.count v.now)
-        view)) }
+        (optional_checks (part_checks part.offset part.align part.stride part.last part.count)
+        (slice_get views.now index))) }
 {
-    let Some(view) = view else {
+    let Some(view) = views.get(index) else {
         return Ok(());
     };
     let at = Location::Member(location, "byteOffset");

@@ -1,9 +1,10 @@
 //! Meshes and their primitives (glTF 2.0, section 3.7).
 ghost use Rattle.std.specs.Prelude.{◌≡◌, OnOk};
 ghost use Rattle.gltf_validation.specs.Locations.{places_of};
-ghost use Rattle.gltf_findings.specs.Checks.{told_after};
+ghost use Rattle.gltf_findings.specs.Checks.{told_after, optional_checks};
 ghost use Rattle.gltf_inspect.specs.Meshes.{is_unsigned, is_scalar, indices_checks};
-ghost use Rattle.gltf_inspect.specs.Meshes.{primitive_checks, mesh_checks};
+ghost use Rattle.gltf_inspect.specs.Meshes.{primitive_checks, mesh_checks, has_attributes};
+ghost use Rattle.gltf_inspect.specs.Meshes.{all_attributes_checks, indices_index_checks};
 
 use crate::attributes::{POSITIONS, first_of, tell_attributes};
 use crate::list::{Inspect, inspect_each};
@@ -41,21 +42,53 @@ impl Inspect for Primitive {
         findings: &mut Findings,
     ) -> Result<(), AllocError> {
         let at = Location::Member(location, "attributes");
-        let is_some = !self.attributes.is_empty() || !self.unknown_attributes.is_empty();
-        findings.tell(is_some, Code::EmptyEntity, &at)?;
-        let has_positions = first_of(POSITIONS, &self.attributes).is_some();
-        findings.tell(has_positions, Code::NoPosition, &at)?;
-        tell_attributes(root.accessors.as_slice(), &self.attributes, &at, findings)?;
-        let Some(index) = self.indices else {
-            return Ok(());
-        };
-        match root.accessors.as_slice().get(index.value()) {
-            None => Ok(()),
-            Some(accessor) => {
-                let at = Location::Member(location, "indices");
-                tell_indices(accessor, root, &at, findings)
-            }
-        }
+        tell_attributes_of(self, root, &at, findings)?;
+        let at = Location::Member(location, "indices");
+        tell_indices_of(self, root, &at, findings)
+    }
+}
+
+fn has_attributes(primitive: &Primitive) -> bool
+    ensures { result ≡ has_attributes primitive.now }
+{
+    !primitive.attributes.is_empty() || !primitive.unknown_attributes.is_empty()
+}
+
+fn tell_attributes_of(
+    primitive: &Primitive,
+    root: &Root,
+    location: &Location<'_>,
+    findings: &mut Findings,
+) -> Result<(), AllocError>
+    ensures { OnOk result (findings.new ≡ told_after findings.old (places_of location.now)
+        (all_attributes_checks root.now primitive.now)) }
+{
+    findings.tell(has_attributes(primitive), Code::EmptyEntity, location)?;
+    let has_positions = first_of(POSITIONS, &primitive.attributes).is_some();
+    findings.tell(has_positions, Code::NoPosition, location)?;
+    tell_attributes(
+        root.accessors.as_slice(),
+        &primitive.attributes,
+        location,
+        findings,
+    )
+}
+
+fn tell_indices_of(
+    primitive: &Primitive,
+    root: &Root,
+    location: &Location<'_>,
+    findings: &mut Findings,
+) -> Result<(), AllocError>
+    ensures { OnOk result (findings.new ≡ told_after findings.old (places_of location.now)
+        (optional_checks (indices_index_checks root.now) primitive.now.indices)) }
+{
+    let Some(index) = primitive.indices else {
+        return Ok(());
+    };
+    match root.accessors.as_slice().get(index.value()) {
+        None => Ok(()),
+        Some(accessor) => tell_indices(accessor, root, location, findings),
     }
 }
 

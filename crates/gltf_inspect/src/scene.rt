@@ -1,9 +1,9 @@
 //! Nodes and skins (glTF 2.0, sections 3.5 and 3.7.3).
-ghost use Rattle.std.specs.Prelude.{◌≡◌, OnOk};
+ghost use Rattle.std.specs.Prelude.{◌≡◌, OnOk, length};
 ghost use Rattle.gltf_validation.specs.Locations.{places_of};
-ghost use Rattle.gltf_findings.specs.Checks.{told_after};
+ghost use Rattle.gltf_findings.specs.Checks.{told_after, optional_checks};
 ghost use Rattle.gltf_inspect.specs.Scenes.{node_checks, is_float, is_matrix, matrices_checks};
-ghost use Rattle.gltf_inspect.specs.Scenes.{skin_checks};
+ghost use Rattle.gltf_inspect.specs.Scenes.{skin_checks, matrices_index_checks};
 
 use crate::list::Inspect;
 use gltf_findings::code::Code;
@@ -44,16 +44,28 @@ impl Inspect for Skin {
     ) -> Result<(), AllocError> {
         let is_some = !self.joints.is_empty();
         findings.tell_member(is_some, Code::EmptyEntity, "joints", location)?;
-        let Some(index) = self.inverse_bind_matrices else {
-            return Ok(());
-        };
-        match root.accessors.as_slice().get(index.value()) {
-            None => Ok(()),
-            Some(accessor) => {
-                let at = Location::Member(location, "inverseBindMatrices");
-                tell_matrices(self.joints.len(), accessor, &at, findings)
-            }
-        }
+        let at = Location::Member(location, "inverseBindMatrices");
+        tell_inverse(self, root, &at, findings)
+    }
+}
+
+fn tell_inverse(
+    skin: &Skin,
+    root: &Root,
+    location: &Location<'_>,
+    findings: &mut Findings,
+) -> Result<(), AllocError>
+    ensures { OnOk result (findings.new ≡ told_after findings.old (places_of location.now)
+        (optional_checks (matrices_index_checks root.now (length skin.now.joints.items))
+        skin.now.inverse_bind_matrices)) }
+{
+    let Some(index) = skin.inverse_bind_matrices else {
+        return Ok(());
+    };
+    let joints = skin.joints.len();
+    match root.accessors.as_slice().get(index.value()) {
+        None => Ok(()),
+        Some(accessor) => tell_matrices(joints, accessor, location, findings),
     }
 }
 

@@ -1,7 +1,7 @@
 //! Buffers, their views and the views of images (glTF 2.0, sections 3.6.1 and 3.8.3).
-ghost use Rattle.std.specs.Prelude.{◌≡◌, OnOk};
+ghost use Rattle.std.specs.Prelude.{◌≡◌, OnOk, slice_get};
 ghost use Rattle.gltf_validation.specs.Locations.{places_of};
-ghost use Rattle.gltf_findings.specs.Checks.{told_after};
+ghost use Rattle.gltf_findings.specs.Checks.{told_after, optional_checks};
 ghost use Rattle.gltf_inspect.specs.Facts.{or_zero};
 ghost use Rattle.gltf_inspect.specs.Views.{buffer_checks, view_checks, image_checks, stride_checks};
 ghost use Rattle.gltf_inspect.specs.Views.{within_checks};
@@ -50,14 +50,39 @@ impl Inspect for View {
     ) -> Result<(), AllocError> {
         let is_some = 1 <= self.byte_length;
         findings.tell_member(is_some, Code::ValueNotInRange, "byteLength", location)?;
-        if let Some(stride) = self.byte_stride {
-            let at = Location::Member(location, "byteStride");
-            tell_stride(self.byte_length, stride, &at, findings)?;
-        }
-        match root.buffers.as_slice().get(self.buffer.value()) {
-            None => Ok(()),
-            Some(buffer) => tell_within(self, buffer, location, findings),
-        }
+        let at = Location::Member(location, "byteStride");
+        tell_stride_of(self, &at, findings)?;
+        tell_in_buffer(self, root, location, findings)
+    }
+}
+
+fn tell_stride_of(
+    view: &View,
+    location: &Location<'_>,
+    findings: &mut Findings,
+) -> Result<(), AllocError>
+    ensures { OnOk result (findings.new ≡ told_after findings.old (places_of location.now)
+        (optional_checks (stride_checks view.now.byte_length) view.now.byte_stride)) }
+{
+    match view.byte_stride {
+        None => Ok(()),
+        Some(stride) => tell_stride(view.byte_length, stride, location, findings),
+    }
+}
+
+fn tell_in_buffer(
+    view: &View,
+    root: &Root,
+    location: &Location<'_>,
+    findings: &mut Findings,
+) -> Result<(), AllocError>
+    ensures { OnOk result (findings.new ≡ told_after findings.old (places_of location.now)
+        (optional_checks (within_checks view.now)
+        (slice_get root.now.buffers.items view.now.buffer))) }
+{
+    match root.buffers.as_slice().get(view.buffer.value()) {
+        None => Ok(()),
+        Some(buffer) => tell_within(view, buffer, location, findings),
     }
 }
 

@@ -5,7 +5,7 @@ use Rattle.gltf_inspect.proofs.inspect.inspect.Goals as goal
 
 pub returns : goal.returns
 returns c =
-    c.new-report.ensures
+    c.new.ensures
     ∙ c.in_ok-tell_unused.ensures
     ∙ rw (
       c.in_ok-inspect_document.ensures,

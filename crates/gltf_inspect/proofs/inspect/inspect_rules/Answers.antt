@@ -8,7 +8,7 @@ use Rattle.gltf_inspect.proofs.inspect.inspect_rules.Goals as goal
 pub returns : goal.returns
 returns c =
     rw (
-      told_after-found c.args.findings.old [] (root_refusals c.args.root.now),
+      told_after-found c.args.findings.now [] (root_refusals c.args.root.now),
       ← refused [] (root_rules (counts_of c.args.root.now) c.args.root.now),
       ← c.of.ensures,
       ← c.in_ok-faults.ensures.whole,
