@@ -125,13 +125,28 @@ def shown(room):
         "abc": b"abc",
         "two.gltf": document(buffers=buffers((4, "b%20c.bin"), (4, "no%20such.bin"))),
         "locked": b"1",
+        "empty.gltf": document(),
+        "twice.gltf": document(nodes=[{"children": [2]}, {"children": [2]}, {}]),
+        "once.gltf": document(nodes=[{"children": [1]}, {}]),
+        "past.gltf": document(
+            buffers=[{"byteLength": 12}],
+            bufferViews=[{"buffer": 0, "byteLength": 12, "byteOffset": 1}],
+            accessors=[{"bufferView": 0, "byteOffset": 2, "componentType": 5126, "count": 1,
+                        "type": "VEC3"}],
+        ),
+        "fits.gltf": document(
+            buffers=[{"byteLength": 12}],
+            bufferViews=[{"buffer": 0, "byteLength": 12}],
+            accessors=[{"bufferView": 0, "componentType": 5126, "count": 1, "type": "VEC3"}],
+        ),
     }
     for name in ("missing", "folder", "locked", LONG):
         files[f"names {name[:9]}.gltf"] = document(buffers=buffers((1, name)))
     return files
 
 
-USAGE = "usage: gltf_show chunks PATH | check PATH | indices PATH MESH PRIMITIVE\n"
+USAGE = ("usage: gltf_show chunks PATH | check PATH | indices PATH MESH PRIMITIVE | "
+         "inspect PATH.. [--json]\n")
 FIRST = "this is a glTF 1.0 file; glTF 2.0 is supported\n"
 DANGLING = ("invalid glTF: nodes[0].mesh: Index out of bounds; "
             "nodes[0].skin: Index out of bounds;\n")
@@ -197,6 +212,72 @@ SHOWS = [
     (["check", "names folder.gltf"], 1, "", Failed("folder")),
     (["check", "names locked.gltf"], 1, "", Failed("locked")),
     (["check", f"names {LONG[:9]}.gltf"], 1, "", Failed(LONG)),
+]
+
+
+# The sentences of codes, and their severities, as docs/INSPECT.md has them.
+SENTENCES = {
+    "UNRESOLVED_REFERENCE": "The index leads to no element of its list.",
+    "ACCESSOR_OFFSET_ALIGNMENT": "The offset is not a multiple of the size of a component.",
+    "ACCESSOR_TOTAL_OFFSET_ALIGNMENT":
+        "The offset and that of the view together are not a multiple of the size of a component.",
+    "ACCESSOR_TOO_LONG": "The items do not fit into the view.",
+    "BUFFER_VIEW_TOO_LONG": "The view does not fit into its buffer.",
+    "NODE_PARENT_OVERRIDE": "The node is a child already.",
+    "UNUSED_OBJECT": "No member of the document names this object.",
+}
+
+
+def told(name, *found, infos=0):
+    """The report of a file: what is found as (code, pointer), of which the last are infos."""
+    errors = len(found) - infos
+    words = ["error"] * errors + ["info"] * infos
+    lines = [f"{word} {code} {pointer} {SENTENCES[code]}\n"
+             for word, (code, pointer) in zip(words, found)]
+    return f"{name}\n{''.join(lines)}{errors} errors, 0 warnings, {infos} infos, 0 hints\n"
+
+
+def told_json(name, *found, infos=0):
+    """The same as a line of JSON."""
+    errors = len(found) - infos
+    grades = [0] * errors + [2] * infos
+    messages = [{"code": code, "message": SENTENCES[code], "pointer": pointer, "severity": grade}
+                for grade, (code, pointer) in zip(grades, found)]
+    issues = {"messages": messages, "numErrors": errors, "numHints": 0, "numInfos": infos,
+              "numWarnings": 0, "truncated": False}
+    whole = {"issues": issues, "uri": name, "validatorVersion": "gltf_inspect 1"}
+    return json.dumps(whole, separators=(",", ":")) + "\n"
+
+
+def unused(*pointers):
+    return [("UNUSED_OBJECT", pointer) for pointer in pointers]
+
+
+LOST = [("UNRESOLVED_REFERENCE", "/nodes/0/mesh"), ("UNRESOLVED_REFERENCE", "/nodes/0/skin"),
+        *unused("/nodes/0")]
+TWICE = [("NODE_PARENT_OVERRIDE", "/nodes/1/children/0"), *unused("/nodes/0", "/nodes/1")]
+# Eleven bytes for an item of twelve, at an offset that is no multiple of four.
+PAST = [("ACCESSOR_OFFSET_ALIGNMENT", "/accessors/0/byteOffset"),
+        ("ACCESSOR_TOTAL_OFFSET_ALIGNMENT", "/accessors/0/byteOffset"),
+        ("ACCESSOR_TOO_LONG", "/accessors/0/byteOffset"),
+        ("BUFFER_VIEW_TOO_LONG", "/bufferViews/0/byteLength"),
+        *unused("/accessors/0")]
+
+SHOWS += [
+    (["inspect", "empty.gltf"], 0, told("empty.gltf"), ""),
+    (["inspect", "dangling.gltf"], 1, told("dangling.gltf", *LOST, infos=1), ""),
+    (["inspect", "twice.gltf"], 1, told("twice.gltf", *TWICE, infos=2), ""),
+    (["inspect", "once.gltf"], 0, told("once.gltf", *unused("/nodes/0"), infos=1), ""),
+    (["inspect", "past.gltf"], 1, told("past.gltf", *PAST, infos=1), ""),
+    (["inspect", "fits.gltf"], 0, told("fits.gltf", *unused("/accessors/0"), infos=1), ""),
+    (["inspect", "--json", "past.gltf"], 1, told_json("past.gltf", *PAST, infos=1), ""),
+    (["inspect", "twice.gltf", "empty.gltf", "--json"], 1,
+     told_json("twice.gltf", *TWICE, infos=2) + told_json("empty.gltf"), ""),
+    (["inspect", "missing", "empty.gltf"], 2, told("empty.gltf"), Failed("missing")),
+    (["inspect", "box.glb", "empty.gltf"], 1, told("empty.gltf"),
+     "box.glb: asset: missing member\n"),
+    (["inspect"], 2, "", USAGE),
+    (["inspect", "--json"], 2, "", USAGE),
 ]
 
 # What an output takes, and one byte more, before it fails.

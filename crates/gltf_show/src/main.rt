@@ -3,6 +3,7 @@
 
 mod call;
 mod chunks;
+mod findings;
 mod indices;
 mod old;
 mod refusal;

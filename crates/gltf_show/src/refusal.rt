@@ -1,5 +1,6 @@
 //! Why a call is not answered.
 use gltf::{Error, NamedFault};
+use std::alloc::AllocError;
 use std::{fmt, io};
 
 /// Why a call is not answered.
@@ -55,6 +56,12 @@ impl From<NamedFault> for Refusal {
     }
 }
 
+impl From<AllocError> for Refusal {
+    fn from(_fault: AllocError) -> Refusal {
+        Refusal::File(Error::Memory)
+    }
+}
+
 impl From<Error> for Refusal {
     fn from(error: Error) -> Refusal {
         Refusal::File(error)
@@ -66,7 +73,7 @@ impl fmt::Display for Refusal {
         match self {
             Refusal::Usage => write!(
                 f,
-                "usage: gltf_show chunks PATH | check PATH | indices PATH MESH PRIMITIVE"
+                "usage: gltf_show chunks PATH | check PATH | indices PATH MESH PRIMITIVE | inspect PATH.. [--json]"
             ),
             Refusal::File(error) => write!(f, "{error}"),
             Refusal::NoMesh => write!(f, "no such mesh"),

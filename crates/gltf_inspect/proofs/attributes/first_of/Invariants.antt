@@ -1,0 +1,8 @@
+use Rattle.std.proofs.Common.{◌≡◌}
+use Rattle.gltf_inspect.specs.Attributes.{first_of}
+use Rattle.gltf_inspect.proofs.attributes.first_of.Given as goal
+
+-- the first of those that are left is the first of all
+abbrev pub invariant-loop-semantic : goal.invariant-loop-semantic
+invariant-loop-semantic l =
+    first_of l.number l.semantic-iterator ≡ first_of l.number l.attributes.entries

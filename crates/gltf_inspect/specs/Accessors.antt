@@ -1,0 +1,82 @@
+-- Accessors and their sparse parts (glTF 2.0, section 3.6.2).
+use Rattle.std.specs.Prelude.{ℕ, ◌+◌, ◌%◌, ◌==◌, ◌||◌, not, nat_le, nat_lt, Bool, true, false, slice_get, Option, Some, None, codes}
+use Rattle.gltf_json.specs.declared.root.Root.{Root}
+use Rattle.gltf_json_record.specs.declared.validation.Checked.{Checked}
+use Rattle.gltf_json_record.specs.declared.validation.Checked.TheVariants.{Valid, Invalid}
+use Rattle.gltf_json_geometry.specs.declared.accessor.ComponentType.{ComponentType}
+use Rattle.gltf_json_geometry.specs.declared.accessor.ComponentType.TheVariants.{U32, F32}
+use Rattle.gltf_json_geometry.specs.declared.accessor.Accessor.{Accessor}
+use Rattle.gltf_json_geometry.specs.declared.accessor.sparse.Sparse.{Sparse}
+use Rattle.gltf_json_geometry.specs.declared.buffer.View.{View}
+use Rattle.gltf_findings.specs.declared.code.Code.TheVariants.{ValueNotInRange, NormalizedInvalid}
+use Rattle.gltf_findings.specs.declared.code.Code.TheVariants.{OffsetAlignment, TotalOffsetAlignment}
+use Rattle.gltf_findings.specs.declared.code.Code.TheVariants.{AccessorTooLong, SmallByteStride}
+use Rattle.gltf_findings.specs.declared.code.Code.TheVariants.{SparseCountOutOfRange}
+use Rattle.gltf_findings.specs.Checks.{Checks, Condition, ◌&◌, member, optional_checks}
+use Rattle.gltf_inspect.specs.Facts.{or_zero}
+use Rattle.gltf_inspect.specs.Items.{component_size, item_size, last_size, fit}
+
+-- normalized "MUST NOT be set to true for accessors with FLOAT or UNSIGNED_INT component type"
+-- (5.1.4)
+abbrev pub may_be_normalized : Checked ComponentType → Bool
+may_be_normalized (Valid U32) = false
+may_be_normalized (Valid F32) = false
+may_be_normalized _ = true
+
+-- the bytes of a component of the accessor, and from one packed item to the next
+abbrev pub size_of : Accessor → ℕ
+size_of a = component_size a.component_type
+
+abbrev pub packed : Accessor → ℕ
+packed a = item_size a.type_ (size_of a)
+
+-- the bytes from item to item, in the view
+abbrev pub stride_in : Accessor → Option ℕ → ℕ
+stride_in a None = packed a
+stride_in a (Some stride) = stride
+
+-- "the offset of an accessor into a bufferView [..] and the offset of an accessor into a buffer
+-- [..] MUST be a multiple of the size of the accessor's component type", "each accessor MUST fit its
+-- bufferView", and a stride is at least the size of an item (3.6.2.4)
+abbrev pub in_view_checks : Accessor → View → Checks
+in_view_checks a v =
+    Condition (nat_le (packed a) (stride_in a v.byte_stride)) SmallByteStride
+    & member (codes "byteOffset")
+    (Condition ((or_zero a.byte_offset + or_zero v.byte_offset) % size_of a == 0) TotalOffsetAlignment
+    & Condition (a.count == 0 || nat_lt (stride_in a v.byte_stride) (packed a)
+    || fit (or_zero a.byte_offset) (stride_in a v.byte_stride) a.count
+    (last_size a.type_ (size_of a)) v.byte_length) AccessorTooLong)
+
+-- the same of count packed items of a sparse part, each of so many bytes
+abbrev pub part_checks : ℕ → ℕ → ℕ → ℕ → ℕ → View → Checks
+part_checks offset align stride last count v =
+    member (codes "byteOffset")
+    (Condition ((offset + or_zero v.byte_offset) % align == 0) TotalOffsetAlignment
+    & Condition (count == 0 || fit offset stride count last v.byte_length) AccessorTooLong)
+
+-- as many items are replaced as there are, at most (5.2.1)
+abbrev pub sparse_checks : Root → Accessor → Sparse → Checks
+sparse_checks r a s =
+    member (codes "count") (Condition (nat_le 1 s.count) ValueNotInRange
+    & Condition (nat_le s.count a.count) SparseCountOutOfRange)
+    & member (codes "indices") (optional_checks
+    (part_checks s.indices.byte_offset (component_size s.indices.component_type)
+    (component_size s.indices.component_type) (component_size s.indices.component_type) s.count)
+    (slice_get r.buffer_views.items s.indices.buffer_view))
+    & member (codes "values") (optional_checks
+    (part_checks s.values.byte_offset (size_of a) (packed a) (last_size a.type_ (size_of a)) s.count)
+    (slice_get r.buffer_views.items s.values.buffer_view))
+
+abbrev pub base_checks : Root → Accessor → ℕ → Checks
+base_checks r a i = optional_checks (in_view_checks a) (slice_get r.buffer_views.items i)
+
+-- count is at least 1 (5.1.5)
+abbrev pub accessor_checks : Root → Accessor → Checks
+accessor_checks r a =
+    member (codes "count") (Condition (nat_le 1 a.count) ValueNotInRange)
+    & member (codes "normalized")
+    (Condition (not a.normalized || may_be_normalized a.component_type) NormalizedInvalid)
+    & member (codes "byteOffset")
+    (Condition (or_zero a.byte_offset % size_of a == 0) OffsetAlignment)
+    & optional_checks (base_checks r a) a.buffer_view
+    & member (codes "sparse") (optional_checks (sparse_checks r a) a.sparse)

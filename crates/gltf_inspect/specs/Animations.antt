@@ -1,0 +1,59 @@
+-- Animations (glTF 2.0, section 3.11).
+use Rattle.std.specs.Prelude.{ℕ, ◌&&◌, ◌||◌, not, Bool, true, false, is_none, nat_le, slice_get, codes}
+use Rattle.gltf_json.specs.declared.root.Root.{Root}
+use Rattle.gltf_json_record.specs.declared.validation.Checked.{Checked}
+use Rattle.gltf_json_record.specs.declared.validation.Checked.TheVariants.{Valid}
+use Rattle.gltf_json_animation.specs.declared.animation.Animation.{Animation}
+use Rattle.gltf_json_animation.specs.declared.animation.Channel.{Channel}
+use Rattle.gltf_json_animation.specs.declared.animation.Interpolation.{Interpolation}
+use Rattle.gltf_json_animation.specs.declared.animation.Interpolation.TheVariants.{CubicSpline}
+use Rattle.gltf_json_animation.specs.declared.animation.Property.{Property}
+use Rattle.gltf_json_animation.specs.declared.animation.Property.TheVariants.{MorphTargetWeights}
+use Rattle.gltf_json_animation.specs.declared.animation.Sampler.{Sampler}
+use Rattle.gltf_json_geometry.specs.declared.accessor.Accessor.{Accessor}
+use Rattle.gltf_json_scene.specs.declared.scene.Node.{Node}
+use Rattle.gltf_findings.specs.declared.code.Code.TheVariants.{EmptyEntity, ChannelTargetMatrix}
+use Rattle.gltf_findings.specs.declared.code.Code.TheVariants.{InputInvalidFormat}
+use Rattle.gltf_findings.specs.declared.code.Code.TheVariants.{InputWithoutBounds, InputTooFewElements}
+use Rattle.gltf_findings.specs.Checks.{Checks, Condition, ◌&◌, member, optional_checks, list_checks}
+use Rattle.gltf_inspect.specs.Facts.{has_elements, is_bounded}
+use Rattle.gltf_inspect.specs.Meshes.{is_scalar}
+use Rattle.gltf_inspect.specs.Scenes.{is_float}
+
+abbrev pub is_weights : Checked Property → Bool
+is_weights (Valid MorphTargetWeights) = true
+is_weights _ = false
+
+-- "when a node is targeted for animation (referenced by an animation.channel.target), only TRS
+-- properties MAY be present; matrix MUST NOT be present" (5.25)
+abbrev pub target_node_checks : Checked Property → Node → Checks
+target_node_checks path n = Condition (is_weights path || is_none n.matrix) ChannelTargetMatrix
+
+abbrev pub channel_checks : Root → Channel → Checks
+channel_checks r c =
+    member (codes "target") (member (codes "path")
+    (optional_checks (target_node_checks c.target.path) (slice_get r.nodes.items c.target.node)))
+
+abbrev pub is_spline : Checked Interpolation → Bool
+is_spline (Valid CubicSpline) = true
+is_spline _ = false
+
+-- the times are SCALAR floats, with min and max; a cubic spline has two at least (5.8)
+abbrev pub input_checks : Checked Interpolation → Accessor → Checks
+input_checks interpolation a =
+    Condition (is_float a.component_type && is_scalar a.type_) InputInvalidFormat
+    & Condition (is_bounded a) InputWithoutBounds
+    & Condition (not (is_spline interpolation) || nat_le 2 a.count) InputTooFewElements
+
+abbrev pub sampler_checks : Root → Sampler → Checks
+sampler_checks r s =
+    member (codes "input")
+    (optional_checks (input_checks s.interpolation) (slice_get r.accessors.items s.input))
+
+-- an animation has one channel and one sampler at least (5.5)
+abbrev pub animation_checks : Root → Animation → Checks
+animation_checks r a =
+    member (codes "channels") (Condition (has_elements a.channels.items) EmptyEntity
+    & list_checks (channel_checks r) a.channels.items)
+    & member (codes "samplers") (Condition (has_elements a.samplers.items) EmptyEntity
+    & list_checks (sampler_checks r) a.samplers.items)

@@ -1,0 +1,15 @@
+pub mod Facts
+pub mod Refusals
+pub mod Extensions
+pub mod Views
+pub mod Items
+pub mod Accessors
+pub mod Materials
+pub mod Attributes
+pub mod Meshes
+pub mod Scenes
+pub mod Parents
+pub mod Marks
+pub mod Animations
+pub mod Unused
+pub mod Documents

@@ -1,0 +1,130 @@
+//! The attributes of a primitive (glTF 2.0, section 3.7.2.1).
+ghost use Rattle.std.specs.Prelude.{◌≡◌, OnOk};
+ghost use Rattle.gltf_validation.specs.Locations.{places_of};
+ghost use Rattle.gltf_findings.specs.Checks.{told_after};
+ghost use Rattle.gltf_inspect.specs.Facts.{is_bounded};
+ghost use Rattle.gltf_inspect.specs.Attributes.{meaning_number, first_of, count_at, agree};
+ghost use Rattle.gltf_inspect.specs.Attributes.{vertex_count, attribute_checks};
+ghost use Rattle.gltf_inspect.specs.Attributes.{attributes_checks};
+
+use gltf_findings::code::Code;
+use gltf_findings::findings::Findings;
+use gltf_json_geometry::accessor::Accessor;
+use gltf_json_geometry::semantic::Semantic;
+use gltf_json_record::index::Index;
+use gltf_json_record::kinds;
+use gltf_validation::location::Location;
+use std::alloc::AllocError;
+use std::collections::BTreeMap;
+
+/// The number of positions.
+pub(crate) const POSITIONS: u8 = 1;
+
+const NORMALS: u8 = 2;
+
+const TANGENTS: u8 = 3;
+
+fn meaning_number(semantic: &Semantic) -> u8
+    ensures { result ≡ meaning_number semantic.now }
+{
+    match semantic {
+        Semantic::Positions => POSITIONS,
+        Semantic::Normals => NORMALS,
+        Semantic::Tangents => TANGENTS,
+        _ => 0,
+    }
+}
+
+/// The accessor of the first attribute whose meaning has this number.
+pub(crate) fn first_of(
+    number: u8,
+    attributes: &BTreeMap<Semantic, Index<kinds::Accessor>>,
+) -> Option<usize>
+    ensures { result ≡ first_of number attributes.now.entries }
+{
+    for (semantic, index) in attributes {
+        if meaning_number(semantic) == number {
+            return Some(index.value());
+        }
+    }
+    None
+}
+
+fn count_at(accessors: &[Accessor], index: usize) -> Option<u64>
+    ensures { result ≡ count_at accessors.now index }
+{
+    match accessors.get(index) {
+        None => None,
+        Some(accessor) => Some(accessor.count),
+    }
+}
+
+fn vertex_count(
+    accessors: &[Accessor],
+    attributes: &BTreeMap<Semantic, Index<kinds::Accessor>>,
+) -> Option<u64>
+    ensures { result ≡ vertex_count accessors.now attributes.now.entries }
+{
+    match first_of(POSITIONS, attributes) {
+        Some(index) => count_at(accessors, index),
+        None => {
+            let (_semantic, index) = attributes.iter().next()?;
+            count_at(accessors, index.value())
+        }
+    }
+}
+
+fn agree(vertices: Option<u64>, count: u64) -> bool
+    ensures { result ≡ agree vertices count }
+{
+    match vertices {
+        None => true,
+        Some(vertices) => vertices == count,
+    }
+}
+
+/// Whether an accessor states its least and greatest values.
+pub(crate) fn is_bounded(accessor: &Accessor) -> bool
+    ensures { result ≡ is_bounded accessor.now }
+{
+    accessor.min.is_some() && accessor.max.is_some()
+}
+
+/// Tells what is found in each attribute, in the order of their meanings.
+pub(crate) fn tell_attributes(
+    accessors: &[Accessor],
+    attributes: &BTreeMap<Semantic, Index<kinds::Accessor>>,
+    location: &Location<'_>,
+    findings: &mut Findings,
+) -> Result<(), AllocError>
+    ensures { OnOk result (findings.new ≡ told_after findings.old (places_of location.now)
+        (attributes_checks accessors.now attributes.now.entries)) }
+{
+    let vertices = vertex_count(accessors, attributes);
+    let has_normals = first_of(NORMALS, attributes).is_some();
+    for (semantic, index) in attributes {
+        let at = Location::Attribute(&*location, semantic);
+        let is_of_use = meaning_number(semantic) != TANGENTS || has_normals;
+        findings.tell(is_of_use, Code::TangentWithoutNormal, &at)?;
+        if let Some(accessor) = accessors.get(index.value()) {
+            tell_attribute(vertices, semantic, accessor, &at, findings)?;
+        }
+    }
+    Ok(())
+}
+
+fn tell_attribute(
+    vertices: Option<u64>,
+    semantic: &Semantic,
+    accessor: &Accessor,
+    location: &Location<'_>,
+    findings: &mut Findings,
+) -> Result<(), AllocError>
+    ensures { OnOk result (findings.new ≡ told_after findings.old (places_of location.now)
+        (attribute_checks vertices semantic.now accessor.now)) }
+{
+    let is_equal = agree(vertices, accessor.count);
+    findings.tell(is_equal, Code::UnequalAccessorCount, location)?;
+    let is_in_order = meaning_number(semantic) != POSITIONS || is_bounded(accessor);
+    findings.tell(is_in_order, Code::PositionWithoutBounds, location)
+}

@@ -1,0 +1,113 @@
+//! All that is found in a document.
+ghost use Rattle.std.specs.Prelude.{◌≡◌, [], IfOk, OnOk};
+ghost use Rattle.gltf_validation.specs.Locations.{places_of};
+ghost use Rattle.gltf_findings.specs.Checks.{told_after, findings_of};
+ghost use Rattle.gltf_inspect.specs.Documents.{record_checks, document_checks, root_checks};
+ghost use Rattle.gltf_inspect.specs.Refusals.{root_refusals};
+
+use crate::extensions::{tell_required, tell_used};
+use crate::list::inspect_list;
+use crate::parents::tell_parents;
+use crate::refusal::tell_refusals;
+use crate::unused::tell_unused;
+use gltf_findings::findings::Findings;
+use gltf_findings::report::Report;
+use gltf_json::root::Root;
+use gltf_validation::counts::Counts;
+use gltf_validation::location::Location;
+use gltf_validation::validate::faults_of;
+use std::alloc::{AllocError, Global};
+
+/// All that is found in a document, whether the rules of loading hold or not: first the broken
+/// rules, then what is found in each record, then in several at once, and last the objects that
+/// nothing names. The report has a code at a path exactly where the condition of that code stands
+/// at that path and is false.
+///
+/// It takes time in proportion to the document, and memory for the findings and a byte for each
+/// node and each object. Fails where there is no memory.
+pub fn inspect(alloc: Global, root: &Root) -> Result<Report, AllocError>
+    ensures { IfOk result (λ report. report ≡ findings_of [] (root_checks root.now)) }
+{
+    let mut findings = Findings::new(alloc);
+    inspect_rules(alloc, root, &mut findings)?;
+    inspect_records(root, &Location::Whole, &mut findings)?;
+    inspect_document(alloc, root, &Location::Whole, &mut findings)?;
+    tell_unused(alloc, root, &Location::Whole, &mut findings)?;
+    Ok(Report::new(findings))
+}
+
+fn inspect_rules(alloc: Global, root: &Root, findings: &mut Findings) -> Result<(), AllocError>
+    ensures { OnOk result (findings.new ≡ told_after findings.old [] (root_refusals root.now)) }
+{
+    let faults = faults_of(alloc, root, &Counts::of(root))?;
+    tell_refusals(alloc, faults.as_slice(), findings)
+}
+
+fn inspect_records(
+    root: &Root,
+    location: &Location<'_>,
+    findings: &mut Findings,
+) -> Result<(), AllocError>
+    ensures { OnOk result (findings.new ≡ told_after findings.old (places_of location.now)
+        (record_checks root.now)) }
+{
+    inspect_list(
+        root.accessors.as_slice(),
+        "accessors",
+        root,
+        location,
+        findings,
+    )?;
+    inspect_list(
+        root.animations.as_slice(),
+        "animations",
+        root,
+        location,
+        findings,
+    )?;
+    inspect_list(root.buffers.as_slice(), "buffers", root, location, findings)?;
+    inspect_list(
+        root.buffer_views.as_slice(),
+        "bufferViews",
+        root,
+        location,
+        findings,
+    )?;
+    inspect_list(root.images.as_slice(), "images", root, location, findings)?;
+    inspect_list(
+        root.materials.as_slice(),
+        "materials",
+        root,
+        location,
+        findings,
+    )?;
+    inspect_list(root.meshes.as_slice(), "meshes", root, location, findings)?;
+    inspect_list(root.nodes.as_slice(), "nodes", root, location, findings)?;
+    inspect_list(root.skins.as_slice(), "skins", root, location, findings)
+}
+
+fn inspect_document(
+    alloc: Global,
+    root: &Root,
+    location: &Location<'_>,
+    findings: &mut Findings,
+) -> Result<(), AllocError>
+    ensures { OnOk result (findings.new ≡ told_after findings.old (places_of location.now)
+        (document_checks root.now)) }
+{
+    let used = root.extensions_used.as_slice();
+    let required = Location::Member(location, "extensionsRequired");
+    tell_required(
+        used,
+        root.extensions_required.as_slice(),
+        &required,
+        findings,
+    )?;
+    tell_used(
+        used,
+        &Location::Member(location, "extensionsUsed"),
+        findings,
+    )?;
+    let nodes = Location::Member(location, "nodes");
+    tell_parents(alloc, root.nodes.as_slice(), &nodes, findings)
+}
