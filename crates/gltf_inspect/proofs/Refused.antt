@@ -6,7 +6,6 @@ use Rattle.gltf_validation.specs.declared.error.Error.{Error}
 use Rattle.gltf_validation.specs.declared.error.Error.TheVariants.{IndexOutOfBounds, Invalid}
 use Rattle.gltf_validation.specs.declared.error.Error.TheVariants.{Missing, Oversize, Unsupported}
 use Rattle.gltf_validation.specs.Rules as rules
-use Rattle.gltf_validation.proofs.Broken.{broken-append}
 use Rattle.gltf_findings.specs.declared.code.Code.{Code}
 use Rattle.gltf_findings.specs.declared.code.Code.TheVariants as code
 use Rattle.gltf_findings.specs.declared.code.Severity.TheVariants as grave
@@ -14,6 +13,14 @@ use Rattle.gltf_findings.specs.Codes.{severity, severity_number}
 use Rattle.gltf_findings.specs.Checks.{findings_of}
 use Rattle.gltf_findings.specs.Reports.{count_of}
 use Rattle.gltf_inspect.specs.Refusals.{refusals, refusal, refusal_code, last_of}
+
+broken-append : (a b : List rules.Check) → rules.broken (a ++ b) ≡ rules.broken a ++ rules.broken b
+broken-append [] b = refl
+broken-append (c ∷ cs) b =
+    let step : rules.broken (cs ++ b) ≡ rules.broken cs ++ rules.broken b = broken-append cs b in
+    elim (c.holds) as (λ h. (if h then rules.broken (cs ++ b) else (c.path, c.error) ∷ rules.broken (cs ++ b))
+    ≡ (if h then rules.broken cs else (c.path, c.error) ∷ rules.broken cs) ++ rules.broken b)
+    [ true ↦ step | false ↦ ap (λ xs. (c.path, c.error) ∷ xs) step ]
 
 last-push : (d s : Place) (path : List Place) → last_of d (path ++ s ∷ []) ≡ s
 last-push d s [] = refl

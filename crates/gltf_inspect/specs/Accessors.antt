@@ -2,7 +2,7 @@
 use Rattle.std.specs.Prelude.{ℕ, ◌+◌, ◌%◌, ◌==◌, ◌||◌, not, nat_le, nat_lt, Bool, true, false, slice_get, Option, Some, None, codes}
 use Rattle.gltf_json.specs.declared.root.Root.{Root}
 use Rattle.gltf_json_record.specs.declared.validation.Checked.{Checked}
-use Rattle.gltf_json_record.specs.declared.validation.Checked.TheVariants.{Valid, Invalid}
+use Rattle.gltf_json_record.specs.declared.validation.Checked.TheVariants.{Valid}
 use Rattle.gltf_json_geometry.specs.declared.accessor.ComponentType.{ComponentType}
 use Rattle.gltf_json_geometry.specs.declared.accessor.ComponentType.TheVariants.{U32, F32}
 use Rattle.gltf_json_geometry.specs.declared.accessor.Accessor.{Accessor}

@@ -1,5 +1,5 @@
 -- Animations (glTF 2.0, section 3.11).
-use Rattle.std.specs.Prelude.{ℕ, ◌&&◌, ◌||◌, not, Bool, true, false, is_none, nat_le, slice_get, codes}
+use Rattle.std.specs.Prelude.{◌&&◌, ◌||◌, not, Bool, true, false, is_none, nat_le, slice_get, codes}
 use Rattle.gltf_json.specs.declared.root.Root.{Root}
 use Rattle.gltf_json_record.specs.declared.validation.Checked.{Checked}
 use Rattle.gltf_json_record.specs.declared.validation.Checked.TheVariants.{Valid}

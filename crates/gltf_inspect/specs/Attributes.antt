@@ -1,5 +1,5 @@
 -- The attributes of a primitive (glTF 2.0, section 3.7.2.1).
-use Rattle.std.specs.Prelude.{ℕ, ◌==◌, ◌||◌, not, if◌then◌else◌, Bool, true, is_some, nat_eq, slice_get, List, [], ◌∷◌}
+use Rattle.std.specs.Prelude.{ℕ, ◌==◌, ◌||◌, not, if◌then◌else◌, Bool, true, is_some, slice_get, List, [], ◌∷◌}
 use Rattle.std.specs.Prelude.{Option, Some, None}
 use Rattle.gltf_json_geometry.specs.Semantics.{semantic_name}
 use Rattle.gltf_json_geometry.specs.declared.accessor.Accessor.{Accessor}

@@ -1,5 +1,5 @@
 -- The rules of loading as checks: each broken one is found, where it stands.
-use Rattle.std.specs.Prelude.{ℕ, ◌==◌, if◌then◌else◌, List, [], ◌∷◌, codes}
+use Rattle.std.specs.Prelude.{if◌then◌else◌, List, [], ◌∷◌, codes}
 use Rattle.gltf_json.specs.declared.root.Root.{Root}
 use Rattle.gltf_json_record.specs.Place.{Place, named, numbered, keyed}
 use Rattle.std.specs.Prelude.{bytes_eq}

@@ -1,5 +1,5 @@
 -- Buffers, their views (glTF 2.0, section 3.6.1), and the views of images (section 3.8.3).
-use Rattle.std.specs.Prelude.{ℕ, ◌+◌, ◌%◌, ◌==◌, ◌&&◌, ◌||◌, not, nat_le, nat_lt, is_none, slice_get, codes}
+use Rattle.std.specs.Prelude.{ℕ, ◌+◌, ◌%◌, ◌==◌, ◌&&◌, ◌||◌, nat_le, nat_lt, is_none, slice_get, codes}
 use Rattle.gltf_json.specs.declared.root.Root.{Root}
 use Rattle.gltf_json_geometry.specs.declared.buffer.Buffer.{Buffer}
 use Rattle.gltf_json_geometry.specs.declared.buffer.View.{View}
@@ -7,7 +7,7 @@ use Rattle.gltf_json_scene.specs.declared.image.Image.{Image}
 use Rattle.gltf_findings.specs.declared.code.Code.TheVariants.{ValueNotInRange, ValueMultipleOf}
 use Rattle.gltf_findings.specs.declared.code.Code.TheVariants.{ViewTooBigByteStride, ViewTooLong}
 use Rattle.gltf_findings.specs.declared.code.Code.TheVariants.{ImageViewWithByteStride}
-use Rattle.gltf_findings.specs.Checks.{Checks, Nothing, Condition, ◌&◌, member, optional_checks}
+use Rattle.gltf_findings.specs.Checks.{Checks, Condition, ◌&◌, member, optional_checks}
 use Rattle.gltf_inspect.specs.Facts.{or_zero}
 
 -- byteLength is at least 1 (5.10.2)

@@ -1,6 +1,8 @@
 //! All that is found in a document.
 ghost use Rattle.std.specs.Prelude.{◌≡◌, [], IfOk, OnOk};
 ghost use Rattle.gltf_validation.specs.Locations.{places_of};
+ghost use Rattle.gltf_validation.specs.Documents.{counts_of, root_rules};
+ghost use Rattle.gltf_validation.specs.Rules.{broken, checks_at};
 ghost use Rattle.gltf_findings.specs.Checks.{told_after, findings_of};
 ghost use Rattle.gltf_inspect.specs.Documents.{record_checks, document_checks, root_checks};
 ghost use Rattle.gltf_inspect.specs.Refusals.{root_refusals};
@@ -11,9 +13,12 @@ use crate::parents::tell_parents;
 use crate::refusal::tell_refusals;
 use crate::unused::tell_unused;
 use gltf_findings::findings::Findings;
+use gltf_findings::laws::a_walk_adds_what_is_found;
 use gltf_findings::report::Report;
 use gltf_json::root::Root;
+use gltf_json_record::path::Path;
 use gltf_validation::counts::Counts;
+use gltf_validation::error::Error;
 use gltf_validation::location::Location;
 use gltf_validation::validate::faults_of;
 use std::alloc::{AllocError, Global};
@@ -28,6 +33,8 @@ use std::alloc::{AllocError, Global};
 pub fn inspect(alloc: Global, root: &Root) -> Result<Report, AllocError>
     ensures { IfOk result (λ report. report ≡ findings_of [] (root_checks root.now)) }
 {
+    // A law that the proof stands on; the call does nothing.
+    a_walk_adds_what_is_found();
     let mut findings = Findings::new(alloc);
     inspect_rules(alloc, root, &mut findings)?;
     inspect_records(root, &Location::Whole, &mut findings)?;
@@ -39,8 +46,17 @@ pub fn inspect(alloc: Global, root: &Root) -> Result<Report, AllocError>
 fn inspect_rules(alloc: Global, root: &Root, findings: &mut Findings) -> Result<(), AllocError>
     ensures { OnOk result (findings.new ≡ told_after findings.old [] (root_refusals root.now)) }
 {
-    let faults = faults_of(alloc, root, &Counts::of(root))?;
+    // The same law.
+    a_walk_adds_what_is_found();
+    let faults = broken_rules(alloc, root)?;
     tell_refusals(alloc, faults.as_slice(), findings)
+}
+
+fn broken_rules(alloc: Global, root: &Root) -> Result<Vec<(Path, Error)>, AllocError>
+    ensures { IfOk result (λ faults. faults.items
+        ≡ broken (checks_at [] (root_rules (counts_of root.now) root.now))) }
+{
+    faults_of(alloc, root, &Counts::of(root))
 }
 
 fn inspect_records(

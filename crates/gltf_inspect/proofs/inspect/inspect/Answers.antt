@@ -1,5 +1,4 @@
-use Rattle.std.proofs.Common.{[], ◌∙◌, sym}
-use Rattle.gltf_findings.proofs.Found.{told_after-found}
+use Rattle.std.proofs.Common.{[], ◌∙◌}
 use Rattle.gltf_inspect.specs.Documents.{root_checks}
 use Rattle.gltf_inspect.proofs.inspect.inspect.Goals as goal
 
@@ -13,4 +12,4 @@ returns c =
       c.in_ok-inspect_rules.ensures,
       c.new-findings.ensures,
     )
-    (told_after-found [] [] (root_checks c.args.root.now))
+    (c.a_walk_adds_what_is_found.ensures [] [] (root_checks c.args.root.now))
