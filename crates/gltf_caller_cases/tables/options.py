@@ -1,6 +1,6 @@
-"""Files that require extensions which the caller handles (glTF 2.0, section 3.12): names of the list
-leave `extensionsRequired`, and come beside the document in the order of the file. What is left has
-to be supported by the loader. The rest is as in a file that requires no such extension."""
+"""Files that require extensions which the caller handles (glTF 2.0, section 3.12): names of the
+list leave `extensionsRequired`, and come beside the document in the order of the file. What is left
+has to be supported by the loader. The rest is as in a file that requires no such extension."""
 import json
 import pathlib
 
@@ -93,7 +93,7 @@ def rows():
     for file, found in SAME:
         yield f"import : {file}", found
         yield f"slice - : {file}", found
-    # A file that none is beside is accepted with a list that has other names, as without.
+    # A list of names that a file does not require changes nothing.
     yield f"slice A,B : {text(extensionsRequired=[UNLIT])}", answer([], [UNLIT], [])
     yield f"slice A : {text(extensionsUsed=['A'])}", answer(["A"], [], [])
     # The other rules hold as before, and come in the order of the members.
@@ -110,7 +110,8 @@ def rows():
     yield f"slice +0506 B : {PLAIN}", unsupported(0)
     yield f"shelf +05060708 A a.gltf : {PLAIN}", f"{TAKEN}; 05060708"
     yield f"shelf A a.gltf b=0304 : {BOTH}", f"{TAKEN}; 00010200; 03040000"
-    # The source fails at the path, at a buffer, and after a document that is refused at none.
+    # The source fails at the path or at a buffer. Of a document that is refused no buffer is asked
+    # for.
     failed = "neither read nor written"
     yield f"shelf A b.gltf : {ONE}", f"{failed}; b.gltf failed"
     yield f"shelf A a.gltf fail=0 b=0304 : {BOTH}", f"{failed}; a.gltf failed"
@@ -118,11 +119,14 @@ def rows():
     yield f"shelf A a.gltf fail=2 b=0304 : {BOTH}", f"{TAKEN}; 00010200; 03040000"
     yield f"shelf A a.gltf c=0304 : {BOTH}", f"{failed}; b failed"
     yield f"shelf B a.gltf fail=1 b=0304 : {BOTH}", unsupported(0)
-    # Readers that end early or fail. A text is given whole; so many bytes were given.
+    # Readers that end early or fail, after so many bytes. What ends before the four bytes that could
+    # be those of a container is an I/O error, as a failure is; a text that ends later is none.
     yield f"reader A end:{len(ONE)} : {ONE}", f"{TAKEN}; {len(ONE)} given"
-    for at in (0, 1, 20, len(ONE) - 1):
+    for at in (0, 1, 3):
+        yield f"reader A end:{at} : {ONE}", f"{failed}; {at} given"
+    for at in (4, 20, len(ONE) - 1):
         yield f"reader A end:{at} : {ONE}", f"no JSON; {at} given"
-    for at in (0, 1, 20, len(ONE)):
+    for at in (0, 1, 4, 20, len(ONE)):
         yield f"reader A fail:{at} : {ONE}", f"{failed}; {at} given"
     # A container of a header and the heads of two chunks.
     whole = 12 + 8 + (len(PLAIN) + 3) // 4 * 4 + 8 + 4
