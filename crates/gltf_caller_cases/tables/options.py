@@ -119,8 +119,8 @@ def rows():
     yield f"shelf A a.gltf fail=2 b=0304 : {BOTH}", f"{TAKEN}; 00010200; 03040000"
     yield f"shelf A a.gltf c=0304 : {BOTH}", f"{failed}; b failed"
     yield f"shelf B a.gltf fail=1 b=0304 : {BOTH}", unsupported(0)
-    # Readers that end early or fail, after so many bytes. Fewer than the four bytes that could begin
-    # a container are an I/O error, as a failure is; a text that ends later is no JSON.
+    # Readers that end early or fail, after so many bytes. Fewer than the four bytes that could
+    # begin a container are an I/O error, as a failure is; a text that ends later is no JSON.
     yield f"reader A end:{len(ONE)} : {ONE}", f"{TAKEN}; {len(ONE)} given"
     for at in (0, 1, 3):
         yield f"reader A end:{at} : {ONE}", f"{failed}; {at} given"
