@@ -2,7 +2,7 @@
 use crate::buffers::buffers_of;
 use gltf::buffer::{Data, bytes_of};
 use gltf::mesh::{Primitive, Reader, Semantic};
-use gltf::{Buffer, Document, Skin, animation, skin};
+use gltf::{Buffer, Document, animation, skin};
 use gltf_access::NotRead;
 use gltf_access::animation::{why_no_inputs, why_no_outputs};
 use gltf_access::mesh::{why_no_indices, why_not_read};
@@ -21,18 +21,24 @@ pub(crate) fn write(
     line: &mut String,
 ) -> Written {
     let buffers = buffers_of(alloc, asked)?;
-    match asked.word(0) {
-        "inverseBindMatrices" => match document.skins().nth(0) {
-            Some(skin) => write_skin(&skin, &buffers, line),
-            None => line.push_str("no skin"),
-        },
-        "input" | "output" => match first_channel(document) {
-            Some(channel) => write_channel(asked.word(0), &channel, &buffers, line),
-            None => line.push_str("no channel"),
-        },
-        name => match first_primitive(document) {
-            Some(primitive) => write_primitive(alloc, name, &primitive, &buffers, line),
-            None => line.push_str("no primitive"),
+    write_over(alloc, asked.word(0), document, &buffers, line)
+}
+
+fn write_over(
+    alloc: Global,
+    name: &str,
+    document: &Document,
+    buffers: &[Data],
+    line: &mut String,
+) -> Written {
+    let given = |buffer: Buffer| bytes_of(buffers, buffer);
+    match name {
+        "inverseBindMatrices" => write_skin(document, &given, line),
+        "input" => write_inputs(document, &given, line),
+        "output" => write_outputs(document, &given, line),
+        _ => match &Semantic::of_name(alloc, name)? {
+            Some(semantic) => write_attribute(document, semantic, &given, line),
+            None => write_indices(document, &given, line),
         },
     }
 }
@@ -47,65 +53,103 @@ fn first_primitive(document: &Document) -> Option<Primitive<'_>> {
     document.meshes().nth(0)?.primitives().nth(0)
 }
 
-fn write_skin(skin: &Skin<'_>, buffers: &[Data], line: &mut String) -> Written {
-    let given = |buffer: Buffer| bytes_of(buffers, buffer);
-    let reason = why_no_inverse_bind_matrices(skin, &given);
-    let read = skin::Reader::new(skin, &given).read_inverse_bind_matrices();
-    write_reason(reason, read.is_some(), line)
-}
-
-fn write_channel(
-    name: &str,
-    channel: &animation::Channel<'_>,
-    buffers: &[Data],
+fn write_skin<'s, F: Fn(Buffer) -> Option<&'s [u8]>>(
+    document: &Document,
+    given: &F,
     line: &mut String,
-) -> Written {
-    let given = |buffer: Buffer| bytes_of(buffers, buffer);
-    let reader = animation::Reader::new(channel, &given);
-    if name == "input" {
-        let reason = why_no_inputs(channel, &given);
-        write_reason(reason, reader.read_inputs().is_some(), line)
-    } else {
-        let reason = why_no_outputs(channel, &given);
-        write_reason(reason, reader.read_outputs().is_some(), line)
+) -> Written
+    requires { F.IsAlwaysCallable given.now }
+{
+    match document.skins().nth(0) {
+        Some(skin) => {
+            let read = skin::Reader::new(&skin, given).read_inverse_bind_matrices();
+            write_reason(
+                why_no_inverse_bind_matrices(&skin, given),
+                read.is_some(),
+                line,
+            )
+        }
+        None => line.push_str("no skin"),
     }
 }
 
-fn write_primitive(
-    alloc: Global,
-    name: &str,
-    primitive: &Primitive<'_>,
-    buffers: &[Data],
+fn write_inputs<'s, F: Fn(Buffer) -> Option<&'s [u8]>>(
+    document: &Document,
+    given: &F,
     line: &mut String,
-) -> Written {
-    match &Semantic::of_name(alloc, name)? {
-        Some(semantic) => write_attribute(semantic, primitive, buffers, line),
-        None => write_indices(primitive, buffers, line),
+) -> Written
+    requires { F.IsAlwaysCallable given.now }
+{
+    match first_channel(document) {
+        Some(channel) => {
+            let read = animation::Reader::new(&channel, given).read_inputs();
+            write_reason(why_no_inputs(&channel, given), read.is_some(), line)
+        }
+        None => line.push_str("no channel"),
     }
 }
 
-fn write_indices(primitive: &Primitive<'_>, buffers: &[Data], line: &mut String) -> Written {
-    let given = |buffer: Buffer| bytes_of(buffers, buffer);
-    let reason = why_no_indices(primitive, &given);
-    let read = Reader::new(primitive, &given).read_indices();
-    write_reason(reason, read.is_some(), line)
+fn write_outputs<'s, F: Fn(Buffer) -> Option<&'s [u8]>>(
+    document: &Document,
+    given: &F,
+    line: &mut String,
+) -> Written
+    requires { F.IsAlwaysCallable given.now }
+{
+    match first_channel(document) {
+        Some(channel) => {
+            let read = animation::Reader::new(&channel, given).read_outputs();
+            write_reason(why_no_outputs(&channel, given), read.is_some(), line)
+        }
+        None => line.push_str("no channel"),
+    }
 }
 
-fn write_attribute(
+fn write_indices<'s, F: Fn(Buffer) -> Option<&'s [u8]>>(
+    document: &Document,
+    given: &F,
+    line: &mut String,
+) -> Written
+    requires { F.IsAlwaysCallable given.now }
+{
+    match first_primitive(document) {
+        Some(primitive) => {
+            let read = Reader::new(&primitive, given).read_indices();
+            write_reason(why_no_indices(&primitive, given), read.is_some(), line)
+        }
+        None => line.push_str("no primitive"),
+    }
+}
+
+fn write_attribute<'s, F: Fn(Buffer) -> Option<&'s [u8]>>(
+    document: &Document,
     semantic: &Semantic,
-    primitive: &Primitive<'_>,
-    buffers: &[Data],
+    given: &F,
     line: &mut String,
-) -> Written {
-    let given = |buffer: Buffer| bytes_of(buffers, buffer);
-    let reason = why_not_read(primitive, semantic, &given);
-    write_reason(reason, is_read(semantic, primitive, buffers), line)
+) -> Written
+    requires { F.IsAlwaysCallable given.now }
+{
+    match first_primitive(document) {
+        Some(primitive) => {
+            let is_read = is_read(document, semantic, given);
+            write_reason(why_not_read(&primitive, semantic, given), is_read, line)
+        }
+        None => line.push_str("no primitive"),
+    }
 }
 
-/// Whether the reader of a primitive reads an attribute.
-fn is_read(semantic: &Semantic, primitive: &Primitive<'_>, buffers: &[Data]) -> bool {
-    let given = |buffer: Buffer| bytes_of(buffers, buffer);
-    let reader = Reader::new(primitive, &given);
+/// Whether the reader of the first primitive reads an attribute.
+fn is_read<'s, F: Fn(Buffer) -> Option<&'s [u8]>>(
+    document: &Document,
+    semantic: &Semantic,
+    given: &F,
+) -> bool
+    requires { F.IsAlwaysCallable given.now }
+{
+    let Some(primitive) = first_primitive(document) else {
+        return false;
+    };
+    let reader = Reader::new(&primitive, given);
     match semantic {
         Semantic::Extras(_) => false,
         Semantic::Positions => reader.read_positions().is_some(),
