@@ -59,6 +59,10 @@ CRATES = {
         "joined numbers walks reasons buffers names pointers".split(),
         ("two files/square data.bin",),
     ),
+    "gltf_caller_cases": (
+        "users options bytes nothing".split(),
+        ("two files/square.gltf", "two files/square data.bin"),
+    ),
 }
 BYTES = r'"([^"]*)"|(\d+)\.(?!\S)|([0-9A-Fa-f]{2})×(\d+)|([0-9A-Fa-f]+)|\S+'
 # Lines at the margin, and lines below them that are not.
