@@ -81,7 +81,7 @@ path_failed held path old new error.ExternalReferenceInSliceImport told other fi
     absurd (not_nowhere held told.0)
 path_failed held path old new _ told other fine = absurd told
 
--- the document of the file is refused, and nothing was asked for behind the path
+-- the document of the file is refused, and nothing was asked for after the path
 pub refuses_behind : (names : Names) (path bytes : List ℕ) (old new : List Named) (e : Error)
     → Gives names (File path) bytes → new ≡ old → FailsOrRefuses names bytes old old e
     → RefusesFileAt names path old new e

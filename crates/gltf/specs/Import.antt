@@ -60,7 +60,7 @@ pub record RefusesContainer (bytes : List ℕ) (e : Error) : Type 0 where
   pub begins : starts_with nat_eq bytes magic ≡ true
   pub fault : IsReadingOf bytes (Err (fault_of cause))
 
--- the container holds; the error tells why its text or the records in it do not
+-- the container holds; the error says why its text or the records in it do not
 pub record RefusesText (bytes : List ℕ) (e : Error) : Type 0 where
   pub text : List ℕ
   pub blob : Option (List ℕ)

@@ -44,14 +44,14 @@ StopsReading came (Binary cause) =
     (starts_with nat_eq came magic ≡ true) × NamesReaderFault came cause
 StopsReading came _ = ⊥
 
--- one of these; or P of all bytes that count and of the error, which is told of nothing else
+-- one of these; or another error, where all bytes that count came, and P holds of them and of it
 abbrev pub StopsReadingOr : (List ℕ → Error → Type 0) → Option (List ℕ) → List ℕ → Error → Type 0
 StopsReadingOr P left came Memory = ⊤
 StopsReadingOr P left came (Io cause) = IsNoContainer came
 StopsReadingOr P left came (Binary cause) = StopsReading came (Binary cause)
 StopsReadingOr P left came e = IsAllThatCounts left came × P came e
 
--- where the error tells a fault of the bytes that came, N of them
+-- where the error reports a fault of the bytes that came, N of them
 abbrev pub UnlessFailure : (List ℕ → Type 0) → List ℕ → Error → Type 0
 UnlessFailure N came Memory = ⊤
 UnlessFailure N came (Io cause) = ⊤

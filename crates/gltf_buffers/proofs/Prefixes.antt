@@ -1,4 +1,4 @@
--- What stands behind a prefix.
+-- What follows a prefix.
 use Rattle.std.proofs.Common.{ℕ, ◌≡◌, Bool, true, false, List, ◌++◌, length, drop, refl}
 use Rattle.std.specs.Prelude.{Option, Some, None, MatchOption, option_copied, nat_eq, if◌then◌else◌}
 use Rattle.std.specs.Borrow.{Bor}

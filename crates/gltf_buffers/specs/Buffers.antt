@@ -62,7 +62,7 @@ abbrev pub raw_bytes : Option (List ℕ) → Option (List ℕ) → Option (List 
 raw_bytes given blob None = blob_or_fault blob
 raw_bytes given blob (Some text) = meant_bytes given (uri_of text)
 
--- with zeros behind them
+-- these bytes with zeros after them; a fault stays as it is
 abbrev pub filled_bytes : Result (List ℕ) BufferFault → Result (List ℕ) BufferFault
 filled_bytes (Ok bytes) = Ok (padded bytes)
 filled_bytes (Err fault) = Err fault
@@ -110,8 +110,8 @@ pub record IsBytesOf (names : Names) (blob : Option (List ℕ)) (i : ℕ) (sourc
   pub may : MayBeGiven names (name_at source.uri) given
   pub is : bytes_of given blob i source ≡ result
 
--- the blob belongs to the first buffer that has no URI; that it is the first of the list, as section
--- 3.6.1.2 asks, is not asked for here
+-- the blob belongs to the first buffer that has no URI; that it is the first of the list, as
+-- section 3.6.1.2 asks, is not asked for here
 unfoldable pub blob_for : List Source → Option (List ℕ) → ℕ → Option (List ℕ)
 blob_for sources blob i = if list_all (λ source. is_some source.uri)
     (take i sources) then blob else None

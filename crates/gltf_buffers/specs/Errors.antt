@@ -34,7 +34,7 @@ IsUnanswered names name old new ExternalReferenceInSliceImport = (names ≡ Nowh
 IsUnanswered names name old new Memory = new ≡ old
 IsUnanswered names name old new _ = ⊥
 
--- there is no blob, or there is one and not enough memory for the zeros behind it
+-- there is no blob, or there is one and not enough memory for the zeros after it
 abbrev pub IsNotTaken : Option (List ℕ) → Error → Type 0
 IsNotTaken blob MissingBlob = blob ≡ None
 IsNotTaken blob Memory = IsSome blob

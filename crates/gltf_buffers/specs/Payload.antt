@@ -12,11 +12,11 @@ use Rattle.base64.specs.declared.decode.DecodeAllocError.TheVariants.{OutOfMemor
 abbrev pub padding_sign : ℕ
 padding_sign = 61
 
--- how many `=` are put behind a text of n bytes
+-- how many `=` are appended to a text of n bytes
 abbrev pub missing_signs : ℕ → ℕ
 missing_signs n = if n % 4 == 2 then 2 else if n % 4 == 3 then 1 else 0
 
--- the text with these behind it
+-- the text with these appended
 abbrev pub completed_text : List ℕ → List ℕ
 completed_text text = text ++ replicate (missing_signs (length text)) padding_sign
 

@@ -1,4 +1,4 @@
--- Where a URI leads (glTF 2.0, section 2.8), told by the places at which `:` and `;base64,` stand
+-- Where a URI leads (glTF 2.0, section 2.8), given by the places at which `:` and `;base64,` stand
 -- in it.
 use Rattle.std.specs.Prelude.{ℕ, ◌≢◌, List, [], ◌∷◌, length, drop, All, nat_eq, Option, Some, None}
 use Rattle.std.specs.Prelude.{option_map, unwrap_or, is_some, codes, if◌then◌else◌}
@@ -14,14 +14,14 @@ pub data Meaning : Type 0 where
   Relative : List ℕ → Meaning
   Unsupported : Meaning
 
--- what stands in s before the first n, and what stands behind that
+-- what stands in s before the first n, and what stands after it
 unfoldable pub cut_at : List ℕ → List ℕ → Option (List ℕ × List ℕ)
 cut_at n [] = None
 cut_at n (b ∷ s) =
     if starts_with nat_eq (b ∷ s) n then Some ([], drop (length n) (b ∷ s))
     else option_map (λ p. (b ∷ p.0, p.1)) (cut_at n s)
 
--- what stands behind the first n, or all
+-- what stands after the first n, or all
 abbrev pub behind : List ℕ → List ℕ → List ℕ
 behind n s = unwrap_or (option_map (λ parts. parts.1) (cut_at n s)) s
 
@@ -29,11 +29,11 @@ behind n s = unwrap_or (option_map (λ parts. parts.1) (cut_at n s)) s
 abbrev pub before : List ℕ → List ℕ → List ℕ
 before n s = unwrap_or (option_map (λ parts. parts.0) (cut_at n s)) s
 
--- what stands behind n, where s begins with n
+-- what stands after n, where s begins with n
 abbrev pub text_behind : List ℕ → List ℕ → Option (List ℕ)
 text_behind n s = if starts_with nat_eq s n then Some (drop (length n) s) else None
 
--- of the text behind `data:`: from the first mark up to the next one or the end; where there is no
+-- of the text after `data:`: from the first mark up to the next one or the end; where there is no
 -- mark, all
 unfoldable pub payload_of : List ℕ → List ℕ
 payload_of text = before (codes ";base64,") (behind (codes ";base64,") text)

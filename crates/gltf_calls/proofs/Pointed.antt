@@ -36,7 +36,7 @@ Heap = arg (bits (layout heap.the_row)) no heap.the_row
 pub heap_laws : Laws Heap
 heap_laws = arg_laws (bits (layout heap.the_row)) no heap.the_row of_heap.the_row_laws refl
 
--- nothing is done where one is let go
+-- nothing is done where one is dropped
 abbrev pub no_drop : Dict
 no_drop = impl ("gltf_calls::Destruct++none::drop" ∷ []) (tcons (layout Heap) tnil) dnil
 

@@ -5,7 +5,7 @@ use Rattle.std.specs.Prelude.{min, ◌==◌, false, true}
 use Rattle.std.proofs.lemmas.List.{length-take-le}
 use Rattle.gltf_calls.specs.Message.{text_in_room, shown_length}
 
--- a byte that is set behind a front
+-- a byte that is set after a front
 ended : (byte : ℕ) (front room : List ℕ) → length front < length room
     → set (front ++ drop (length front) room) (length front) byte
     ≡ front ++ (byte ∷ drop (suc (length front)) room)

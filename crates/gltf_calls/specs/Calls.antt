@@ -21,8 +21,8 @@ pub record Holds (bytes : List ℕ) (file : File) : Type 0 where
   pub accepted : Accepts bytes file.document (bytes_of_each file.buffers.items)
   pub only : IsOnlyImport bytes file.document (bytes_of_each file.buffers.items)
 
--- the error of the layer at fault, which is told; the bytes are not accepted, but where memory was
--- wanting
+-- the error of the layer at fault, and then the bytes are not accepted; or there was not enough
+-- memory
 pub record Refuses (bytes : List ℕ) (e : Error) : Type 0 where
   pub fault : OutOfMemoryOr (RefusesImport bytes) e
   pub exact : e ≢ Memory → IsNotAccepted bytes

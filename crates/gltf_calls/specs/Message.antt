@@ -8,7 +8,7 @@ use Rattle.gltf_glb.specs.declared.error.Error.{Error}
 abbrev pub shown_length : List ℕ → List ℕ → ℕ
 shown_length text room = min (length text) (length room - 1)
 
--- the room with the text at its front, cut to it, and a zero byte behind the text; what is behind
+-- the room with the text at its front, cut to fit, and a zero byte after the text; what follows
 -- that stays
 abbrev pub text_in_room : List ℕ → List ℕ → List ℕ
 text_in_room text [] = []

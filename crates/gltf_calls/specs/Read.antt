@@ -19,7 +19,7 @@ abbrev pub as_bytes : (n : ℕ) → Ghosts (List ℕ)
 as_bytes n = record { size = front n; value = take n; zero_item = replicate n 0 }
 
 -- of items of n bytes: where there are items and they fit the room, they stand at its front and
--- what is behind them stays; else the room is as it was, and the status says what failed
+-- what follows them stays; else the room is as it was, and the status says what failed
 abbrev pub IsWritten : ℕ → Option (List (List ℕ)) → Status → List ℕ → List ℕ → Type 0
 IsWritten n None status old new = (status ≡ Unreadable) × (new ≡ old)
 IsWritten n (Some items) status old new =

@@ -1,4 +1,4 @@
--- How a normalized integer (glTF 2.0, section 5.1.4) is told in a type of another width or sign:
+-- How a normalized integer (glTF 2.0, section 5.1.4) is cast to a type of another width or sign:
 -- the table of the Rust crate `gltf`, which casts by powers of two.
 use Rattle.std.specs.Prelude.{ℤ, pos, negsuc, ◌*ℤ◌, int_div}
 

@@ -1,8 +1,8 @@
--- Colours with three components, red, green and blue, and with four: alpha stands behind them (glTF
+-- Colours with three components, red, green and blue, and with four: alpha follows them (glTF
 -- 2.0, section 3.7.2.1).
 use Rattle.std.specs.Prelude.{List, [], ◌∷◌, ◌++◌, take}
 
--- three components, and an alpha behind them
+-- three components, and an alpha after them
 abbrev pub with_alpha : {X : Type 0} → X → List X → List X
 with_alpha alpha color = color ++ alpha ∷ []
 

@@ -1,9 +1,9 @@
--- What a tally tells.
+-- What a tally reports.
 use Rattle.std.specs.Prelude.{◌≡◌, length}
 use Rattle.gltf_items.specs.Counted.{CountedItems}
 use Rattle.gltf_casting.specs.declared.tally.Tally.{Tally}
 
--- it tells how many items are left, and the three counts of what was read
+-- it reports how many items are left, and the three counts of what was read
 pub record IsTallyOf {X : Type 0} (counted : CountedItems X) (tally : Tally) : Type 0 where
   pub left : tally.left ≡ length counted.items
   pub index_reads : tally.index_reads ≡ counted.index_reads

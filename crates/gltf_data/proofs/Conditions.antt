@@ -60,7 +60,7 @@ module _ {X : Type 0} where
   skipped [] rs x h = refl
   skipped (l ∷ ls) rs x h = passed l (ls ++ rs) x h.0 ∙ skipped ls rs x h.1
 
-  -- what is behind conditions that hold
+  -- what follows conditions that hold
   pub agree : (ls rs cs : List Condition) (x : X)
       → (AllHold ls → where_all_hold rs x ≡ where_all_hold cs x)
       → where_all_hold (ls ++ rs) x ≡ where_all_hold (ls ++ cs) x

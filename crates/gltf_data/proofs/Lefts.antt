@@ -1,4 +1,4 @@
--- The answers of a list of steps, told by the items that are left.
+-- The answers of a list of steps, in terms of the items that are left.
 use Rattle.std.proofs.Common.{List, [], ◌∷◌}
 use Rattle.gltf_data.specs.Steps.{answer_of, after_step}
 use Rattle.gltf_data.specs.declared.walk.Step.{Step}

@@ -1,4 +1,4 @@
--- A walk told by the items that are left is the walk told by a position.
+-- A walk in terms of the items that are left is the walk in terms of a position.
 use Rattle.std.proofs.Common.{◌≡◌, ℕ, zero, suc, ◌+◌, ◌-◌, List, [], ◌∷◌, length, drop, refl, sym}
 use Rattle.std.proofs.Common.{ap, ◌∙◌, arith, inl, inr, length-drop}
 use Rattle.std.specs.Prelude.{min, slice_get, None, nat_lt, if◌then◌else◌}

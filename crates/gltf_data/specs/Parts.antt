@@ -15,7 +15,7 @@ use Rattle.gltf_handles.specs.Sizes.{item_size, stored_size}
 use Rattle.gltf_items.specs.declared.item.Item.{Ghosts}
 use Rattle.gltf_items.specs.Sparse.{sparse}
 
--- items in a view: so many bytes behind its start, so many, each of so many bytes
+-- items in a view: their offset from its start, how many there are, and the bytes of each
 pub record Part : Type 0 where
   pub view : View
   pub offset : ℕ

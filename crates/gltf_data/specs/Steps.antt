@@ -1,4 +1,4 @@
--- The same as in `Walk`, told by the items that are left.
+-- The same as in `Walk`, in terms of the items that are left.
 use Rattle.std.specs.Prelude.{◌≡◌, ℕ, ◌+◌, ◌-◌, ◌≤◌, List, [], length, drop, slice_get}
 use Rattle.gltf_items.specs.Counted.{CountedItems}
 use Rattle.gltf_data.specs.declared.walk.Step.{Step}

@@ -17,7 +17,7 @@ answer items position Next = Item (slice_get items position)
 answer items position (Nth n) = Item (slice_get items (position + n))
 answer items position Len = Length (length items - position)
 
--- the position behind it
+-- the position after it
 abbrev pub behind : {X : Type 0} → List X → ℕ → Step → ℕ
 behind items position Next = min (position + 1) (length items)
 behind items position (Nth n) = min (position + n + 1) (length items)
@@ -29,7 +29,7 @@ all_answers items position [] = []
 all_answers items position (step ∷ steps) =
     answer items position step ∷ all_answers items (behind items position step) steps
 
--- the position behind all steps
+-- the position after all steps
 abbrev pub position_after : {X : Type 0} → List X → ℕ → List Step → ℕ
 position_after items position [] = position
 position_after items position (step ∷ steps) =

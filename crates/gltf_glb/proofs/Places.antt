@@ -37,7 +37,7 @@ found_behind bytes front left None is found = tt
 found_behind bytes front left (Some blob) is found =
     stands_behind bytes front left blob is found
 
--- in front of the blob there is as much as is declared and is neither the blob nor behind it
+-- the blob begins at the declared length less its own and that of what follows it
 pub place_of : (bytes : List ℕ) (total : ℕ) (blob : Blob) → total ≤ length bytes
     → StandsIn (take total bytes) blob
     → (length blob.behind.now + length blob.contents.now ≤ total)

@@ -20,7 +20,7 @@ pub record IsOther (other : Other) : Type 0 where
 abbrev pub spelled : Other → List ℕ
 spelled other = chunk other.tag other.contents
 
--- how the chunks behind the JSON chunk end: with nothing, with a BIN chunk and any rest, or with a
+-- how the chunks after the JSON chunk end: with nothing, with a BIN chunk and any rest, or with a
 -- fault
 abbrev pub Ends : List ℕ → Result (Option (List ℕ)) Fault → Type 0
 Ends tail (Ok None) = tail ≡ []
@@ -28,7 +28,7 @@ Ends tail (Ok (Some bin)) =
     (length bin < 2 ^ 32) × (rest : List ℕ) × (tail ≡ chunk bin_tag bin ++ rest)
 Ends tail (Err fault) = later_fault tail ≡ Some fault
 
--- behind the JSON chunk: whole chunks of other types, and then such an end
+-- after the JSON chunk: whole chunks of other types, and then such an end
 pub record Later (left : List ℕ) (answer : Result (Option (List ℕ)) Fault) : Type 0 where
   pub others : List Other
   pub tail : List ℕ
@@ -55,11 +55,11 @@ pub record IsContainer (bytes json : List ℕ) (bin : Option (List ℕ)) : Type 
 abbrev pub body_of : List ℕ → List ℕ
 body_of bytes = drop 12 (take (word_at 8 bytes) bytes)
 
--- what stands behind the first chunk
+-- what follows the first chunk
 abbrev pub behind_json : List ℕ → List ℕ
 behind_json body = drop (8 + word_at 0 body) body
 
--- the fault of a body: in its first chunk, else behind it
+-- the fault of a body: in its first chunk, else after it
 abbrev pub HasBodyFault : List ℕ → Fault → Type 0
 HasBodyFault body fault =
     (json_fault body ≡ Some fault)

@@ -81,7 +81,7 @@ json_fault body =
     ∷ (nat_lt room (word_at 0 body), Some (ChunkTooLong Json (word_at 0 body) room))
     ∷ [])
 
--- in what is left behind the JSON chunk, and again behind each skipped chunk (section 4.4.3)
+-- in what is left after the JSON chunk, and again after each skipped chunk (section 4.4.3)
 unfoldable pub later_fault : List ℕ → Option Fault
 later_fault left =
     let tag = tag_at 4 left in

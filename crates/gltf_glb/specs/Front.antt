@@ -20,7 +20,7 @@ IsFront came total =
     (length came ≡ 12) × (front_fault came ≡ None) × (total ≡ word_at 8 came)
     × (12 ≤ total) × (total < 2 ^ 32)
 
--- the fault of a header behind its first four bytes
+-- the fault of a header after its first four bytes
 abbrev pub IsDeclarationFault : List ℕ → container.Error → Type 0
 IsDeclarationFault came (binary.Version version) = front_fault came ≡ Some (WrongVersion version)
 IsDeclarationFault came (binary.Length total length_read) =

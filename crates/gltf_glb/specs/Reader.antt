@@ -18,7 +18,7 @@ use Rattle.gltf_glb.specs.Steps.{IsHeader, fault_of}
 abbrev pub needed_length : List ℕ → ℕ
 needed_length came = if is_none (front_fault came) then word_at 8 came else 12
 
--- the parts of the one container that the bytes are, whatever comes behind them, with the header as
+-- the parts of the one container that the bytes are, whatever follows them, with the header as
 -- read
 pub record IsReadBy (came : List ℕ) (glb : Glb) : Type 0 where
   pub parts : Decides came (Ok (cow_slice_items glb.json, items_of glb.bin))
@@ -26,7 +26,7 @@ pub record IsReadBy (came : List ℕ) (glb : Glb) : Type 0 where
   pub whole : length came ≡ word_at 8 came
 
 -- `Io` says that the bytes that came end too early; each other fault is theirs, whatever comes
--- behind them
+-- after them
 abbrev pub NamesReaderFault : List ℕ → container.Error → Type 0
 NamesReaderFault came (binary.Io cause) = IsReaderReadingOf came (Err Short)
 NamesReaderFault came cause = Decides came (Err (fault_of cause))

@@ -25,6 +25,6 @@ pub record IsReaderReadingOf (bytes : List ℕ) (reading : Reading) : Type 0 whe
   pub has : HasReaderReading bytes reading
   pub only : (other : Reading) → HasReaderReading bytes other → other ≡ reading
 
--- whatever comes behind these bytes, this is the reading
+-- whatever follows these bytes, this is the reading
 abbrev pub Decides : List ℕ → Reading → Type 0
 Decides came reading = (rest : List ℕ) → IsReaderReadingOf (came ++ rest) reading

@@ -15,7 +15,7 @@ same_parts {a} {x} {b} {y} same =
     IfOk-at_ok (λ (parts : List ℕ × Option (List ℕ)). (a ≡ parts.0) × (b ≡ parts.1)) same
     (refl, refl)
 
--- bytes that decide have their reading where nothing comes behind them
+-- bytes that decide have their reading where nothing follows them
 pub decided_here : (came : List ℕ) (reading : Reading) → Decides came reading
     → IsReaderReadingOf came reading
 decided_here came reading decides = rw append-nil at (decides [])

@@ -35,7 +35,7 @@ CutsHeader bytes header body =
     × (tag_at 0 bytes ≡ magic) × (word_at 4 bytes ≡ 2) × (12 ≤ word_at 8 bytes)
     × (word_at 8 bytes ≤ length bytes) × (word_at 8 bytes < 2 ^ 32)
 
--- json is what the first chunk holds, and left what stands behind it
+-- json is what the first chunk holds, and left what follows it
 abbrev pub CutsJson : List ℕ → List ℕ → List ℕ → Type 0
 CutsJson body json left =
     (json_fault body ≡ None) × (left ≡ behind_json body) × (length json < 2 ^ 32)
@@ -52,7 +52,7 @@ IsNext left (Skip rest) = (other : Other) × IsOther other × (left ≡ spelled 
 abbrev pub bytes_of_blob : Option Blob → Option (List ℕ)
 bytes_of_blob blob = option_map (λ (found : Blob). found.contents.now) blob
 
--- the blob stands among these bytes, and behind it what it says up to their end
+-- the blob stands among these bytes, followed by what it says, up to their end
 abbrev pub StandsIn : List ℕ → Blob → Type 0
 StandsIn bytes blob =
     (front : List ℕ) × (bytes ≡ front ++ (blob.contents.now ++ blob.behind.now))

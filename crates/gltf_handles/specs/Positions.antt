@@ -1,7 +1,7 @@
--- Lists, told by a position.
+-- Lists in terms of a position.
 use Rattle.std.specs.Prelude.{◌≡◌, ℕ, zero, suc, ◌+◌, ◌-◌, ◌<◌, ◌≤◌, Option, MatchOption}
 
--- what items come from, the number of the next item, and the number behind the last one
+-- what items come from, the number of the next item, and the number after the last one
 pub record Position (S : Type 0) : Type 0 where
   pub source : S
   pub next : ℕ
@@ -17,7 +17,7 @@ pub record IsWhole {S : Type 0} (Is : S → Type 0) (count : ℕ) (p : Position 
   pub next : p.next ≡ 0
   pub end : p.end ≡ count
 
--- passes over n items, gives the one behind them and leaves those behind that; or gives none where
+-- passes over n items, gives the one after them and leaves those after that; or gives none where
 -- so many are not left, and leaves none
 pub record Nth {S A : Type 0} (Gives : S → ℕ → A → Type 0) (old : Position S) (n : ℕ)
     (given : Option A) (new : Position S) : Type 0 where

@@ -86,7 +86,7 @@ digits_fall n m some half = omega (arith, digits_rises m (n / 2) half, digits_ha
 
 -- ---- the search
 
--- what the middle says of the indices before it, and behind it
+-- what the middle says of the indices before it, and after it
 pub below_middle : {indices : List ℕ} {front_len target middle : ℕ} → Rises indices front_len
     → middle < front_len → slice_index indices middle < target → (k : ℕ) → k < middle + 1
     → slice_index indices k < target

@@ -49,7 +49,7 @@ module _ {X : Type 0} {g : Ghosts X} (it : ItemIter X g) (some : 0 < g.size) whe
       ∙ ap Some (sym (longer_front g.size it.stride g.value it.bytes.now
       (front it.fits) it.apart h))
 
-  -- what is left behind the first bytes
+  -- what is left after the first bytes
   pub left_behind : (n : ℕ) (bytes : List ℕ) → bytes ≡ drop (n * it.stride) it.bytes.now
       → plain g.size g.value bytes it.stride ≡ drop n (items_left it)
   left_behind n bytes is = ap (λ (bs : List ℕ). plain g.size g.value bs it.stride) is
@@ -60,7 +60,7 @@ module _ {X : Type 0} {g : Ghosts X} (it : ItemIter X g) (some : 0 < g.size) whe
       → plain g.size g.value [] it.stride ≡ drop n (items_left it)
   left_past n h = left_behind n [] (sym (drop_all (n * it.stride) it.bytes.now h))
 
-  -- nor behind so many strides that their bytes are no `usize`
+  -- nor after so many strides that the number of their bytes is no `usize`
   pub left_behind_all : (n : ℕ) (bytes : List ℕ) → length it.bytes.now < 2 ^ 64
       → bytes ≡ drop (min (n * it.stride) (2 ^ 64 - 1)) it.bytes.now
       → plain g.size g.value bytes it.stride ≡ drop n (items_left it)
@@ -74,7 +74,7 @@ module _ {X : Type 0} {g : Ghosts X} (it : ItemIter X g) (some : 0 < g.size) whe
             rw none (left_past n (omega arith))
       ]
 
-  -- where no item is left, none is left behind the first
+  -- where no item is left, none is left after the first
   pub left_none_behind : length it.bytes.now < g.size → items_left it ≡ drop 1 (items_left it)
   left_none_behind h = nil_from_length (items_left it) (left_none h)
       ∙ sym (drop_all 1 (items_left it) (omega (arith, left_none h)))

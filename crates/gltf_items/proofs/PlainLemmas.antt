@@ -97,7 +97,7 @@ module _ {X : Type 0} (size : ℕ) (value : List ℕ → X) (bytes : List ℕ) (
       (omega (arith, fitting_within size stride (length bytes) i some apart below))) in
       omega (arith, length-plain)
 
-  -- else there is one for each whole stride behind the first
+  -- else there is the first one, and one for each whole stride after it
   pub plain_some : 0 < size → size ≤ stride → size ≤ length bytes
       → length (plain size value bytes stride) ≡ (length bytes - size) / stride + 1
   plain_some some apart h =

@@ -1,5 +1,5 @@
 -- The items that stand in bytes at the multiples of a stride (glTF 2.0, 3.6.2.4 "Data Alignment":
--- item i of an accessor begins i strides behind the first one).
+-- item i of an accessor begins i strides after the first one).
 use Rattle.std.specs.Prelude.{ℕ, ◌+◌, ◌-◌, ◌*◌, ◌/◌, List, map, length, drop}
 use Rattle.std.specs.List.{range_with_len}
 

@@ -12,8 +12,8 @@ use Rattle.gltf_json.specs.Documents.{root}
 abbrev pub Reads : List ℕ → Data → Type 0
 Reads bytes d = IsUtf8 bytes × (read bytes ≡ Some d)
 
--- the error tells why the bytes are no document: they are no JSON text, or the fault stands in
--- their value at that place; out of memory tells nothing of them
+-- the error says why the bytes are no document: they are no JSON text, or the fault stands in
+-- their value at that place; out of memory says nothing of them
 abbrev pub Refuses : List ℕ → Error → Type 0
 Refuses bytes (Text refused) = ¬ IsMemory refused × ((d : Data) → Reads bytes d → ⊥)
 Refuses bytes (Record path fault) = (d : Data) × Reads bytes d × root.fault d path fault

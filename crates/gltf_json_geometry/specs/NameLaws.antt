@@ -16,7 +16,7 @@ use Rattle.gltf_json_geometry.specs.declared.semantic.Semantic.TheVariants.{Norm
 use Rattle.gltf_json_geometry.specs.declared.semantic.Semantic.TheVariants.{Colors, TexCoords}
 use Rattle.gltf_json_geometry.specs.declared.semantic.Semantic.TheVariants.{Joints, Weights}
 
--- the first letters tell the kind
+-- the kind, by the first letters
 kind_told : List ℕ → ℕ
 kind_told name =
     if nat_eq (get_or name 0 0) 95 then 0

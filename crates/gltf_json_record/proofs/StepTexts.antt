@@ -1,4 +1,4 @@
--- The texts of steps, one behind the other.
+-- The texts of steps, one after another.
 use Rattle.std.proofs.Common.{◌≡◌, ℕ, ◌+◌, ◌<◌, List, [], ◌∷◌, ◌++◌, length, take, get_or, map}
 use Rattle.std.proofs.Common.{refl, sym, ap, ◌∙◌, append_assoc, append-nil}
 use Rattle.std.proofs.lemmas.List.{take_more, map-append}
@@ -11,7 +11,7 @@ steps_text-append (s ∷ a) b =
     ap (λ t. step_text s ++ t) (steps_text-append a b)
     ∙ sym (append_assoc (step_text s) (steps_text a) (steps_text b))
 
--- the text of one more step stands behind that of the others
+-- the text of one more step follows that of the others
 pub steps_text-one_more : (steps : List Step) (i : ℕ) (step : Step) → i < length steps
     → step ≡ get_or steps i step
     → steps_text (map place_of (take i steps)) ++ step_text (place_of step)

@@ -64,7 +64,7 @@ unknown_at q k d ms ns known false is here before =
     get_member-put_other q k d ns (apart q k is) ∙ before
     ∙ ap (λ r. if known then None else r) (sym (get_member-put_other q k d ms (apart q k is)))
 
--- the next entry goes behind those that were gone over
+-- the next entry goes after those that were passed
 placed : (done rest : List Entry) (e : Entry) (es : List Entry)
     → IsStrictlySortedBy string_cmp (keys_of es) → es ≡ done ++ e ∷ rest
     → put (string_bytes e.0) (view e.1) (members_view done) ≡ members_view (done ++ e ∷ [])

@@ -1,4 +1,4 @@
--- Two files whose texts are read alike, and whose blobs are the same but for zeros behind them.
+-- Two files whose texts are read alike, and whose blobs are the same but for zeros after them.
 use Rattle.std.proofs.Common.{◌≡◌, ℕ, List, Option, Some, None, option_map, Bool, true, false}
 use Rattle.std.proofs.Common.{if◌then◌else◌, is_some, refl, sym, ap, ◌∙◌, Result, Ok, Err}
 use Rattle.std.proofs.Common.{get_or, []}

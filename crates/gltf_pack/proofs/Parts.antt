@@ -56,13 +56,13 @@ one_answer law bytes answer is other also =
     let same = one_parts law bytes is.text also.text is.blob also.blob is.parts also.parts in
     also.written ∙ (λ i. container_bytes (same.0 i) (same.1 i)) ∙ sym is.written
 
--- parts that fit are refused for want of memory alone
+-- parts that fit are refused only for lack of memory
 memory_alone : (text : List ℕ) (blob : Option (List ℕ)) (e : Error) → total_of text blob < 2 ^ 32
     → RefusesToWrite text blob e → e ≡ Memory
 memory_alone text blob e fits (inl long) = let past = long.2 in absurd (omega arith)
 memory_alone text blob e fits (inr memory) = memory.0
 
--- what is repacked is refused for want of memory alone
+-- what is repacked is refused only for lack of memory
 pub only_memory : OneReading → (bytes answer : List ℕ) (e : Error) → IsRepacked bytes answer
     → RefusesToRepack bytes e → e ≡ Memory
 only_memory law bytes answer e is (inl refused) =

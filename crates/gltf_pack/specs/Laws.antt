@@ -8,7 +8,7 @@ use Rattle.gltf_glb.specs.declared.error.Error.TheVariants.{Memory}
 use Rattle.gltf.specs.Import.{Accepts, RefusesImport}
 use Rattle.gltf_pack.specs.Repacked.{IsRepacked, IsOnlyAnswer, RefusesToRepack}
 
--- spaces behind a text do not change its reading
+-- spaces after a text do not change its reading
 abbrev pub SpacesBehind : Type 0
 SpacesBehind = (n : ℕ) (text : List ℕ) (d : Data) → Reads (text ++ replicate n 32) d ↔ Reads text d
 
@@ -23,7 +23,7 @@ pub record SameImport (bytes answer : List ℕ) : Type 0 where
 abbrev pub ImportKept : Type 0
 ImportKept = (bytes answer : List ℕ) → IsRepacked bytes answer → SameImport bytes answer
 
--- the bytes are repacked to themselves alone, and refused for want of memory alone
+-- the bytes are repacked only to themselves, and refused only for lack of memory
 pub record IsFixed (bytes : List ℕ) : Type 0 where
   pub same : IsRepacked bytes bytes
   pub only : IsOnlyAnswer bytes bytes

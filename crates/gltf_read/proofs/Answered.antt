@@ -1,4 +1,4 @@
--- From what a closure answered to what is told by its answers.
+-- From what a closure answered to what its answers give.
 use Rattle.std.proofs.Common.{◌≡◌, ℕ, List, sym, subst}
 use Rattle.std.specs.Prelude.{Option, Some, None, SomeIff, option_map}
 use Rattle.gltf_json.specs.declared.root.Root.{Root}

@@ -1,17 +1,17 @@
--- Repeated calls of `next` on what is left behind a position.
+-- Repeated calls of `next` on what is left after a position.
 use Rattle.std.proofs.Common.{◌≡◌, ℕ, zero, suc, ◌+◌, ◌<◌, ◌≤◌, ◌⊎◌, inl, inr, ◌∙◌, subst, arith}
 use Rattle.std.specs.Prelude.{Option, Some, None}
 use Rattle.gltf_handles.specs.Positions.{Position, Nth, ByNext}
 
 module _ {S A : Type 0} {Gives : S → ℕ → A → Type 0} where
-  -- the position behind one call
+  -- the position after one call
   one_on : {old new : Position S} (first : Option A) → Nth Gives old 0 first new
       → ((old.next < old.end) × (new.next ≡ old.next + 1))
       ⊎ ((old.end ≤ old.next) × (new.next ≡ old.end))
   one_on None h = inr (omega (arith, h.item.0), h.item.1)
   one_on (Some x) h = inl (omega (arith, h.item.0), omega (arith, h.item.2))
 
-  -- an item that is given behind one call
+  -- an item that is given after one call
   given_behind : {old between new : Position S} (n : ℕ) (given : Option A) → old.next < old.end
       → between.next ≡ old.next + 1 → between.source ≡ old.source → between.end ≡ old.end
       → Nth Gives between n given new → Nth Gives old (suc n) given new
@@ -32,7 +32,7 @@ module _ {S A : Type 0} {Gives : S → ℕ → A → Type 0} where
         item = (omega (arith, h.item.0), given, omega (arith, h.item.2));
       }
 
-  -- none is given behind the end
+  -- none is given after the end
   none_behind : {old between new : Position S} (n : ℕ) (given : Option A) → old.end ≤ old.next
       → between.next ≡ old.end → between.source ≡ old.source → between.end ≡ old.end
       → Nth Gives between n given new → Nth Gives old (suc n) given new

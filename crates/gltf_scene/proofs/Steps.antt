@@ -26,7 +26,7 @@ past_end (x ∷ xs) zero none = absurd cc
 past_end (x ∷ xs) (suc i) none = let shorter : length xs ≤ i = past_end xs i none in omega arith
 
 module _ {D : Type 0} {G : Ghosts D} where
-  -- what is given at a number of what is left behind some is given at their sum
+  -- what is given at place n after p entries is given at place p + n
   at_behind : (old between : AttributesLeft) (p n : ℕ)
       (given : Option (Bor Semantic × Accessor D G))
       → between.document ≡ old.document → between.entries ≡ drop p old.entries
@@ -53,7 +53,7 @@ module _ {D : Type 0} {G : Ghosts D} where
         item = at_behind old between p n given document entries h.item;
       }
 
-  -- where none is given, none is given behind
+  -- where none is given, none is given at a later place
   pub none_behind : (old new : AttributesLeft) (i n : ℕ) → i ≤ n
       → NthAttribute {D = D} {G = G} old i None new → NthAttribute {D = D} {G = G} old n None new
   none_behind old new i n below h =

@@ -32,7 +32,7 @@ module _ {D : Type 0} {G : Ghosts D} where
       (λ x. (entry : Semantic × ℕ) × (slice_get left.entries n ≡ Some entry)
       × IsAttribute left.document entry x)
 
-  -- passes over n attributes, gives the one behind them and leaves those behind that; or gives none
+  -- passes over n attributes, gives the one after them and leaves those after that; or gives none
   -- where so many are not left, and leaves none
   pub record NthAttribute (old : AttributesLeft) (n : ℕ)
       (given : Option (Bor Semantic × Accessor D G)) (new : AttributesLeft) : Type 0 where

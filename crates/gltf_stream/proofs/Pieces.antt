@@ -1,4 +1,4 @@
--- One reading or writing behind another.
+-- One reading or writing after another.
 use Rattle.std.proofs.Common.{◌≡◌, ℕ, ◌+◌, ◌<◌, ◌≤◌, List, [], ◌∷◌, ◌++◌, length, get_or, take}
 use Rattle.std.proofs.Common.{drop, Option, Result, OnErr, Ok, Err, sym, ap, subst, ◌∙◌, arith}
 use Rattle.std.proofs.Common.{length-append, append_assoc, append-nil}
@@ -29,7 +29,7 @@ take_on i n xs h =
     ∙ ap (λ (t : List ℕ). take (length (take i xs) + n) t) (sym (take-append-drop i xs))
     ∙ take-append-add (take i xs) (drop i xs) n
 
--- the bytes in front of a piece, its own, and those behind it
+-- the bytes before a piece, its own, and those after it
 split_at : (ps : List (Bor (List ℕ))) (i : ℕ) (d : Bor (List ℕ)) → i < length ps
     → bytes_of_all ps
     ≡ bytes_of_all (take i ps) ++ ((get_or ps i d).now ++ bytes_of_all (drop (i + 1) ps))

@@ -6,7 +6,7 @@ use Rattle.std.specs.Io.KnownBytes.{Consumes, Appends, IsAtEnd}
 use Rattle.gltf_stream.specs.declared.reading.ReadFault.{ReadFault}
 use Rattle.gltf_stream.specs.declared.reading.ReadFault.TheVariants.{Ended, Failed, Memory}
 
--- the reader gave some bytes, and these stand behind those that were there
+-- the reader gave some bytes, and these follow those that were there
 abbrev pub ReadsBehind : Option (List ℕ) → Option (List ℕ) → List ℕ → List ℕ → Type 0
 ReadsBehind before after old new =
     (came : List ℕ) × Consumes before after came × (new ≡ old ++ came)
@@ -28,6 +28,6 @@ abbrev pub WritesBeginning : Option (List ℕ) → Option (List ℕ) → List �
 WritesBeginning before after text =
     (count : ℕ) × (count ≤ length text) × Appends before after (take count text)
 
--- the bytes of pieces behind one another
+-- the bytes of pieces one after another
 abbrev pub bytes_of_all : List (Bor (List ℕ)) → List ℕ
 bytes_of_all pieces = flat_map (λ (piece : Bor (List ℕ)). piece.now) pieces

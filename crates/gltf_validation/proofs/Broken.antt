@@ -16,7 +16,7 @@ broken-append (c ∷ cs) b =
     ≡ (if h then broken cs else (c.path, c.error) ∷ broken cs) ++ broken b)
     [ true ↦ step | false ↦ ap (λ xs. (c.path, c.error) ∷ xs) step ]
 
--- a walk adds what is broken behind what it had
+-- a walk adds what is broken after what it had
 pub report_after-broken : (report : List (List Place × Error)) (path : List Place) (t : Rules)
     → report_after report path t ≡ report ++ broken (checks_at path t)
 report_after-broken report path Nothing = grind (arith, common_steps)

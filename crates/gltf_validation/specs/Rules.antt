@@ -1,4 +1,4 @@
--- What rules are, which of them a value breaks, and in which order they are told.
+-- What rules are, which of them a value breaks, and in which order they are reported.
 use Rattle.std.specs.Prelude.{Bool, true, IsTrue, ⊤, if◌then◌else◌, List, [], ◌∷◌, ◌++◌}
 use Rattle.std.specs.Coded.{×_prop, Unit-prop, Coded-set, coded_bool}
 use Rattle.gltf_json_record.specs.Place.{Place}

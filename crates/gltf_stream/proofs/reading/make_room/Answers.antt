@@ -2,7 +2,7 @@ use Rattle.std.proofs.Common.{◌≡◌, ◌≤◌, ◌+◌, take, length, ℕ, 
 use Rattle.std.proofs.lemmas.List.{take-append-le, take-take, length-take}
 use Rattle.gltf_stream.proofs.reading.make_room.Goals as goal
 
--- what was there is not touched by what is put behind it
+-- what was there is not touched by what is put after it
 in_front : (at n : ℕ) (old rest : List ℕ) → at ≤ n → at ≤ length old
     → take at (take n old ++ rest) ≡ take at old
 in_front at n old rest few there =

@@ -8,7 +8,7 @@ take_whole : (n : ℕ) (xs rest : List ℕ) → length xs ≡ n → take n (xs +
 take_whole n xs rest e =
     subst (λ (k : ℕ). take k (xs ++ rest) ≡ xs) e (take-append_seam xs rest)
 
--- the first of the bytes that came, behind those that were there
+-- the first of the bytes that came, after those that were there
 came_behind : (at n room : ℕ) (old made read rest : List ℕ) → length read ≡ room
     → at + n ≤ length read → take at made ≡ old → take at read ≡ take at made
     → take (at + n) (take room (read ++ rest)) ≡ old ++ take n (drop at read)

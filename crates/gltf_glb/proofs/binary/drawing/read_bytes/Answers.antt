@@ -9,7 +9,7 @@ use Rattle.gltf_glb.proofs.Came.{needed_all, refused_all}
 use Rattle.gltf_glb.proofs.Fronts.{front_kept, total_kept}
 use Rattle.gltf_glb.proofs.binary.drawing.read_bytes.Goals as goal
 
--- more came behind a header, which stays as it was
+-- more came after a header, which stays as it was
 record IsMore (all : List ℕ) (total : ℕ) : Type 0 where
   none : front_fault all ≡ None
   declared : word_at 8 all ≡ total
