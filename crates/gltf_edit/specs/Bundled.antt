@@ -64,7 +64,7 @@ placed p d =
     with_member (codes "byteOffset") (whole (p + size_or_zero (codes "byteOffset") d))
     (with_member (codes "buffer") (whole 0) d)
 
--- a view in the one buffer: as far behind the place of its buffer as it was behind its begin
+-- a view in the one buffer: as far after the place of its buffer as it was after its begin
 abbrev pub relocated : List Span → Data → Data
 relocated spans d = unwrap_or (option_map (λ s. placed s.place d) (span_of spans d)) d
 

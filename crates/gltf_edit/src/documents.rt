@@ -15,7 +15,7 @@ use std::alloc::{AllocError, Global};
 /// its span (glTF 2.0, sections 5.10 and 5.11).
 ///
 /// The list of buffers becomes one without a URI; it stays where it is empty or absent. Each view
-/// names that buffer, at its offset behind the place of its own; so does what
+/// names that buffer, at its offset after the place of its own; so does what
 /// `EXT_meshopt_compression` says of it. All else stays as it is. The names and extras of the
 /// buffers are not kept.
 ///

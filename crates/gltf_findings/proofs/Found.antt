@@ -1,4 +1,4 @@
--- What is told is what is found, and it is found exactly where a condition fails.
+-- What is reported is what is found, and it is found exactly where a condition fails.
 use Rattle.std.proofs.Common.{◌≡◌, ℕ, ◌⊎◌, inl, inr, true, false, List, [], ◌∷◌, ◌++◌, refl, sym, ◌∙◌}
 use Rattle.std.proofs.Common.{ap, append_assoc, arith}
 use Rattle.std.proofs.lemmas.List.{append-nil}

@@ -1,4 +1,4 @@
--- What checks are, what they find, and in which order it is told.
+-- What checks are, what they find, and in which order it is reported.
 use Rattle.std.specs.Prelude.{Bool, true, false, ◌≡◌, ◌⊎◌, if◌then◌else◌, List, [], ◌∷◌, ◌++◌, ℕ, ◌+◌}
 use Rattle.std.specs.Prelude.{Option, Some, None}
 use Rattle.gltf_json_record.specs.Place.{Place, named, numbered}
@@ -16,7 +16,7 @@ infixr 30 ◌&◌
 abbrev pub ◌&◌ : Checks → Checks → Checks
 a & b = Both a b
 
--- what a walk has told once it has passed these checks too
+-- what a walk has reported once it has passed these checks too
 abbrev pub told_after : List (List Place × Code) → List Place → Checks → List (List Place × Code)
 told_after told path Nothing = told
 told_after told path (Condition holds code) = if holds then told else told ++ (path, code) ∷ []

@@ -10,7 +10,7 @@ use std::io::{self, Write};
 /// Writes what is found in each of the files that the words name, in order, and gives the greatest
 /// of their statuses: 0 where no error is found, 1 where one is or the file holds no document, 2
 /// where the file could not be read or the report not be made or written. A file that has none is
-/// told on `err`, and the next one follows. With the word `--json` a report is a line of JSON.
+/// reported on `err`, and the next one follows. With the word `--json` a report is a line of JSON.
 ///
 /// `None` where the words name no file.
 pub(crate) fn inspect_files<S: NamedBytes, O: Write, E: Write>(

@@ -4,7 +4,7 @@ use Rattle.gltf_findings.specs.Checks.{told_after}
 use Rattle.gltf_inspect.specs.Attributes.{entries_checks}
 use Rattle.gltf_inspect.proofs.attributes.tell_attributes.Given as goal
 
--- what is left of the walk, after what was told so far, is the whole of it
+-- what is left of the walk, after what was reported so far, is the whole of it
 abbrev pub invariant-loop-semantic : goal.invariant-loop-semantic
 invariant-loop-semantic l =
     told_after l.findings (places_of l.location)

@@ -4,7 +4,7 @@ use Rattle.gltf_findings.specs.Checks.{told_after, elements_checks}
 use Rattle.gltf_inspect.specs.Extensions.{required_name_checks}
 use Rattle.gltf_inspect.proofs.extensions.tell_required.Given as goal
 
--- what is left of the walk, after what was told so far, is the whole of it
+-- what is left of the walk, after what was reported so far, is the whole of it
 abbrev pub invariant-loop-i : goal.invariant-loop-i
 invariant-loop-i l =
     told_after l.findings (places_of l.location)

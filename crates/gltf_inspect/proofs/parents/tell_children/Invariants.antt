@@ -4,7 +4,7 @@ use Rattle.gltf_findings.specs.Checks.{told_after}
 use Rattle.gltf_inspect.specs.Marks.{marked, marked_children_checks}
 use Rattle.gltf_inspect.proofs.parents.tell_children.Given as goal
 
--- what is left of the walk, after what was told and marked so far, is the whole of it
+-- what is left of the walk, after what was reported and marked so far, is the whole of it
 abbrev pub invariant-loop-k : goal.invariant-loop-k
 invariant-loop-k l = record {
   told : told_after l.findings (places_of l.location)
