@@ -12,8 +12,8 @@ use gltf_data::buffer::Buffer;
 use gltf_items::{F32, Item};
 use gltf_scene::skin::Skin;
 
-/// Why the reader's call `read_inverse_bind_matrices` gives None; None exactly where it gives items.
-/// The closure gives the bytes of buffers.
+/// Why the reader's call `read_inverse_bind_matrices` gives None; None exactly where it gives
+/// items. The closure gives the bytes of buffers.
 pub fn why_no_inverse_bind_matrices<'s, F: Fn(Buffer) -> Option<&'s [u8]>>(
     skin: &Skin,
     get_buffer_data: &F,

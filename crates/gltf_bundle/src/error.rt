@@ -12,7 +12,8 @@ use std::fmt;
 /// Why a file was not bundled.
 #[derive(Debug, Drop)]
 pub enum BundleError {
-    /// The file is not imported: the error of [`gltf::import_from`]. Or there was not enough memory.
+    /// The file is not imported: the error of [`gltf::import_from`]. Or there was not enough
+    /// memory.
     Import(Error),
     /// The view at this index, or what `EXT_meshopt_compression` says of it, does not lie in its
     /// buffer: over the one buffer it would read the bytes of another.

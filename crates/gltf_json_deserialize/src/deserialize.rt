@@ -36,9 +36,9 @@ pub fn from_value(alloc: Global, value: &Value) -> Result<Root, Error>
 
 /// The document of a JSON text (glTF 2.0, section 5.17, "glTF"): that of the value which
 /// `serde_json` reads from it. It is read in one pass over the text, with no tree of values, where
-/// that gives a document; every refusal comes from the tree. `Text` is answered only where the bytes are no JSON text in UTF-8;
-/// `Record` with a fault that stands in the value at its path; and `Memory` where there was not
-/// enough, in `serde_json` or here.
+/// that gives a document; every refusal comes from the tree. `Text` is answered only where the
+/// bytes are no JSON text in UTF-8; `Record` with a fault that stands in the value at its path; and
+/// `Memory` where there was not enough, in `serde_json` or here.
 pub fn from_slice(alloc: Global, bytes: &[u8]) -> Result<Root, Error>
     ensures ok { IfOk result (λ r. (d : Data) × Reads bytes.now d × root.is d r) }
     ensures alike { IfOk result (λ r. (d : Data) (s : Root) → Reads bytes.now d → root.is d s

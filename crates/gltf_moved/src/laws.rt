@@ -1,5 +1,5 @@
-//! The law of reading. It is a statement over definitions, proved as the contract of a function that
-//! does nothing.
+//! The law of reading. It is a statement over definitions, proved as the contract of a function
+//! that does nothing.
 ghost use Rattle.gltf_moved.specs.Laws.{KeepsItems};
 
 use gltf_data::laws::alike_documents_are_read_alike;

@@ -13,8 +13,8 @@ const PRIVATE: u32 = 0o600;
 const PUBLIC: u32 = 0o666;
 
 /// Writes the bytes to the file of that name, by way of a new one beside it, `NAME.part`, which
-/// takes the name once it is whole. Where a write fails, the file is what it was before, and the new
-/// one is removed; where that fails too, it is left behind.
+/// takes the name once it is whole. Where a write fails, the file is what it was before, and the
+/// new one is removed; where that fails too, it is left behind.
 ///
 /// What stands at the name has to be a regular file, a symbolic link to one, or nothing. A link is
 /// followed: the file that it leads to is replaced in its place. The new file has the mode of the
