@@ -151,6 +151,150 @@ pub enum Code {
     InputTooFewElements,
     /// `UNUSED_OBJECT`: No member of the document names this object (section 5.17).
     UnusedObject,
+    /// `IO_ERROR`: A file cannot be read (section 2.8).
+    IoError,
+    /// `GLB_INVALID_VERSION`: The version of the container is not 2 (section 4.4.2).
+    GlbInvalidVersion,
+    /// `GLB_LENGTH_TOO_SMALL`: The length in the header is less than that of the header (section
+    /// 4.4.2).
+    GlbLengthTooSmall,
+    /// `GLB_LENGTH_MISMATCH`: The length in the header is not that of the file (section 4.4.2).
+    GlbLengthMismatch,
+    /// `GLB_UNEXPECTED_END_OF_HEADER`: The file ends within the header (section 4.4.2).
+    GlbUnexpectedEndOfHeader,
+    /// `GLB_UNEXPECTED_END_OF_CHUNK_HEADER`: The file ends within the header of a chunk (section
+    /// 4.4.3).
+    GlbUnexpectedEndOfChunkHeader,
+    /// `GLB_CHUNK_TOO_BIG`: The chunk is longer than what is left of the file (section 4.4.3).
+    GlbChunkTooBig,
+    /// `GLB_UNEXPECTED_FIRST_CHUNK`: The first chunk is not the JSON chunk (section 4.4.3).
+    GlbUnexpectedFirstChunk,
+    /// `GLB_DUPLICATE_CHUNK`: There is a chunk of this type already (section 4.4.3).
+    GlbDuplicateChunk,
+    /// `INVALID_JSON`: The text is not JSON (section 2.7).
+    InvalidJson,
+    /// `TYPE_MISMATCH`: The value is not of the type that the standard gives this member (sections
+    /// 5.1 to 5.31).
+    TypeMismatch,
+    /// `ARRAY_TYPE_MISMATCH`: The element is not of the type that the standard gives those of this
+    /// list (sections 5.1 to 5.31).
+    ArrayTypeMismatch,
+    /// `INVALID_URI`: The URI cannot be decoded (section 2.8).
+    InvalidUri,
+    /// `BUFFER_MISSING_GLB_DATA`: The buffer has no uri, and the file has no binary chunk for it
+    /// (section 3.6.1.2).
+    BufferMissingGlbData,
+    /// `BUFFER_BYTE_LENGTH_MISMATCH`: The buffer has fewer bytes than its byteLength (section
+    /// 5.10.2).
+    BufferByteLengthMismatch,
+    /// `PATTERN_MISMATCH`: The version is not two numbers with a point between them (section 5.9).
+    PatternMismatch,
+    /// `UNKNOWN_ASSET_MAJOR_VERSION`: The major version is not 2 (section 3.2).
+    UnknownMajorVersion,
+    /// `ASSET_MIN_VERSION_GREATER_THAN_VERSION`: The least version is greater than the version
+    /// (section 3.2).
+    MinVersionGreaterThanVersion,
+    /// `UNDECLARED_EXTENSION`: The extension is used, and is not in extensionsUsed (section 3.12).
+    UndeclaredExtension,
+    /// `DUPLICATE_ELEMENTS`: An earlier element of the list is the same (sections 5.17, 5.25, 5.27
+    /// and 5.28).
+    DuplicateElements,
+    /// `BUFFER_VIEW_TARGET_MISSING`: The view holds attributes or indices, and has no target
+    /// (section 3.6.1).
+    ViewTargetMissing,
+    /// `MESH_PRIMITIVE_INDEXED_SEMANTIC_CONTINUITY`: The sets of colors, texture coordinates,
+    /// joints or weights are not numbered from 0 without a gap (section 3.7.2.1).
+    IndexedSemanticContinuity,
+    /// `MESH_PRIMITIVE_JOINTS_WEIGHTS_MISMATCH`: There are not as many sets of joints as of
+    /// weights (section 3.7.3.3).
+    JointsWeightsMismatch,
+    /// `MESH_PRIMITIVE_ATTRIBUTES_ACCESSOR_INVALID_FORMAT`: The accessor's types are not among
+    /// those that the standard lists for this attribute (section 3.7.2.1).
+    AttributeInvalidFormat,
+    /// `MESH_PRIMITIVE_ACCESSOR_UNALIGNED`: The offset or the stride of the attribute is not a
+    /// multiple of 4 (section 3.6.2.4).
+    AttributeUnaligned,
+    /// `MESH_PRIMITIVE_INCOMPATIBLE_MODE`: The number of vertices or indices does not fit the mode
+    /// (section 3.7.2.1).
+    IncompatibleMode,
+    /// `MESH_PRIMITIVE_TOO_FEW_TEXCOORDS`: The material uses a set of texture coordinates that the
+    /// primitive does not have (section 3.9.2).
+    TooFewTexcoords,
+    /// `MESH_PRIMITIVE_MORPH_TARGET_NO_BASE_ACCESSOR`: The primitive does not have the attribute
+    /// that the morph target displaces (section 3.7.2.2).
+    MorphTargetNoBaseAccessor,
+    /// `MESH_PRIMITIVE_MORPH_TARGET_INVALID_ATTRIBUTE_COUNT`: The morph target has not as many
+    /// items as the attribute that it displaces (section 3.7.2.2).
+    MorphTargetInvalidCount,
+    /// `MESH_PRIMITIVES_UNEQUAL_TARGETS_COUNT`: The primitives of the mesh have unequal numbers of
+    /// morph targets (section 3.7.2.2).
+    UnequalTargetsCount,
+    /// `MESH_INVALID_WEIGHTS_COUNT`: There are not as many weights as morph targets (section
+    /// 3.7.2.2).
+    MeshInvalidWeightsCount,
+    /// `NODE_LOOP`: The node is among its own ancestors (section 3.5.2).
+    NodeLoop,
+    /// `NODE_EMPTY`: The node is empty, and no skin has it as a joint (section 5.25).
+    NodeEmpty,
+    /// `NODE_WEIGHTS_INVALID`: There are not as many weights as morph targets in the mesh of the
+    /// node (section 3.7.2.2).
+    NodeWeightsInvalid,
+    /// `NODE_SKIN_WITH_NON_SKINNED_MESH`: The node has a skin, and no primitive of its mesh has
+    /// joints (section 3.7.3.3).
+    SkinWithNonSkinnedMesh,
+    /// `NODE_SKINNED_MESH_WITHOUT_SKIN`: A primitive of the node's mesh has joints, and the node
+    /// has no skin (section 3.7.3.3).
+    SkinnedMeshWithoutSkin,
+    /// `SCENE_NON_ROOT_NODE`: The node is a child, and a scene may name roots alone (section
+    /// 3.5.1).
+    SceneNonRootNode,
+    /// `SKIN_NO_COMMON_ROOT`: The joints do not have a common root (section 3.7.3.2).
+    SkinNoCommonRoot,
+    /// `SKIN_SKELETON_INVALID`: The skeleton is not a common root of the joints (section 3.7.3.2).
+    SkinSkeletonInvalid,
+    /// `CAMERA_ZFAR_LEQUAL_ZNEAR`: The far plane is not farther than the near plane (sections 5.13
+    /// and 5.14).
+    CameraZfarLequalZnear,
+    /// `ANIMATION_DUPLICATE_TARGETS`: An earlier channel of the animation has the same target
+    /// (section 3.11).
+    DuplicateTargets,
+    /// `ANIMATION_CHANNEL_TARGET_NODE_WEIGHTS_NO_MORPHS`: Weights are animated, and the node has
+    /// no mesh with morph targets (section 3.11).
+    ChannelTargetNoMorphs,
+    /// `ANIMATION_SAMPLER_OUTPUT_ACCESSOR_INVALID_FORMAT`: The accessor's types are not among
+    /// those that the standard lists for what is animated (section 3.11).
+    OutputInvalidFormat,
+    /// `ANIMATION_SAMPLER_OUTPUT_ACCESSOR_INVALID_COUNT`: The number of values does not fit the
+    /// number of times (section 3.11).
+    OutputInvalidCount,
+    /// `ACCESSOR_INDEX_OOB`: An index is at or above the number of vertices (section 3.7.2.1).
+    IndexOob,
+    /// `ACCESSOR_INDEX_PRIMITIVE_RESTART`: An index is the greatest of its type, which would
+    /// restart the primitive (section 3.7.2.1).
+    IndexPrimitiveRestart,
+    /// `ACCESSOR_INDEX_TRIANGLE_DEGENERATE`: A triangle names a vertex twice (section 3.7.2.1).
+    IndexTriangleDegenerate,
+    /// `ACCESSOR_SPARSE_INDICES_NON_INCREASING`: A sparse index is not greater than the one before
+    /// (section 5.2).
+    SparseIndicesNonIncreasing,
+    /// `ACCESSOR_SPARSE_INDEX_OOB`: A sparse index is at or above the number of items (section
+    /// 5.2).
+    SparseIndexOob,
+    /// `ACCESSOR_INVALID_FLOAT`: A component is infinite or not a number (section 3.6.2.2).
+    InvalidFloat,
+    /// `ACCESSOR_MIN_MISMATCH`: The stated minimum is not the least value (section 3.6.2.5).
+    MinMismatch,
+    /// `ACCESSOR_MAX_MISMATCH`: The stated maximum is not the greatest value (section 3.6.2.5).
+    MaxMismatch,
+    /// `ACCESSOR_ELEMENT_OUT_OF_MIN_BOUND`: An item is below the stated minimum (section 3.6.2.5).
+    ElementOutOfMinBound,
+    /// `ACCESSOR_ELEMENT_OUT_OF_MAX_BOUND`: An item is above the stated maximum (section 3.6.2.5).
+    ElementOutOfMaxBound,
+    /// `ACCESSOR_ANIMATION_INPUT_NEGATIVE`: A time is negative (section 3.11).
+    AnimationInputNegative,
+    /// `ACCESSOR_ANIMATION_INPUT_NON_INCREASING`: A time is not greater than the one before
+    /// (section 3.11).
+    AnimationInputNonIncreasing,
 }
 
 impl Code {
@@ -159,9 +303,16 @@ impl Code {
         ensures { result ≡ severity self }
     {
         match self {
-            Code::AlphaCutoffInvalidMode | Code::NoPosition | Code::TangentWithoutNormal =>
-                Severity::Warning,
-            Code::UnsupportedExtension | Code::UnusedObject => Severity::Information,
+            Code::AlphaCutoffInvalidMode
+            | Code::NoPosition
+            | Code::TangentWithoutNormal
+            | Code::IncompatibleMode
+            | Code::SkinnedMeshWithoutSkin => Severity::Warning,
+            Code::UnsupportedExtension
+            | Code::UnusedObject
+            | Code::NodeEmpty
+            | Code::IndexTriangleDegenerate => Severity::Information,
+            Code::ViewTargetMissing => Severity::Hint,
             Code::UnresolvedReference
             | Code::ValueNotInList
             | Code::InvalidAttribute
@@ -193,7 +344,58 @@ impl Code {
             | Code::ChannelTargetMatrix
             | Code::InputInvalidFormat
             | Code::InputWithoutBounds
-            | Code::InputTooFewElements => Severity::Error,
+            | Code::InputTooFewElements
+            | Code::IoError
+            | Code::GlbInvalidVersion
+            | Code::GlbLengthTooSmall
+            | Code::GlbLengthMismatch
+            | Code::GlbUnexpectedEndOfHeader
+            | Code::GlbUnexpectedEndOfChunkHeader
+            | Code::GlbChunkTooBig
+            | Code::GlbUnexpectedFirstChunk
+            | Code::GlbDuplicateChunk
+            | Code::InvalidJson
+            | Code::TypeMismatch
+            | Code::ArrayTypeMismatch
+            | Code::InvalidUri
+            | Code::BufferMissingGlbData
+            | Code::BufferByteLengthMismatch
+            | Code::PatternMismatch
+            | Code::UnknownMajorVersion
+            | Code::MinVersionGreaterThanVersion
+            | Code::UndeclaredExtension
+            | Code::DuplicateElements
+            | Code::IndexedSemanticContinuity
+            | Code::JointsWeightsMismatch
+            | Code::AttributeInvalidFormat
+            | Code::AttributeUnaligned
+            | Code::TooFewTexcoords
+            | Code::MorphTargetNoBaseAccessor
+            | Code::MorphTargetInvalidCount
+            | Code::UnequalTargetsCount
+            | Code::MeshInvalidWeightsCount
+            | Code::NodeLoop
+            | Code::NodeWeightsInvalid
+            | Code::SkinWithNonSkinnedMesh
+            | Code::SceneNonRootNode
+            | Code::SkinNoCommonRoot
+            | Code::SkinSkeletonInvalid
+            | Code::CameraZfarLequalZnear
+            | Code::DuplicateTargets
+            | Code::ChannelTargetNoMorphs
+            | Code::OutputInvalidFormat
+            | Code::OutputInvalidCount
+            | Code::IndexOob
+            | Code::IndexPrimitiveRestart
+            | Code::SparseIndicesNonIncreasing
+            | Code::SparseIndexOob
+            | Code::InvalidFloat
+            | Code::MinMismatch
+            | Code::MaxMismatch
+            | Code::ElementOutOfMinBound
+            | Code::ElementOutOfMaxBound
+            | Code::AnimationInputNegative
+            | Code::AnimationInputNonIncreasing => Severity::Error,
         }
     }
 
@@ -239,6 +441,62 @@ impl Code {
             Code::InputWithoutBounds => "ANIMATION_SAMPLER_INPUT_ACCESSOR_WITHOUT_BOUNDS",
             Code::InputTooFewElements => "ANIMATION_SAMPLER_INPUT_ACCESSOR_TOO_FEW_ELEMENTS",
             Code::UnusedObject => "UNUSED_OBJECT",
+            Code::IoError => "IO_ERROR",
+            Code::GlbInvalidVersion => "GLB_INVALID_VERSION",
+            Code::GlbLengthTooSmall => "GLB_LENGTH_TOO_SMALL",
+            Code::GlbLengthMismatch => "GLB_LENGTH_MISMATCH",
+            Code::GlbUnexpectedEndOfHeader => "GLB_UNEXPECTED_END_OF_HEADER",
+            Code::GlbUnexpectedEndOfChunkHeader => "GLB_UNEXPECTED_END_OF_CHUNK_HEADER",
+            Code::GlbChunkTooBig => "GLB_CHUNK_TOO_BIG",
+            Code::GlbUnexpectedFirstChunk => "GLB_UNEXPECTED_FIRST_CHUNK",
+            Code::GlbDuplicateChunk => "GLB_DUPLICATE_CHUNK",
+            Code::InvalidJson => "INVALID_JSON",
+            Code::TypeMismatch => "TYPE_MISMATCH",
+            Code::ArrayTypeMismatch => "ARRAY_TYPE_MISMATCH",
+            Code::InvalidUri => "INVALID_URI",
+            Code::BufferMissingGlbData => "BUFFER_MISSING_GLB_DATA",
+            Code::BufferByteLengthMismatch => "BUFFER_BYTE_LENGTH_MISMATCH",
+            Code::PatternMismatch => "PATTERN_MISMATCH",
+            Code::UnknownMajorVersion => "UNKNOWN_ASSET_MAJOR_VERSION",
+            Code::MinVersionGreaterThanVersion => "ASSET_MIN_VERSION_GREATER_THAN_VERSION",
+            Code::UndeclaredExtension => "UNDECLARED_EXTENSION",
+            Code::DuplicateElements => "DUPLICATE_ELEMENTS",
+            Code::ViewTargetMissing => "BUFFER_VIEW_TARGET_MISSING",
+            Code::IndexedSemanticContinuity => "MESH_PRIMITIVE_INDEXED_SEMANTIC_CONTINUITY",
+            Code::JointsWeightsMismatch => "MESH_PRIMITIVE_JOINTS_WEIGHTS_MISMATCH",
+            Code::AttributeInvalidFormat => "MESH_PRIMITIVE_ATTRIBUTES_ACCESSOR_INVALID_FORMAT",
+            Code::AttributeUnaligned => "MESH_PRIMITIVE_ACCESSOR_UNALIGNED",
+            Code::IncompatibleMode => "MESH_PRIMITIVE_INCOMPATIBLE_MODE",
+            Code::TooFewTexcoords => "MESH_PRIMITIVE_TOO_FEW_TEXCOORDS",
+            Code::MorphTargetNoBaseAccessor => "MESH_PRIMITIVE_MORPH_TARGET_NO_BASE_ACCESSOR",
+            Code::MorphTargetInvalidCount => "MESH_PRIMITIVE_MORPH_TARGET_INVALID_ATTRIBUTE_COUNT",
+            Code::UnequalTargetsCount => "MESH_PRIMITIVES_UNEQUAL_TARGETS_COUNT",
+            Code::MeshInvalidWeightsCount => "MESH_INVALID_WEIGHTS_COUNT",
+            Code::NodeLoop => "NODE_LOOP",
+            Code::NodeEmpty => "NODE_EMPTY",
+            Code::NodeWeightsInvalid => "NODE_WEIGHTS_INVALID",
+            Code::SkinWithNonSkinnedMesh => "NODE_SKIN_WITH_NON_SKINNED_MESH",
+            Code::SkinnedMeshWithoutSkin => "NODE_SKINNED_MESH_WITHOUT_SKIN",
+            Code::SceneNonRootNode => "SCENE_NON_ROOT_NODE",
+            Code::SkinNoCommonRoot => "SKIN_NO_COMMON_ROOT",
+            Code::SkinSkeletonInvalid => "SKIN_SKELETON_INVALID",
+            Code::CameraZfarLequalZnear => "CAMERA_ZFAR_LEQUAL_ZNEAR",
+            Code::DuplicateTargets => "ANIMATION_DUPLICATE_TARGETS",
+            Code::ChannelTargetNoMorphs => "ANIMATION_CHANNEL_TARGET_NODE_WEIGHTS_NO_MORPHS",
+            Code::OutputInvalidFormat => "ANIMATION_SAMPLER_OUTPUT_ACCESSOR_INVALID_FORMAT",
+            Code::OutputInvalidCount => "ANIMATION_SAMPLER_OUTPUT_ACCESSOR_INVALID_COUNT",
+            Code::IndexOob => "ACCESSOR_INDEX_OOB",
+            Code::IndexPrimitiveRestart => "ACCESSOR_INDEX_PRIMITIVE_RESTART",
+            Code::IndexTriangleDegenerate => "ACCESSOR_INDEX_TRIANGLE_DEGENERATE",
+            Code::SparseIndicesNonIncreasing => "ACCESSOR_SPARSE_INDICES_NON_INCREASING",
+            Code::SparseIndexOob => "ACCESSOR_SPARSE_INDEX_OOB",
+            Code::InvalidFloat => "ACCESSOR_INVALID_FLOAT",
+            Code::MinMismatch => "ACCESSOR_MIN_MISMATCH",
+            Code::MaxMismatch => "ACCESSOR_MAX_MISMATCH",
+            Code::ElementOutOfMinBound => "ACCESSOR_ELEMENT_OUT_OF_MIN_BOUND",
+            Code::ElementOutOfMaxBound => "ACCESSOR_ELEMENT_OUT_OF_MAX_BOUND",
+            Code::AnimationInputNegative => "ACCESSOR_ANIMATION_INPUT_NEGATIVE",
+            Code::AnimationInputNonIncreasing => "ACCESSOR_ANIMATION_INPUT_NON_INCREASING",
         }
     }
 
@@ -293,6 +551,79 @@ impl Code {
             Code::InputWithoutBounds => "The accessor of the times has no min or no max.",
             Code::InputTooFewElements => "A cubic spline needs two times at least.",
             Code::UnusedObject => "No member of the document names this object.",
+            Code::IoError => "A file cannot be read.",
+            Code::GlbInvalidVersion => "The version of the container is not 2.",
+            Code::GlbLengthTooSmall => "The length in the header is less than that of the header.",
+            Code::GlbLengthMismatch => "The length in the header is not that of the file.",
+            Code::GlbUnexpectedEndOfHeader => "The file ends within the header.",
+            Code::GlbUnexpectedEndOfChunkHeader => "The file ends within the header of a chunk.",
+            Code::GlbChunkTooBig => "The chunk is longer than what is left of the file.",
+            Code::GlbUnexpectedFirstChunk => "The first chunk is not the JSON chunk.",
+            Code::GlbDuplicateChunk => "There is a chunk of this type already.",
+            Code::InvalidJson => "The text is not JSON.",
+            Code::TypeMismatch =>
+                "The value is not of the type that the standard gives this member.",
+            Code::ArrayTypeMismatch =>
+                "The element is not of the type that the standard gives those of this list.",
+            Code::InvalidUri => "The URI cannot be decoded.",
+            Code::BufferMissingGlbData =>
+                "The buffer has no uri, and the file has no binary chunk for it.",
+            Code::BufferByteLengthMismatch => "The buffer has fewer bytes than its byteLength.",
+            Code::PatternMismatch => "The version is not two numbers with a point between them.",
+            Code::UnknownMajorVersion => "The major version is not 2.",
+            Code::MinVersionGreaterThanVersion => "The least version is greater than the version.",
+            Code::UndeclaredExtension => "The extension is used, and is not in extensionsUsed.",
+            Code::DuplicateElements => "An earlier element of the list is the same.",
+            Code::ViewTargetMissing => "The view holds attributes or indices, and has no target.",
+            Code::IndexedSemanticContinuity =>
+                "The sets of colors, texture coordinates, joints or weights are not numbered from 0 without a gap.",
+            Code::JointsWeightsMismatch => "There are not as many sets of joints as of weights.",
+            Code::AttributeInvalidFormat =>
+                "The accessor's types are not among those that the standard lists for this attribute.",
+            Code::AttributeUnaligned =>
+                "The offset or the stride of the attribute is not a multiple of 4.",
+            Code::IncompatibleMode => "The number of vertices or indices does not fit the mode.",
+            Code::TooFewTexcoords =>
+                "The material uses a set of texture coordinates that the primitive does not have.",
+            Code::MorphTargetNoBaseAccessor =>
+                "The primitive does not have the attribute that the morph target displaces.",
+            Code::MorphTargetInvalidCount =>
+                "The morph target has not as many items as the attribute that it displaces.",
+            Code::UnequalTargetsCount =>
+                "The primitives of the mesh have unequal numbers of morph targets.",
+            Code::MeshInvalidWeightsCount => "There are not as many weights as morph targets.",
+            Code::NodeLoop => "The node is among its own ancestors.",
+            Code::NodeEmpty => "The node is empty, and no skin has it as a joint.",
+            Code::NodeWeightsInvalid =>
+                "There are not as many weights as morph targets in the mesh of the node.",
+            Code::SkinWithNonSkinnedMesh =>
+                "The node has a skin, and no primitive of its mesh has joints.",
+            Code::SkinnedMeshWithoutSkin =>
+                "A primitive of the node's mesh has joints, and the node has no skin.",
+            Code::SceneNonRootNode => "The node is a child, and a scene may name roots alone.",
+            Code::SkinNoCommonRoot => "The joints do not have a common root.",
+            Code::SkinSkeletonInvalid => "The skeleton is not a common root of the joints.",
+            Code::CameraZfarLequalZnear => "The far plane is not farther than the near plane.",
+            Code::DuplicateTargets => "An earlier channel of the animation has the same target.",
+            Code::ChannelTargetNoMorphs =>
+                "Weights are animated, and the node has no mesh with morph targets.",
+            Code::OutputInvalidFormat =>
+                "The accessor's types are not among those that the standard lists for what is animated.",
+            Code::OutputInvalidCount => "The number of values does not fit the number of times.",
+            Code::IndexOob => "An index is at or above the number of vertices.",
+            Code::IndexPrimitiveRestart =>
+                "An index is the greatest of its type, which would restart the primitive.",
+            Code::IndexTriangleDegenerate => "A triangle names a vertex twice.",
+            Code::SparseIndicesNonIncreasing =>
+                "A sparse index is not greater than the one before.",
+            Code::SparseIndexOob => "A sparse index is at or above the number of items.",
+            Code::InvalidFloat => "A component is infinite or not a number.",
+            Code::MinMismatch => "The stated minimum is not the least value.",
+            Code::MaxMismatch => "The stated maximum is not the greatest value.",
+            Code::ElementOutOfMinBound => "An item is below the stated minimum.",
+            Code::ElementOutOfMaxBound => "An item is above the stated maximum.",
+            Code::AnimationInputNegative => "A time is negative.",
+            Code::AnimationInputNonIncreasing => "A time is not greater than the one before.",
         }
     }
 }
