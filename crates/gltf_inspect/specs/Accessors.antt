@@ -1,5 +1,5 @@
 -- Accessors and their sparse parts (glTF 2.0, section 3.6.2).
-use Rattle.std.specs.Prelude.{ℕ, ◌+◌, ◌%◌, ◌==◌, ◌||◌, not, nat_le, nat_lt, Bool, true, false, slice_get, Option, Some, None, codes}
+use Rattle.std.specs.Prelude.{ℕ, ◌+◌, ◌%◌, ◌==◌, ◌||◌, not, nat_le, nat_lt, Bool, true, false, slice_get, codes}
 use Rattle.gltf_json.specs.declared.root.Root.{Root}
 use Rattle.gltf_json_record.specs.declared.validation.Checked.{Checked}
 use Rattle.gltf_json_record.specs.declared.validation.Checked.TheVariants.{Valid}
@@ -13,8 +13,8 @@ use Rattle.gltf_findings.specs.declared.code.Code.TheVariants.{OffsetAlignment, 
 use Rattle.gltf_findings.specs.declared.code.Code.TheVariants.{AccessorTooLong, SmallByteStride}
 use Rattle.gltf_findings.specs.declared.code.Code.TheVariants.{SparseCountOutOfRange}
 use Rattle.gltf_findings.specs.Checks.{Checks, Condition, ◌&◌, member, optional_checks}
-use Rattle.gltf_inspect.specs.Facts.{or_zero}
-use Rattle.gltf_inspect.specs.Items.{component_size, item_size, last_size, fit}
+use Rattle.gltf_inspect_meshes.specs.Facts.{or_zero}
+use Rattle.gltf_inspect_meshes.specs.Items.{component_size, last_size, fit, size_of, packed, stride_in}
 
 -- normalized "MUST NOT be set to true for accessors with FLOAT or UNSIGNED_INT component type"
 -- (5.1.4)
@@ -22,18 +22,6 @@ abbrev pub may_be_normalized : Checked ComponentType → Bool
 may_be_normalized (Valid U32) = false
 may_be_normalized (Valid F32) = false
 may_be_normalized _ = true
-
--- the bytes of a component of the accessor, and from one packed item to the next
-abbrev pub size_of : Accessor → ℕ
-size_of a = component_size a.component_type
-
-abbrev pub packed : Accessor → ℕ
-packed a = item_size a.type_ (size_of a)
-
--- the bytes from item to item, in the view
-abbrev pub stride_in : Accessor → Option ℕ → ℕ
-stride_in a None = packed a
-stride_in a (Some stride) = stride
 
 -- "the offset of an accessor into a bufferView [..] and the offset of an accessor into a buffer
 -- [..] MUST be a multiple of the size of the accessor's component type", "each accessor MUST fit its

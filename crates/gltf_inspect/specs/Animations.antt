@@ -16,7 +16,7 @@ use Rattle.gltf_findings.specs.declared.code.Code.TheVariants.{EmptyEntity, Chan
 use Rattle.gltf_findings.specs.declared.code.Code.TheVariants.{InputInvalidFormat}
 use Rattle.gltf_findings.specs.declared.code.Code.TheVariants.{InputWithoutBounds, InputTooFewElements}
 use Rattle.gltf_findings.specs.Checks.{Checks, Condition, ◌&◌, member, optional_checks, list_checks}
-use Rattle.gltf_inspect.specs.Facts.{has_elements, is_bounded}
+use Rattle.gltf_inspect_meshes.specs.Facts.{has_elements, is_bounded}
 use Rattle.gltf_inspect.specs.Meshes.{is_scalar}
 use Rattle.gltf_inspect.specs.Scenes.{is_float}
 

@@ -1,41 +1,15 @@
 -- The attributes of a primitive (glTF 2.0, section 3.7.2.1).
-use Rattle.std.specs.Prelude.{ℕ, ◌==◌, ◌||◌, not, if◌then◌else◌, Bool, true, is_some, slice_get, List, [], ◌∷◌}
+use Rattle.std.specs.Prelude.{ℕ, ◌==◌, ◌||◌, not, Bool, is_some, slice_get, List, [], ◌∷◌}
 use Rattle.std.specs.Prelude.{Option, Some, None}
 use Rattle.gltf_json_geometry.specs.Semantics.{semantic_name}
 use Rattle.gltf_json_geometry.specs.declared.accessor.Accessor.{Accessor}
 use Rattle.gltf_json_geometry.specs.declared.semantic.Semantic.{Semantic}
-use Rattle.gltf_json_geometry.specs.declared.semantic.Semantic.TheVariants as meaning
 use Rattle.gltf_json_record.specs.Place.{keyed}
 use Rattle.gltf_findings.specs.declared.code.Code.TheVariants.{UnequalAccessorCount}
 use Rattle.gltf_findings.specs.declared.code.Code.TheVariants.{PositionWithoutBounds, TangentWithoutNormal}
 use Rattle.gltf_findings.specs.Checks.{Checks, Nothing, Condition, At, ◌&◌, optional_checks}
-use Rattle.gltf_inspect.specs.Facts.{is_bounded}
-
--- a number for the meanings that checks ask for
-abbrev pub meaning_number : Semantic → ℕ
-meaning_number meaning.Positions = 1
-meaning_number meaning.Normals = 2
-meaning_number meaning.Tangents = 3
-meaning_number _ = 0
-
--- the accessor of the first attribute whose meaning has this number
-abbrev pub first_of : ℕ → List (Semantic × ℕ) → Option ℕ
-first_of n [] = None
-first_of n (entry ∷ entries) =
-    if meaning_number entry.0 == n then Some entry.1 else first_of n entries
-
-abbrev pub counted : Option Accessor → Option ℕ
-counted None = None
-counted (Some a) = Some a.count
-
--- the number of items of the accessor at an index
-abbrev pub count_at : List Accessor → ℕ → Option ℕ
-count_at accessors i = counted (slice_get accessors i)
-
--- two numbers of items are not known to differ
-abbrev pub agree : Option ℕ → ℕ → Bool
-agree (Some n) m = n == m
-agree None m = true
+use Rattle.gltf_inspect_meshes.specs.Facts.{is_bounded}
+use Rattle.gltf_inspect_meshes.specs.Meanings.{meaning_number, first_of, count_at, agree}
 
 abbrev pub vertices : List Accessor → List (Semantic × ℕ) → Option ℕ → Option ℕ
 vertices accessors entries (Some i) = count_at accessors i

@@ -1,8 +1,6 @@
-pub mod Facts
 pub mod Refusals
 pub mod Extensions
 pub mod Views
-pub mod Items
 pub mod Accessors
 pub mod Materials
 pub mod Attributes

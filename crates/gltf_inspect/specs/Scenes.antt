@@ -13,7 +13,7 @@ use Rattle.gltf_json_scene.specs.declared.skin.Skin.{Skin}
 use Rattle.gltf_findings.specs.declared.code.Code.TheVariants.{EmptyEntity, NodeMatrixTrs}
 use Rattle.gltf_findings.specs.declared.code.Code.TheVariants.{IbmInvalidFormat, IbmCount}
 use Rattle.gltf_findings.specs.Checks.{Checks, Condition, ◌&◌, member, optional_checks}
-use Rattle.gltf_inspect.specs.Facts.{has_elements}
+use Rattle.gltf_inspect_meshes.specs.Facts.{has_elements}
 
 -- a node has "either a matrix or any combination of translation/rotation/scale" (5.25)
 abbrev pub node_checks : Node → Checks

@@ -8,7 +8,7 @@ use Rattle.gltf_findings.specs.declared.code.Code.TheVariants.{ValueNotInRange, 
 use Rattle.gltf_findings.specs.declared.code.Code.TheVariants.{ViewTooBigByteStride, ViewTooLong}
 use Rattle.gltf_findings.specs.declared.code.Code.TheVariants.{ImageViewWithByteStride}
 use Rattle.gltf_findings.specs.Checks.{Checks, Condition, ◌&◌, member, optional_checks}
-use Rattle.gltf_inspect.specs.Facts.{or_zero}
+use Rattle.gltf_inspect_meshes.specs.Facts.{or_zero}
 
 -- byteLength is at least 1 (5.10.2)
 abbrev pub buffer_checks : Buffer → Checks

@@ -5,11 +5,10 @@ ghost use Rattle.gltf_findings.specs.Checks.{told_after, optional_checks};
 ghost use Rattle.gltf_inspect.specs.Accessors.{may_be_normalized, in_view_checks};
 ghost use Rattle.gltf_inspect.specs.Accessors.{part_checks, sparse_checks, accessor_checks, base_checks};
 
-use crate::item::{component_size, fit, item_size, last_size};
 use crate::list::Inspect;
-use crate::view::or_zero;
 use gltf_findings::code::Code;
 use gltf_findings::findings::Findings;
+use gltf_inspect_meshes::item::{component_size, fit, item_size, last_size, or_zero};
 use gltf_json::root::Root;
 use gltf_json_geometry::accessor::sparse::Sparse;
 use gltf_json_geometry::accessor::{Accessor, ComponentType};

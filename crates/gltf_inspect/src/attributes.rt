@@ -2,13 +2,15 @@
 ghost use Rattle.std.specs.Prelude.{◌≡◌, OnOk};
 ghost use Rattle.gltf_validation.specs.Locations.{places_of};
 ghost use Rattle.gltf_findings.specs.Checks.{told_after};
-ghost use Rattle.gltf_inspect.specs.Facts.{is_bounded};
-ghost use Rattle.gltf_inspect.specs.Attributes.{meaning_number, first_of, count_at, agree};
+ghost use Rattle.gltf_inspect_meshes.specs.Facts.{is_bounded};
 ghost use Rattle.gltf_inspect.specs.Attributes.{vertex_count, attribute_checks};
 ghost use Rattle.gltf_inspect.specs.Attributes.{attributes_checks};
 
 use gltf_findings::code::Code;
 use gltf_findings::findings::Findings;
+use gltf_inspect_meshes::meaning::{
+    NORMALS, POSITIONS, TANGENTS, agree, count_at, first_of, meaning_number,
+};
 use gltf_json_geometry::accessor::Accessor;
 use gltf_json_geometry::semantic::Semantic;
 use gltf_json_record::index::Index;
@@ -16,48 +18,6 @@ use gltf_json_record::kinds;
 use gltf_validation::location::Location;
 use std::alloc::AllocError;
 use std::collections::BTreeMap;
-
-/// The number of positions.
-pub(crate) const POSITIONS: u8 = 1;
-
-const NORMALS: u8 = 2;
-
-const TANGENTS: u8 = 3;
-
-fn meaning_number(semantic: &Semantic) -> u8
-    ensures { result ≡ meaning_number semantic.now }
-{
-    match semantic {
-        Semantic::Positions => POSITIONS,
-        Semantic::Normals => NORMALS,
-        Semantic::Tangents => TANGENTS,
-        _ => 0,
-    }
-}
-
-/// The accessor of the first attribute whose meaning has this number.
-pub(crate) fn first_of(
-    number: u8,
-    attributes: &BTreeMap<Semantic, Index<kinds::Accessor>>,
-) -> Option<usize>
-    ensures { result ≡ first_of number attributes.now.entries }
-{
-    for (semantic, index) in attributes {
-        if meaning_number(semantic) == number {
-            return Some(index.value());
-        }
-    }
-    None
-}
-
-fn count_at(accessors: &[Accessor], index: usize) -> Option<u64>
-    ensures { result ≡ count_at accessors.now index }
-{
-    match accessors.get(index) {
-        None => None,
-        Some(accessor) => Some(accessor.count),
-    }
-}
 
 fn vertex_count(
     accessors: &[Accessor],
@@ -71,15 +31,6 @@ fn vertex_count(
             let (_semantic, index) = attributes.iter().next()?;
             count_at(accessors, index.value())
         }
-    }
-}
-
-fn agree(vertices: Option<u64>, count: u64) -> bool
-    ensures { result ≡ agree vertices count }
-{
-    match vertices {
-        None => true,
-        Some(vertices) => vertices == count,
     }
 }
 

@@ -15,6 +15,7 @@ use crate::unused::tell_unused;
 use gltf_findings::findings::Findings;
 use gltf_findings::laws::a_walk_adds_what_is_found;
 use gltf_findings::report::Report;
+use gltf_inspect_meshes::meshes::inspect_meshes;
 use gltf_json::root::Root;
 use gltf_json_record::path::Path;
 use gltf_validation::counts::Counts;
@@ -40,6 +41,7 @@ pub fn inspect(alloc: Global, root: &Root) -> Result<Report, AllocError>
     inspect_records(root, &Location::Whole, &mut findings)?;
     inspect_document(alloc, root, &Location::Whole, &mut findings)?;
     tell_unused(alloc, root, &Location::Whole, &mut findings)?;
+    inspect_meshes(root, &Location::Whole, &mut findings)?;
     Ok(Report::new(findings))
 }
 

@@ -7,7 +7,6 @@ mod animation;
 mod attributes;
 mod extensions;
 pub mod inspect;
-mod item;
 pub mod laws;
 mod list;
 mod material;

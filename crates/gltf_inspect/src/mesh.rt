@@ -6,10 +6,11 @@ ghost use Rattle.gltf_inspect.specs.Meshes.{is_unsigned, is_scalar, indices_chec
 ghost use Rattle.gltf_inspect.specs.Meshes.{primitive_checks, mesh_checks, has_attributes};
 ghost use Rattle.gltf_inspect.specs.Meshes.{all_attributes_checks, indices_index_checks};
 
-use crate::attributes::{POSITIONS, first_of, tell_attributes};
+use crate::attributes::tell_attributes;
 use crate::list::{Inspect, inspect_each};
 use gltf_findings::code::Code;
 use gltf_findings::findings::Findings;
+use gltf_inspect_meshes::meaning::{POSITIONS, first_of};
 use gltf_json::root::Root;
 use gltf_json_geometry::accessor::{Accessor, ComponentType, Type};
 use gltf_json_geometry::mesh::{Mesh, Primitive};

@@ -2,28 +2,18 @@
 ghost use Rattle.std.specs.Prelude.{◌≡◌, OnOk, slice_get};
 ghost use Rattle.gltf_validation.specs.Locations.{places_of};
 ghost use Rattle.gltf_findings.specs.Checks.{told_after, optional_checks};
-ghost use Rattle.gltf_inspect.specs.Facts.{or_zero};
 ghost use Rattle.gltf_inspect.specs.Views.{buffer_checks, view_checks, image_checks, stride_checks};
 ghost use Rattle.gltf_inspect.specs.Views.{within_checks};
 
 use crate::list::Inspect;
 use gltf_findings::code::Code;
 use gltf_findings::findings::Findings;
+use gltf_inspect_meshes::item::or_zero;
 use gltf_json::root::Root;
 use gltf_json_geometry::buffer::{Buffer, View};
 use gltf_json_scene::image::Image;
 use gltf_validation::location::Location;
 use std::alloc::AllocError;
-
-/// An offset, which stands for 0 where it is absent.
-pub(crate) fn or_zero(offset: Option<u64>) -> u64
-    ensures { result ≡ or_zero offset }
-{
-    match offset {
-        None => 0,
-        Some(offset) => offset,
-    }
-}
 
 impl Inspect for Buffer {
     ghost checks = { λ _ b. buffer_checks b };

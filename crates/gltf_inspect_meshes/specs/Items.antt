@@ -1,9 +1,10 @@
 -- The bytes of an item (glTF 2.0, section 3.6.2.4).
-use Rattle.std.specs.Prelude.{ℕ, ◌+◌, ◌*◌, ◌-◌, ◌==◌, if◌then◌else◌, Bool, nat_le}
+use Rattle.std.specs.Prelude.{ℕ, ◌+◌, ◌*◌, ◌-◌, ◌==◌, if◌then◌else◌, Bool, nat_le, Option, Some, None}
 use Rattle.gltf_json_record.specs.declared.validation.Checked.{Checked}
 use Rattle.gltf_json_record.specs.declared.validation.Checked.TheVariants.{Valid, Invalid}
 use Rattle.gltf_json_geometry.specs.declared.accessor.ComponentType.{ComponentType}
 use Rattle.gltf_json_geometry.specs.declared.accessor.ComponentType.TheVariants.{I8, U8, I16, U16, U32, F32}
+use Rattle.gltf_json_geometry.specs.declared.accessor.Accessor.{Accessor}
 use Rattle.gltf_json_geometry.specs.declared.accessor.«Type».{«Type»}
 use Rattle.gltf_json_geometry.specs.declared.accessor.«Type».TheVariants.{Scalar, Vec2, Vec3, Vec4, Mat2, Mat3, Mat4}
 
@@ -43,3 +44,15 @@ last_size (Valid Mat4) size = 16 * size
 -- items fit into so many bytes, of which none is looked at where there is no item
 abbrev pub fit : ℕ → ℕ → ℕ → ℕ → ℕ → Bool
 fit start stride count last len = nat_le (start + stride * (count - 1) + last) len
+
+-- the bytes of a component of the accessor, and from one packed item to the next
+abbrev pub size_of : Accessor → ℕ
+size_of a = component_size a.component_type
+
+abbrev pub packed : Accessor → ℕ
+packed a = item_size a.type_ (size_of a)
+
+-- the bytes from item to item, in the view
+abbrev pub stride_in : Accessor → Option ℕ → ℕ
+stride_in a None = packed a
+stride_in a (Some stride) = stride

@@ -1,6 +1,6 @@
 use Rattle.std.proofs.Common.{◌≡◌}
-use Rattle.gltf_inspect.specs.Attributes.{first_of}
-use Rattle.gltf_inspect.proofs.attributes.first_of.Given as goal
+use Rattle.gltf_inspect_meshes.specs.Meanings.{first_of}
+use Rattle.gltf_inspect_meshes.proofs.meaning.first_of.Given as goal
 
 -- the first of those that are left is the first of all
 abbrev pub invariant-loop-semantic : goal.invariant-loop-semantic

@@ -1,0 +1,80 @@
+-- The formats of attributes (glTF 2.0, section 3.7.2.1), and where they may lie (section 3.6.2.4).
+use Rattle.std.specs.Prelude.{ℕ, ◌%◌, ◌==◌, ◌&&◌, ◌||◌, Bool, true, false, not, slice_get, List, [], ◌∷◌}
+use Rattle.gltf_json.specs.declared.root.Root.{Root}
+use Rattle.gltf_json_record.specs.Place.{keyed}
+use Rattle.gltf_json_record.specs.declared.validation.Checked.{Checked}
+use Rattle.gltf_json_record.specs.declared.validation.Checked.TheVariants.{Valid}
+use Rattle.gltf_json_geometry.specs.Semantics.{semantic_name}
+use Rattle.gltf_json_geometry.specs.declared.accessor.ComponentType.{ComponentType}
+use Rattle.gltf_json_geometry.specs.declared.accessor.ComponentType.TheVariants.{U8, U16, F32}
+use Rattle.gltf_json_geometry.specs.declared.accessor.«Type».{«Type»}
+use Rattle.gltf_json_geometry.specs.declared.accessor.«Type».TheVariants.{Scalar, Vec2, Vec3, Vec4}
+use Rattle.gltf_json_geometry.specs.declared.accessor.Accessor.{Accessor}
+use Rattle.gltf_json_geometry.specs.declared.buffer.View.{View}
+use Rattle.gltf_json_geometry.specs.declared.semantic.Semantic.{Semantic}
+use Rattle.gltf_json_geometry.specs.declared.semantic.Semantic.TheVariants as meaning
+use Rattle.gltf_findings.specs.declared.code.Code.TheVariants.{AttributeInvalidFormat, AttributeUnaligned}
+use Rattle.gltf_findings.specs.Checks.{Checks, Nothing, Condition, At, ◌&◌, optional_checks}
+use Rattle.gltf_inspect_meshes.specs.Facts.{or_zero}
+use Rattle.gltf_inspect_meshes.specs.Items.{stride_in}
+
+-- the number of components of a scalar or vector
+abbrev pub width : Checked «Type» → ℕ
+width (Valid Scalar) = 1
+width (Valid Vec2) = 2
+width (Valid Vec3) = 3
+width (Valid Vec4) = 4
+width _ = 0
+
+-- "float"
+abbrev pub is_float : Checked ComponentType → Bool → Bool
+is_float (Valid F32) normalized = not normalized
+is_float _ normalized = false
+
+-- "float, unsigned byte normalized, unsigned short normalized"
+abbrev pub is_fraction : Checked ComponentType → Bool → Bool
+is_fraction (Valid F32) normalized = not normalized
+is_fraction (Valid U8) normalized = normalized
+is_fraction (Valid U16) normalized = normalized
+is_fraction _ normalized = false
+
+-- "unsigned byte, unsigned short"
+abbrev pub is_whole : Checked ComponentType → Bool → Bool
+is_whole (Valid U8) normalized = not normalized
+is_whole (Valid U16) normalized = not normalized
+is_whole _ normalized = false
+
+-- the table of attributes; those of an application may have any format
+abbrev pub is_allowed : Semantic → ℕ → Checked ComponentType → Bool → Bool
+is_allowed (meaning.Extras name) w c normalized = true
+is_allowed meaning.Positions w c normalized = w == 3 && is_float c normalized
+is_allowed meaning.Normals w c normalized = w == 3 && is_float c normalized
+is_allowed meaning.Tangents w c normalized = w == 4 && is_float c normalized
+is_allowed (meaning.Colors set) w c normalized = (w == 3 || w == 4) && is_fraction c normalized
+is_allowed (meaning.TexCoords set) w c normalized = w == 2 && is_fraction c normalized
+is_allowed (meaning.Joints set) w c normalized = w == 4 && is_whole c normalized
+is_allowed (meaning.Weights set) w c normalized = w == 4 && is_fraction c normalized
+
+-- "for performance and compatibility reasons, each element of a vertex attribute MUST be aligned to
+-- 4-byte boundaries inside a bufferView (that is, accessor.byteOffset and bufferView.byteStride MUST
+-- be multiples of 4)"
+abbrev pub aligned_checks : Accessor → View → Checks
+aligned_checks a v =
+    Condition (or_zero a.byte_offset % 4 == 0 && stride_in a v.byte_stride % 4 == 0)
+    AttributeUnaligned
+
+abbrev pub aligned_index_checks : Root → Accessor → ℕ → Checks
+aligned_index_checks r a i = optional_checks (aligned_checks a) (slice_get r.buffer_views.items i)
+
+abbrev pub format_checks : Root → Semantic → Accessor → Checks
+format_checks r semantic a =
+    Condition (is_allowed semantic (width a.type_) a.component_type a.normalized)
+    AttributeInvalidFormat
+    & optional_checks (aligned_index_checks r a) a.buffer_view
+
+abbrev pub formats_checks : Root → List (Semantic × ℕ) → Checks
+formats_checks r [] = Nothing
+formats_checks r (entry ∷ entries) =
+    At (keyed (semantic_name entry.0))
+    (optional_checks (format_checks r entry.0) (slice_get r.accessors.items entry.1))
+    & formats_checks r entries

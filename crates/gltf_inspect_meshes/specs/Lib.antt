@@ -1,0 +1,9 @@
+pub mod Facts
+pub mod Items
+pub mod Meanings
+pub mod Sets
+pub mod Formats
+pub mod Modes
+pub mod Targets
+pub mod Weights
+pub mod Meshes

@@ -1,0 +1,4 @@
+pub mod Nodes
+pub mod Animations
+pub mod Outputs
+pub mod Scenes
