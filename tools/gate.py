@@ -27,6 +27,7 @@ PARTS = (
     ["rt", "ci"],
     ["python3", "tools/refusals.py"],
     ["python3", "tools/programs.py"],
+    ["python3", "tools/findings.py"],
     ["python3", "tools/c.py", "after-ci"],
 )
 # The most memory that a check was seen to take, and some more.

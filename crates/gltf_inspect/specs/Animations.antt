@@ -1,14 +1,11 @@
 -- Animations (glTF 2.0, section 3.11).
-use Rattle.std.specs.Prelude.{◌&&◌, ◌||◌, not, Bool, true, false, is_none, nat_le, slice_get, codes}
+use Rattle.std.specs.Prelude.{◌&&◌, ◌||◌, not, is_none, nat_le, slice_get, codes}
 use Rattle.gltf_json.specs.declared.root.Root.{Root}
 use Rattle.gltf_json_record.specs.declared.validation.Checked.{Checked}
-use Rattle.gltf_json_record.specs.declared.validation.Checked.TheVariants.{Valid}
 use Rattle.gltf_json_animation.specs.declared.animation.Animation.{Animation}
 use Rattle.gltf_json_animation.specs.declared.animation.Channel.{Channel}
 use Rattle.gltf_json_animation.specs.declared.animation.Interpolation.{Interpolation}
-use Rattle.gltf_json_animation.specs.declared.animation.Interpolation.TheVariants.{CubicSpline}
 use Rattle.gltf_json_animation.specs.declared.animation.Property.{Property}
-use Rattle.gltf_json_animation.specs.declared.animation.Property.TheVariants.{MorphTargetWeights}
 use Rattle.gltf_json_animation.specs.declared.animation.Sampler.{Sampler}
 use Rattle.gltf_json_geometry.specs.declared.accessor.Accessor.{Accessor}
 use Rattle.gltf_json_scene.specs.declared.scene.Node.{Node}
@@ -17,12 +14,9 @@ use Rattle.gltf_findings.specs.declared.code.Code.TheVariants.{InputInvalidForma
 use Rattle.gltf_findings.specs.declared.code.Code.TheVariants.{InputWithoutBounds, InputTooFewElements}
 use Rattle.gltf_findings.specs.Checks.{Checks, Condition, ◌&◌, member, optional_checks, list_checks}
 use Rattle.gltf_inspect_meshes.specs.Facts.{has_elements, is_bounded}
+use Rattle.gltf_inspect_scenes.specs.Outputs.{is_weights, is_spline}
 use Rattle.gltf_inspect.specs.Meshes.{is_scalar}
 use Rattle.gltf_inspect.specs.Scenes.{is_float}
-
-abbrev pub is_weights : Checked Property → Bool
-is_weights (Valid MorphTargetWeights) = true
-is_weights _ = false
 
 -- "when a node is targeted for animation (referenced by an animation.channel.target), only TRS
 -- properties MAY be present; matrix MUST NOT be present" (5.25)
@@ -33,10 +27,6 @@ abbrev pub channel_checks : Root → Channel → Checks
 channel_checks r c =
     member (codes "target") (member (codes "path")
     (optional_checks (target_node_checks c.target.path) (slice_get r.nodes.items c.target.node)))
-
-abbrev pub is_spline : Checked Interpolation → Bool
-is_spline (Valid CubicSpline) = true
-is_spline _ = false
 
 -- the times are SCALAR floats, with min and max; a cubic spline has two at least (5.8)
 abbrev pub input_checks : Checked Interpolation → Accessor → Checks

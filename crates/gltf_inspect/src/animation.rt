@@ -2,7 +2,7 @@
 ghost use Rattle.std.specs.Prelude.{◌≡◌, OnOk};
 ghost use Rattle.gltf_validation.specs.Locations.{places_of};
 ghost use Rattle.gltf_findings.specs.Checks.{told_after};
-ghost use Rattle.gltf_inspect.specs.Animations.{is_weights, channel_checks, is_spline};
+ghost use Rattle.gltf_inspect.specs.Animations.{channel_checks};
 ghost use Rattle.gltf_inspect.specs.Animations.{input_checks, sampler_checks, animation_checks};
 
 use crate::attributes::is_bounded;
@@ -11,8 +11,9 @@ use crate::mesh::is_scalar;
 use crate::scene::is_float;
 use gltf_findings::code::Code;
 use gltf_findings::findings::Findings;
+use gltf_inspect_scenes::animation::{is_spline, is_weights};
 use gltf_json::root::Root;
-use gltf_json_animation::animation::{Animation, Channel, Interpolation, Property, Sampler};
+use gltf_json_animation::animation::{Animation, Channel, Interpolation, Sampler};
 use gltf_json_geometry::accessor::Accessor;
 use gltf_json_record::validation::Checked;
 use gltf_validation::location::Location;
@@ -87,16 +88,4 @@ fn tell_input(
     findings.tell(is_bounded(accessor), Code::InputWithoutBounds, location)?;
     let is_enough = !is_spline(interpolation) || 2 <= accessor.count;
     findings.tell(is_enough, Code::InputTooFewElements, location)
-}
-
-fn is_weights(path: Checked<Property>) -> bool
-    ensures { result ≡ is_weights path }
-{
-    matches!(path, Checked::Valid(Property::MorphTargetWeights))
-}
-
-fn is_spline(interpolation: Checked<Interpolation>) -> bool
-    ensures { result ≡ is_spline interpolation }
-{
-    matches!(interpolation, Checked::Valid(Interpolation::CubicSpline))
 }

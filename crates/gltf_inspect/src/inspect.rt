@@ -16,6 +16,7 @@ use gltf_findings::findings::Findings;
 use gltf_findings::laws::a_walk_adds_what_is_found;
 use gltf_findings::report::Report;
 use gltf_inspect_meshes::meshes::inspect_meshes;
+use gltf_inspect_scenes::scenes::inspect_scenes;
 use gltf_json::root::Root;
 use gltf_json_record::path::Path;
 use gltf_validation::counts::Counts;
@@ -25,8 +26,8 @@ use gltf_validation::validate::faults_of;
 use std::alloc::{AllocError, Global};
 
 /// All that is found in a document, whether the rules of loading hold or not: first the broken
-/// rules, then what is found in each record, then in several at once, and last the objects that
-/// nothing names. The report has a code at a path exactly where the condition of that code stands
+/// rules, then what is found in each record, then in several at once, the objects that nothing
+/// names, and last what is found in meshes, nodes and animations by what they name. The report has a code at a path exactly where the condition of that code stands
 /// at that path and is false.
 ///
 /// It takes time in proportion to the document, and memory for the findings and a byte for each
@@ -42,6 +43,7 @@ pub fn inspect(alloc: Global, root: &Root) -> Result<Report, AllocError>
     inspect_document(alloc, root, &Location::Whole, &mut findings)?;
     tell_unused(alloc, root, &Location::Whole, &mut findings)?;
     inspect_meshes(root, &Location::Whole, &mut findings)?;
+    inspect_scenes(alloc, root, &Location::Whole, &mut findings)?;
     Ok(Report::new(findings))
 }
 

@@ -1,0 +1,230 @@
+#!/usr/bin/env python3
+"""Runs the proved program `gltf_show inspect --json` on small documents. A row is a document and what
+is found in it, as (code, pointer), by hand from the standard: for each code one document that breaks
+the rule and one that just does not. What nothing names, UNUSED_OBJECT, is left out of the rows.
+`make test` calls it after `rt ci`; an argument is another program to run. The last line is
+`N passed, M failed`."""
+import json
+import pathlib
+import subprocess
+import sys
+import tempfile
+
+sys.dont_write_bytecode = True
+
+import crates
+
+U8, U16, U32, FLOAT = 5121, 5123, 5125, 5126
+
+
+def accessor(shape, component=FLOAT, count=3, normalized=False, **members):
+    return {"componentType": component, "type": shape, "count": count, "normalized": normalized,
+            **members}
+
+
+BOUNDS = {"min": [0, 0, 0], "max": [1, 1, 1]}
+POSITIONS = accessor("VEC3", **BOUNDS)
+
+
+def mesh(attributes, mode=4, **members):
+    """A document with one mesh of one primitive: each attribute with its accessor."""
+    names = {name: i for i, name in enumerate(attributes)}
+    primitive = {"attributes": names, "mode": mode, **members}
+    return {"accessors": list(attributes.values()), "meshes": [{"primitives": [primitive]}]}
+
+
+def attributes(**others):
+    return mesh({"POSITION": POSITIONS, **others})
+
+
+PRIMITIVE = "/meshes/0/primitives/0"
+ATTRIBUTES = f"{PRIMITIVE}/attributes"
+FORMAT = "MESH_PRIMITIVE_ATTRIBUTES_ACCESSOR_INVALID_FORMAT"
+
+
+def bad_format(name):
+    return [(FORMAT, f"{ATTRIBUTES}/{name}")]
+
+
+# The formats of attributes (3.7.2.1).
+ROWS = [
+    (mesh({"POSITION": accessor("VEC3", **BOUNDS)}), []),
+    (mesh({"POSITION": accessor("VEC4", **BOUNDS)}), bad_format("POSITION")),
+    (mesh({"POSITION": accessor("VEC3", U16, **BOUNDS)}), bad_format("POSITION")),
+    (attributes(NORMAL=accessor("VEC3")), []),
+    (attributes(NORMAL=accessor("VEC2")), bad_format("NORMAL")),
+    (attributes(NORMAL=accessor("VEC3"), TANGENT=accessor("VEC4")), []),
+    (attributes(NORMAL=accessor("VEC3"), TANGENT=accessor("VEC3")), bad_format("TANGENT")),
+    (attributes(TEXCOORD_0=accessor("VEC2")), []),
+    (attributes(TEXCOORD_0=accessor("VEC2", U16, normalized=True)), []),
+    (attributes(TEXCOORD_0=accessor("VEC2", U16)), bad_format("TEXCOORD_0")),
+    (attributes(TEXCOORD_0=accessor("VEC3")), bad_format("TEXCOORD_0")),
+    (attributes(COLOR_0=accessor("VEC3", U8, normalized=True)), []),
+    (attributes(COLOR_0=accessor("VEC4", U16, normalized=True)), []),
+    (attributes(COLOR_0=accessor("VEC4", U8)), bad_format("COLOR_0")),
+    (attributes(COLOR_0=accessor("VEC2")), bad_format("COLOR_0")),
+    (attributes(JOINTS_0=accessor("VEC4", U8), WEIGHTS_0=accessor("VEC4")), []),
+    (attributes(JOINTS_0=accessor("VEC4", U16), WEIGHTS_0=accessor("VEC4", U8, normalized=True)), []),
+    (attributes(JOINTS_0=accessor("VEC4"), WEIGHTS_0=accessor("VEC4")), bad_format("JOINTS_0")),
+    (attributes(JOINTS_0=accessor("VEC4", U8, normalized=True), WEIGHTS_0=accessor("VEC4")),
+     bad_format("JOINTS_0")),
+    (attributes(JOINTS_0=accessor("VEC4", U8), WEIGHTS_0=accessor("VEC4", U8)),
+     bad_format("WEIGHTS_0")),
+    (attributes(_MINE=accessor("SCALAR", U32)), []),
+]
+
+
+def in_view(color, offset=0, **view):
+    """Colors in a view."""
+    placed = accessor("VEC3", color, normalized=True, bufferView=0, byteOffset=offset)
+    return attributes(COLOR_0=placed) | {
+        "buffers": [{"byteLength": 64}], "bufferViews": [{"buffer": 0, "byteLength": 64} | view]}
+
+
+UNALIGNED = [("MESH_PRIMITIVE_ACCESSOR_UNALIGNED", f"{ATTRIBUTES}/COLOR_0")]
+# Offsets and strides are multiples of 4 (3.6.2.4).
+ROWS += [
+    (in_view(U8, byteStride=4), []),
+    (in_view(U8), UNALIGNED),
+    (in_view(U8, offset=2, byteStride=4), UNALIGNED),
+    (in_view(U8, offset=4, byteStride=4), []),
+    (in_view(U16, byteStride=8), []),
+    (in_view(U16), UNALIGNED),
+]
+
+PAIR, JOINT, WEIGHT = accessor("VEC2"), accessor("VEC4", U8), accessor("VEC4")
+GAP = [("MESH_PRIMITIVE_INDEXED_SEMANTIC_CONTINUITY", ATTRIBUTES)]
+MISMATCH = [("MESH_PRIMITIVE_JOINTS_WEIGHTS_MISMATCH", ATTRIBUTES)]
+# The sets of attributes (3.7.2.1 and 3.7.3.3).
+ROWS += [
+    (attributes(TEXCOORD_0=PAIR, TEXCOORD_1=PAIR), []),
+    (attributes(TEXCOORD_1=PAIR), GAP),
+    (attributes(TEXCOORD_0=PAIR, TEXCOORD_2=PAIR), GAP),
+    (attributes(COLOR_1=accessor("VEC3")), GAP),
+    (attributes(JOINTS_0=JOINT, WEIGHTS_0=WEIGHT, JOINTS_1=JOINT, WEIGHTS_1=WEIGHT), []),
+    (attributes(JOINTS_0=JOINT, JOINTS_1=JOINT, WEIGHTS_0=WEIGHT), MISMATCH),
+    (attributes(WEIGHTS_0=WEIGHT), MISMATCH),
+    (attributes(JOINTS_1=JOINT, WEIGHTS_0=WEIGHT), GAP),
+]
+
+
+def drawn(mode, count):
+    return mesh({"POSITION": accessor("VEC3", count=count, **BOUNDS)}, mode)
+
+
+INCOMPATIBLE = [("MESH_PRIMITIVE_INCOMPATIBLE_MODE", PRIMITIVE)]
+# The number drawn (3.7.2.1).
+ROWS += [
+    (drawn(mode, count), [] if count in good else INCOMPATIBLE)
+    for mode, good in [(0, [1, 2, 3, 4, 5, 6]), (1, [2, 4, 6]), (2, [2, 3, 4, 5, 6]),
+                       (3, [2, 3, 4, 5, 6]), (4, [3, 6]), (5, [3, 4, 5, 6]), (6, [3, 4, 5, 6])]
+    for count in range(1, 7)
+]
+INDEXED = drawn(4, 4)
+INDEXED["meshes"][0]["primitives"][0]["indices"] = 1
+ROWS += [
+    (INDEXED | {"accessors": INDEXED["accessors"] + [accessor("SCALAR", U16, count=6)]}, []),
+    (INDEXED | {"accessors": INDEXED["accessors"] + [accessor("SCALAR", U16, count=5)]}, INCOMPATIBLE),
+]
+
+
+def morphed(target, others=({},), **members):
+    """Positions, and a mesh with a target for each of the primitives."""
+    whole = {"attributes": {"POSITION": 0}}
+    primitives = [whole | {"targets": targets} for targets in ([target], *others) if targets != {}]
+    return {"accessors": [POSITIONS, accessor("VEC3", count=4), accessor("VEC3")],
+            "meshes": [{"primitives": primitives, **members}]}
+
+
+MESH_WEIGHTS = [("MESH_INVALID_WEIGHTS_COUNT", "/meshes/0/weights")]
+# Morph targets and their weights (3.7.2.2).
+ROWS += [
+    (morphed({"POSITION": 2}), []),
+    (morphed({"POSITION": 1}),
+     [("MESH_PRIMITIVE_MORPH_TARGET_INVALID_ATTRIBUTE_COUNT", f"{PRIMITIVE}/targets/0/POSITION")]),
+    (morphed({"NORMAL": 2}),
+     [("MESH_PRIMITIVE_MORPH_TARGET_NO_BASE_ACCESSOR", f"{PRIMITIVE}/targets/0/NORMAL")]),
+    (morphed({"POSITION": 2}, [[{"POSITION": 2}]]), []),
+    (morphed({"POSITION": 2}, [[{"POSITION": 2}] * 2]),
+     [("MESH_PRIMITIVES_UNEQUAL_TARGETS_COUNT", "/meshes/0/primitives")]),
+    (morphed({"POSITION": 2}, weights=[0.5]), []),
+    (morphed({"POSITION": 2}, weights=[0.5, 0.5]), MESH_WEIGHTS),
+    (morphed({"POSITION": 2}, weights=[]), MESH_WEIGHTS),
+    (morphed({"POSITION": 2}) | {"nodes": [{"mesh": 0, "weights": [1]}]}, []),
+    (morphed({"POSITION": 2}) | {"nodes": [{"mesh": 0, "weights": [1, 0]}]},
+     [("NODE_WEIGHTS_INVALID", "/nodes/0/weights")]),
+]
+
+SKINNED = attributes(JOINTS_0=JOINT, WEIGHTS_0=WEIGHT)
+SKIN = {"skins": [{"joints": [0]}]}
+# Skins and skinned meshes (3.7.3.3).
+ROWS += [
+    (SKINNED | SKIN | {"nodes": [{"mesh": 0, "skin": 0}]}, []),
+    (attributes() | SKIN | {"nodes": [{"mesh": 0, "skin": 0}]},
+     [("NODE_SKIN_WITH_NON_SKINNED_MESH", "/nodes/0")]),
+    (SKINNED | {"nodes": [{"mesh": 0}]}, [("NODE_SKINNED_MESH_WITHOUT_SKIN", "/nodes/0")]),
+    (attributes() | {"nodes": [{"mesh": 0}]}, []),
+]
+
+
+def animated(path, output, times=2, interpolation="LINEAR", targets=2, mesh=True):
+    """A node that is animated, with a mesh of so many morph targets."""
+    time = accessor("SCALAR", count=times, min=[0], max=[1])
+    made = morphed({"POSITION": 2})
+    made["meshes"][0]["primitives"][0]["targets"] = [{"POSITION": 2}] * targets
+    channel = {"sampler": 0, "target": {"node": 0, "path": path}}
+    sampler = {"input": 3, "output": 4, "interpolation": interpolation}
+    return made | {
+        "accessors": made["accessors"] + [time, output],
+        "nodes": [{"mesh": 0} if mesh else {}],
+        "animations": [{"channels": [channel], "samplers": [sampler]}],
+    }
+
+
+OUTPUT = "/animations/0/samplers/0/output"
+OUTPUT_FORMAT = [("ANIMATION_SAMPLER_OUTPUT_ACCESSOR_INVALID_FORMAT", OUTPUT)]
+OUTPUT_COUNT = [("ANIMATION_SAMPLER_OUTPUT_ACCESSOR_INVALID_COUNT", OUTPUT)]
+NO_MORPHS = [("ANIMATION_CHANNEL_TARGET_NODE_WEIGHTS_NO_MORPHS", "/animations/0/channels/0/target/path")]
+# The outputs of samplers (3.11).
+ROWS += [
+    (animated("translation", accessor("VEC3", count=2)), []),
+    (animated("translation", accessor("VEC4", count=2)), OUTPUT_FORMAT),
+    (animated("scale", accessor("VEC3", U16, count=2, normalized=True)), OUTPUT_FORMAT),
+    (animated("rotation", accessor("VEC4", U16, count=2, normalized=True)), []),
+    (animated("rotation", accessor("VEC4", U16, count=2)), OUTPUT_FORMAT),
+    (animated("rotation", accessor("VEC3", count=2)), OUTPUT_FORMAT),
+    (animated("translation", accessor("VEC3", count=3)), OUTPUT_COUNT),
+    (animated("translation", accessor("VEC3", count=6), interpolation="CUBICSPLINE"), []),
+    (animated("translation", accessor("VEC3", count=2), interpolation="CUBICSPLINE"), OUTPUT_COUNT),
+    (animated("weights", accessor("SCALAR", count=4)), []),
+    (animated("weights", accessor("SCALAR", count=2)), OUTPUT_COUNT),
+    (animated("weights", accessor("SCALAR", count=12), interpolation="CUBICSPLINE"), []),
+    (animated("weights", accessor("VEC2", count=4)), OUTPUT_FORMAT),
+    (animated("weights", accessor("SCALAR", count=2), targets=0), NO_MORPHS + OUTPUT_COUNT),
+    (animated("weights", accessor("SCALAR", count=2), mesh=False), NO_MORPHS + OUTPUT_COUNT),
+]
+
+
+def found(program, path):
+    ran = subprocess.run([program, "inspect", "--json", path], capture_output=True, text=True)
+    messages = json.loads(ran.stdout)["issues"]["messages"]
+    return [(it["code"], it["pointer"]) for it in messages if it["code"] != "UNUSED_OBJECT"]
+
+
+def main():
+    program = sys.argv[1] if len(sys.argv) > 1 else crates.program("gltf_show")
+    failed = 0
+    with tempfile.TemporaryDirectory() as folder:
+        path = pathlib.Path(folder) / "case.gltf"
+        for members, expected in ROWS:
+            path.write_text(json.dumps({"asset": {"version": "2.0"}, **members}))
+            got = found(program, path)
+            if sorted(got) != sorted(expected):
+                failed += 1
+                print(f"{json.dumps(members)}\n  expected {expected}\n  found {got}")
+    print(f"{len(ROWS) - failed} passed, {failed} failed")
+    return 1 if failed else 0
+
+
+if __name__ == "__main__":
+    sys.exit(main())
