@@ -33,14 +33,16 @@ clearcoat = table
     & optional (codes "clearcoatTexture") (λ r. r.clearcoat_texture) texture_info
     & defaulted (codes "clearcoatRoughnessFactor")
     (λ r. r.clearcoat_roughness_factor) CLEARCOAT_ROUGHNESS_FACTOR number
-    & optional (codes "clearcoatRoughnessTexture") (λ r. r.clearcoat_roughness_texture) texture_info
+    & optional (codes "clearcoatRoughnessTexture")
+    (λ r. r.clearcoat_roughness_texture) texture_info
     & optional (codes "clearcoatNormalTexture")
     (λ r. r.clearcoat_normal_texture) normal_texture_info)
 
 -- the extension KHR_materials_sheen
 unfoldable pub sheen : Kind Sheen
 sheen = table
-    (defaulted (codes "sheenColorFactor") (λ r. r.sheen_color_factor) SHEEN_COLOR_FACTOR (numbers 3)
+    (defaulted (codes "sheenColorFactor")
+    (λ r. r.sheen_color_factor) SHEEN_COLOR_FACTOR (numbers 3)
     & optional (codes "sheenColorTexture") (λ r. r.sheen_color_texture) texture_info
     & defaulted (codes "sheenRoughnessFactor")
     (λ r. r.sheen_roughness_factor) SHEEN_ROUGHNESS_FACTOR number
@@ -63,7 +65,8 @@ iridescence = table
 unfoldable pub anisotropy : Kind Anisotropy
 anisotropy = table
     (defaulted (codes "anisotropyStrength") (λ r. r.anisotropy_strength) ANISOTROPY_STRENGTH number
-    & defaulted (codes "anisotropyRotation") (λ r. r.anisotropy_rotation) ANISOTROPY_ROTATION number
+    & defaulted (codes "anisotropyRotation")
+    (λ r. r.anisotropy_rotation) ANISOTROPY_ROTATION number
     & optional (codes "anisotropyTexture") (λ r. r.anisotropy_texture) texture_info)
 
 -- the extension KHR_materials_dispersion
@@ -74,7 +77,8 @@ dispersion = table
 -- the extension KHR_materials_diffuse_transmission
 unfoldable pub diffuse_transmission : Kind DiffuseTransmission
 diffuse_transmission = table
-    (defaulted (codes "diffuseTransmissionFactor") (λ r. r.diffuse_transmission_factor) DIFFUSE_TRANSMISSION_FACTOR number
+    (defaulted (codes "diffuseTransmissionFactor")
+    (λ r. r.diffuse_transmission_factor) DIFFUSE_TRANSMISSION_FACTOR number
     & optional (codes "diffuseTransmissionTexture")
     (λ r. r.diffuse_transmission_texture) texture_info
     & defaulted (codes "diffuseTransmissionColorFactor")
