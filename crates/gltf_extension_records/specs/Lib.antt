@@ -1,0 +1,7 @@
+pub mod Numbers
+pub mod Textures
+pub mod Materials
+pub mod Nodes
+pub mod Views
+pub mod Others
+pub mod Rules
