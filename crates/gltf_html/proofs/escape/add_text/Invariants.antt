@@ -1,0 +1,6 @@
+use Rattle.std.proofs.Common.{◌≡◌, ◌++◌, take}
+use Rattle.gltf_html.specs.Html.{html_text}
+use Rattle.gltf_html.proofs.escape.add_text.Given as goal
+
+abbrev pub invariant-loop-byte : goal.invariant-loop-byte
+invariant-loop-byte l = l.html.items ≡ l.initial.html.items ++ html_text (take l.byte-index l.text)

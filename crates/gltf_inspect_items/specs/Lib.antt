@@ -1,0 +1,4 @@
+pub mod Reading
+pub mod Attributes
+pub mod Indices
+pub mod Documents

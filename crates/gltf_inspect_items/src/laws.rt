@@ -1,0 +1,19 @@
+//! Laws of what is found in items. Each is the contract of a function that does nothing.
+ghost use Rattle.std.specs.Prelude.{List, [], ◌≡◌, ◌↔◌};
+ghost use Rattle.std.specs.List.{Contains};
+ghost use Rattle.gltf_json.specs.declared.root.Root.{Root};
+ghost use Rattle.gltf_json_record.specs.Place.{Place};
+ghost use Rattle.gltf_findings.specs.declared.code.Code.{Code};
+ghost use Rattle.gltf_findings.specs.Checks.{findings_of, Fails};
+ghost use Rattle.gltf_inspect_items.specs.Documents.{items_checks};
+ghost use Rattle.gltf_inspect_items.specs.Reading.{Bytes};
+
+/// A code is found at a path of a document exactly where a condition with that code stands there
+/// and is false.
+pub fn a_code_is_found_exactly_where_its_condition_fails()
+    ensures { (r : Root) (bytes : Bytes) (path : List Place) (code : Code)
+        → Contains (findings_of [] (items_checks r bytes)) (path, code)
+        ↔ Fails (items_checks r bytes) path code }
+{
+    gltf_findings::laws::a_finding_is_a_condition_that_fails()
+}
