@@ -1,0 +1,9 @@
+pub mod Numbers
+pub mod Uses
+pub mod Materials
+pub mod Textures
+pub mod Cameras
+pub mod Lights
+pub mod Views
+pub mod Texts
+pub mod Json

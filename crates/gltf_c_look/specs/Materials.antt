@@ -1,0 +1,230 @@
+-- Materials, as C sees them (glTF 2.0, section 3.9), with the extensions that the loader reads.
+use Rattle.std.specs.Prelude.{ℕ, ◌+◌, ◌*◌, [], ◌∷◌, Float, slice_get, is_some, ◌==◌}
+use Rattle.std.specs.Prelude.{Option, Some, None, unwrap_or, option_map, if◌then◌else◌}
+use Rattle.std.specs.Option.{option_and_then}
+use Rattle.gltf_json.specs.declared.root.Root.{Root}
+use Rattle.gltf_json_material.specs.declared.extensions.material.EmissiveStrength.{EmissiveStrength}
+use Rattle.gltf_json_material.specs.declared.extensions.material.Ior.{Ior}
+use Rattle.gltf_json_material.specs.declared.extensions.material.Material as extended
+use Rattle.gltf_json_material.specs.declared.extensions.material.PbrSpecularGlossiness.{
+  PbrSpecularGlossiness,
+}
+use Rattle.gltf_json_material.specs.declared.extensions.material.Specular as specular_record
+use Rattle.gltf_json_material.specs.declared.extensions.material.Transmission as transmission_record
+use Rattle.gltf_json_material.specs.declared.extensions.material.Volume as volume_record
+use Rattle.gltf_json_material.specs.declared.material.AlphaMode.{AlphaMode}
+use Rattle.gltf_json_material.specs.declared.material.AlphaMode.TheVariants.{Opaque, Mask, Blend}
+use Rattle.gltf_json_material.specs.declared.material.Material.{Material}
+use Rattle.gltf_json_material.specs.declared.material.PbrMetallicRoughness.{PbrMetallicRoughness}
+use Rattle.gltf_handles.specs.Sizes.{code_of}
+use Rattle.gltf_numbers.specs.declared.defaults.TheConstants.{ALPHA_CUTOFF, ATTENUATION_COLOR}
+use Rattle.gltf_numbers.specs.declared.defaults.TheConstants.{BASE_COLOR_FACTOR, DIFFUSE_FACTOR}
+use Rattle.gltf_numbers.specs.declared.defaults.TheConstants.{EMISSIVE_FACTOR, GLOSSINESS_FACTOR}
+use Rattle.gltf_numbers.specs.declared.defaults.TheConstants.{GLOSSY_SPECULAR_FACTOR}
+use Rattle.gltf_numbers.specs.declared.defaults.TheConstants.{METALLIC_FACTOR, ROUGHNESS_FACTOR}
+use Rattle.gltf_numbers.specs.declared.defaults.TheConstants.{SPECULAR_COLOR_FACTOR}
+use Rattle.gltf_numbers.specs.declared.defaults.TheConstants.{SPECULAR_FACTOR, THICKNESS_FACTOR}
+use Rattle.gltf_numbers.specs.declared.defaults.TheConstants.{TRANSMISSION_FACTOR}
+use Rattle.gltf_c_scene.specs.Values.{numbers_else, one_or_zero}
+use Rattle.gltf_c_scene.specs.declared.numbers.TheConstants.{NONE}
+use Rattle.gltf_c_look.specs.Numbers.{number_else}
+use Rattle.gltf_c_look.specs.Uses.{no_use, info_use, normal_use, occlusion_use}
+use Rattle.gltf_c_look.specs.declared.material.Core.{Core}
+use Rattle.gltf_c_look.specs.declared.material.GltfMaterial.{GltfMaterial}
+use Rattle.gltf_c_look.specs.declared.material.Glossiness.{Glossiness}
+use Rattle.gltf_c_look.specs.declared.material.Single.{Single}
+use Rattle.gltf_c_look.specs.declared.material.Specular.{Specular}
+use Rattle.gltf_c_look.specs.declared.material.Surface.{Surface}
+use Rattle.gltf_c_look.specs.declared.material.Transmission.{Transmission}
+use Rattle.gltf_c_look.specs.declared.material.Volume.{Volume}
+use Rattle.gltf_c_look.specs.declared.material.TheConstants.{IOR, EMISSIVE_STRENGTH, NO_DISTANCE}
+
+-- metalness and roughness (section 5.22)
+abbrev pub surface_of : Option PbrMetallicRoughness → Surface
+surface_of None = record {
+  base_color_factor = BASE_COLOR_FACTOR;
+  metallic_factor = METALLIC_FACTOR;
+  roughness_factor = ROUGHNESS_FACTOR;
+  base_color = no_use;
+  metallic_roughness = no_use;
+}
+surface_of (Some p) = record {
+  base_color_factor = numbers_else 4 BASE_COLOR_FACTOR p.base_color_factor;
+  metallic_factor = number_else METALLIC_FACTOR p.metallic_factor;
+  roughness_factor = number_else ROUGHNESS_FACTOR p.roughness_factor;
+  base_color = info_use p.base_color_texture;
+  metallic_roughness = info_use p.metallic_roughness_texture;
+}
+
+-- KHR_materials_pbrSpecularGlossiness
+abbrev pub glossiness_of : Option PbrSpecularGlossiness → Glossiness
+glossiness_of None = record {
+  diffuse_factor = DIFFUSE_FACTOR;
+  specular_factor = GLOSSY_SPECULAR_FACTOR;
+  glossiness_factor = GLOSSINESS_FACTOR;
+  diffuse = no_use;
+  specular_glossiness = no_use;
+}
+glossiness_of (Some g) = record {
+  diffuse_factor = numbers_else 4 DIFFUSE_FACTOR g.diffuse_factor;
+  specular_factor = numbers_else 3 GLOSSY_SPECULAR_FACTOR g.specular_factor;
+  glossiness_factor = number_else GLOSSINESS_FACTOR g.glossiness_factor;
+  diffuse = info_use g.diffuse_texture;
+  specular_glossiness = info_use g.specular_glossiness_texture;
+}
+
+-- KHR_materials_transmission
+abbrev pub transmission_of : Option transmission_record.Transmission → Transmission
+transmission_of None = record { factor = TRANSMISSION_FACTOR; texture = no_use }
+transmission_of (Some t) = record {
+  factor = number_else TRANSMISSION_FACTOR t.transmission_factor;
+  texture = info_use t.transmission_texture;
+}
+
+-- KHR_materials_ior
+abbrev pub ior_of : Option Ior → Float
+ior_of None = IOR
+ior_of (Some i) = number_else IOR i.ior
+
+-- KHR_materials_emissive_strength
+abbrev pub emissive_strength_of : Option EmissiveStrength → Float
+emissive_strength_of None = EMISSIVE_STRENGTH
+emissive_strength_of (Some e) = number_else EMISSIVE_STRENGTH e.emissive_strength
+
+-- KHR_materials_volume
+abbrev pub volume_of : Option volume_record.Volume → Volume
+volume_of None = record {
+  thickness_factor = THICKNESS_FACTOR;
+  attenuation_distance = NO_DISTANCE;
+  attenuation_color = ATTENUATION_COLOR;
+  thickness = no_use;
+}
+volume_of (Some v) = record {
+  thickness_factor = number_else THICKNESS_FACTOR v.thickness_factor;
+  attenuation_distance = number_else NO_DISTANCE v.attenuation_distance;
+  attenuation_color = numbers_else 3 ATTENUATION_COLOR v.attenuation_color;
+  thickness = info_use v.thickness_texture;
+}
+
+-- KHR_materials_specular
+abbrev pub specular_of : Option specular_record.Specular → Specular
+specular_of None = record {
+  factor = SPECULAR_FACTOR;
+  color_factor = SPECULAR_COLOR_FACTOR;
+  specular = no_use;
+  color = no_use;
+}
+specular_of (Some s) = record {
+  factor = number_else SPECULAR_FACTOR s.specular_factor;
+  color_factor = numbers_else 3 SPECULAR_COLOR_FACTOR s.specular_color_factor;
+  specular = info_use s.specular_texture;
+  color = info_use s.specular_color_texture;
+}
+
+-- what the document states of a material, as bits that are added up
+abbrev pub extension_bits : extended.Material → ℕ
+extension_bits e =
+    one_or_zero (is_some e.unlit) + 2 * one_or_zero (is_some e.pbr_specular_glossiness)
+    + 4 * one_or_zero (is_some e.transmission) + 8 * one_or_zero (is_some e.ior)
+    + 16 * one_or_zero (is_some e.emissive_strength) + 32 * one_or_zero (is_some e.volume)
+    + 64 * one_or_zero (is_some e.specular)
+
+abbrev pub stated_bits : Material → ℕ
+stated_bits m =
+    unwrap_or (option_map extension_bits m.extensions) 0
+    + 128 * one_or_zero (is_some m.pbr_metallic_roughness)
+
+-- the number of an alpha mode (section 5.19.9)
+abbrev pub alpha_mode_number : AlphaMode → ℕ
+alpha_mode_number Opaque = 0
+alpha_mode_number Mask = 1
+alpha_mode_number Blend = 2
+
+-- what a material has beside its extensions and its surface (section 5.19)
+abbrev pub core_of : Material → Core
+core_of m = record {
+  alpha_mode = code_of alpha_mode_number m.alpha_mode;
+  double_sided = one_or_zero m.double_sided;
+  has = stated_bits m;
+  alpha_cutoff = number_else ALPHA_CUTOFF m.alpha_cutoff;
+  emissive_factor = numbers_else 3 EMISSIVE_FACTOR m.emissive_factor;
+  normal = normal_use m.normal_texture;
+  occlusion = occlusion_use m.occlusion_texture;
+  emissive = info_use m.emissive_texture;
+}
+
+-- a material of its parts
+abbrev pub joined : Core → Surface → Glossiness → Transmission → Single → Volume → Specular
+    → GltfMaterial
+joined core surface glossiness transmission single volume specular = record {
+  alpha_mode = core.alpha_mode;
+  double_sided = core.double_sided;
+  has = core.has;
+  reserved_word = 0;
+  alpha_cutoff = core.alpha_cutoff;
+  base_color_factor = surface.base_color_factor;
+  metallic_factor = surface.metallic_factor;
+  roughness_factor = surface.roughness_factor;
+  emissive_factor = core.emissive_factor;
+  base_color = surface.base_color;
+  metallic_roughness = surface.metallic_roughness;
+  normal = core.normal;
+  occlusion = core.occlusion;
+  emissive = core.emissive;
+  diffuse_factor = glossiness.diffuse_factor;
+  specular_glossiness_factor = glossiness.specular_factor;
+  glossiness_factor = glossiness.glossiness_factor;
+  diffuse = glossiness.diffuse;
+  specular_glossiness = glossiness.specular_glossiness;
+  transmission_factor = transmission.factor;
+  ior = single.ior;
+  emissive_strength = single.emissive_strength;
+  transmission = transmission.texture;
+  thickness_factor = volume.thickness_factor;
+  attenuation_distance = volume.attenuation_distance;
+  attenuation_color = volume.attenuation_color;
+  thickness = volume.thickness;
+  specular_factor = specular.factor;
+  specular_color_factor = specular.color_factor;
+  specular = specular.specular;
+  specular_color = specular.color;
+  reserved = 0 ∷ 0 ∷ 0 ∷ 0 ∷ 0 ∷ 0 ∷ 0 ∷ 0 ∷ [];
+}
+
+-- what C sees of a material
+abbrev pub shown_material : Material → GltfMaterial
+shown_material m =
+    joined (core_of m) (surface_of m.pbr_metallic_roughness)
+    (glossiness_of (option_and_then (λ e. e.pbr_specular_glossiness) m.extensions))
+    (transmission_of (option_and_then (λ e. e.transmission) m.extensions))
+    (record {
+      ior = ior_of (option_and_then (λ e. e.ior) m.extensions);
+      emissive_strength = emissive_strength_of
+          (option_and_then (λ e. e.emissive_strength) m.extensions);
+    })
+    (volume_of (option_and_then (λ e. e.volume) m.extensions))
+    (specular_of (option_and_then (λ e. e.specular) m.extensions))
+
+-- the material of a primitive that names none (section 3.9.6)
+abbrev pub default_core : Core
+default_core = record {
+  alpha_mode = 0;
+  double_sided = 0;
+  has = 0;
+  alpha_cutoff = ALPHA_CUTOFF;
+  emissive_factor = EMISSIVE_FACTOR;
+  normal = no_use;
+  occlusion = no_use;
+  emissive = no_use;
+}
+
+abbrev pub default_material : GltfMaterial
+default_material =
+    joined default_core (surface_of None) (glossiness_of None) (transmission_of None)
+    (record { ior = IOR; emissive_strength = EMISSIVE_STRENGTH })
+    (volume_of None) (specular_of None)
+
+abbrev pub material_of : ℕ → Root → Option GltfMaterial
+material_of index r =
+    if index == NONE then Some default_material
+    else option_map shown_material (slice_get r.materials.items index)

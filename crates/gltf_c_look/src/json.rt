@@ -1,0 +1,151 @@
+//! What records have besides the members that are structs here: `extras` and extensions, as JSON.
+ghost use Rattle.std.specs.Prelude.{◌≡◌};
+ghost use Rattle.std.specs.Option.{option_copied};
+ghost use Rattle.gltf_handles.specs.Members.{unknown_extensions};
+ghost use Rattle.gltf_c_look.specs.Json.{place_of, extras_of, extension_of, others_at, extras_at};
+
+use gltf_c_scene::kind::{Kind, lights};
+use gltf_json::{Map, Root, Value};
+use gltf_json_record::boxed::lent;
+use gltf_json_record::extensions::Others;
+
+/// Where a record is: among all of a kind, or among the parts of another record.
+#[derive(Clone, Copy, Debug, PartialEq, Eq)]
+pub enum Place {
+    /// At an index of a kind.
+    Record(Kind),
+    /// A primitive of a mesh.
+    Primitive,
+    /// A channel of an animation.
+    Channel,
+    /// A sampler of an animation.
+    AnimationSampler,
+}
+
+impl Place {
+    /// The place of a number, where there is one.
+    pub fn of(number: u32) -> Option<Place>
+        ensures { result ≡ place_of number }
+    {
+        match number {
+            19 => Some(Place::Primitive),
+            20 => Some(Place::Channel),
+            21 => Some(Place::AnimationSampler),
+            _ => match Kind::of(number) {
+                Some(kind) => Some(Place::Record(kind)),
+                None => None,
+            },
+        }
+    }
+}
+
+/// The `extras` of a record, where it has some. `part` is the number of a primitive, a channel or a
+/// sampler in the record at `index`, and of no matter for the other kinds.
+pub fn extras(root: &Root, kind: u32, index: usize, part: usize) -> Option<&Value>
+    ensures { option_copied result ≡ extras_of kind index part root.now }
+{
+    match Place::of(kind)? {
+        Place::Record(kind) => extras_at(root, kind, index),
+        Place::Primitive => root
+            .meshes
+            .get(index)?
+            .primitives
+            .get(part)?
+            .extras
+            .as_ref(),
+        Place::Channel => root
+            .animations
+            .get(index)?
+            .channels
+            .get(part)?
+            .extras
+            .as_ref(),
+        Place::AnimationSampler => root
+            .animations
+            .get(index)?
+            .samplers
+            .get(part)?
+            .extras
+            .as_ref(),
+    }
+}
+
+/// The `extras` of the record of a kind at an index.
+fn extras_at(root: &Root, kind: Kind, index: usize) -> Option<&Value>
+    ensures { option_copied result ≡ extras_at kind index root.now }
+{
+    match kind {
+        Kind::Buffers => root.buffers.get(index)?.extras.as_ref(),
+        Kind::BufferViews => root.buffer_views.get(index)?.extras.as_ref(),
+        Kind::Accessors => root.accessors.get(index)?.extras.as_ref(),
+        Kind::Meshes => root.meshes.get(index)?.extras.as_ref(),
+        Kind::Nodes => root.nodes.get(index)?.extras.as_ref(),
+        Kind::Materials => root.materials.get(index)?.extras.as_ref(),
+        Kind::Scenes => root.scenes.get(index)?.extras.as_ref(),
+        Kind::Skins => root.skins.get(index)?.extras.as_ref(),
+        Kind::Animations => root.animations.get(index)?.extras.as_ref(),
+        Kind::Images => root.images.get(index)?.extras.as_ref(),
+        Kind::Textures => root.textures.get(index)?.extras.as_ref(),
+        Kind::Samplers => root.samplers.get(index)?.extras.as_ref(),
+        Kind::Cameras => root.cameras.get(index)?.extras.as_ref(),
+        Kind::Lights => lights(root).get(index)?.extras.as_ref(),
+        Kind::Variants | Kind::ExtensionsUsed | Kind::ExtensionsRequired => None,
+        Kind::Asset if index == 0 => root.asset.extras.as_ref(),
+        Kind::Root if index == 0 => root.extras.as_ref(),
+        Kind::Asset | Kind::Root => None,
+    }
+}
+
+/// What a record has of an extension that the loader keeps as JSON, by the name of the extension.
+/// The extensions that the loader reads are in the structs.
+pub fn extension<'a>(
+    root: &'a Root,
+    kind: u32,
+    index: usize,
+    part: usize,
+    name: &str,
+) -> Option<&'a Value>
+    ensures { option_copied result ≡ extension_of name.now kind index part root.now }
+{
+    let others = match Place::of(kind)? {
+        Place::Record(kind) => others_at(root, kind, index)?,
+        Place::Primitive => {
+            let primitive = root.meshes.get(index)?.primitives.get(part)?;
+            &primitive.extensions.as_ref()?.others
+        }
+        Place::Channel | Place::AnimationSampler => return None,
+    };
+    others.get(name)
+}
+
+/// The extensions of the record of a kind at an index that the loader keeps as JSON.
+fn others_at(root: &Root, kind: Kind, index: usize) -> Option<&Map<String, Value>>
+    ensures { option_copied result ≡ others_at kind index root.now }
+{
+    match kind {
+        Kind::Buffers => others(&root.buffers.get(index)?.extensions),
+        Kind::BufferViews => others(&root.buffer_views.get(index)?.extensions),
+        Kind::Accessors => others(&root.accessors.get(index)?.extensions),
+        Kind::Meshes => others(&root.meshes.get(index)?.extensions),
+        Kind::Nodes => Some(&root.nodes.get(index)?.extensions.as_ref()?.others),
+        Kind::Materials => Some(&lent(&root.materials.get(index)?.extensions)?.others),
+        Kind::Scenes => others(&root.scenes.get(index)?.extensions),
+        Kind::Skins => others(&root.skins.get(index)?.extensions),
+        Kind::Animations => others(&root.animations.get(index)?.extensions),
+        Kind::Images => others(&root.images.get(index)?.extensions),
+        Kind::Textures => others(&root.textures.get(index)?.extensions),
+        Kind::Samplers => others(&root.samplers.get(index)?.extensions),
+        Kind::Cameras => others(&root.cameras.get(index)?.extensions),
+        Kind::Lights | Kind::Variants | Kind::ExtensionsUsed | Kind::ExtensionsRequired => None,
+        Kind::Asset if index == 0 => others(&root.asset.extensions),
+        Kind::Root if index == 0 => Some(&root.extensions.as_ref()?.others),
+        Kind::Asset | Kind::Root => None,
+    }
+}
+
+/// The extensions of a record that knows none.
+fn others(extensions: &Option<Others>) -> Option<&Map<String, Value>>
+    ensures { option_copied result ≡ unknown_extensions extensions.now }
+{
+    Some(&extensions.as_ref()?.others)
+}
