@@ -6,7 +6,7 @@ The memory is the most that the process had, with the program and the text; the 
 memory by the bytes of the text. The times are those of the whole process, of half as many elements
 and of all. Where they grow with the elements and no faster, the second is twice the first.
 
-Exit status: 0; 1 where a factor is above the bound, or a text cannot be read as it should."""
+Exit status: 0; 1 where a factor is above the bound, or the program fails."""
 import argparse
 import os
 import pathlib
@@ -18,25 +18,25 @@ BOUND = 200
 COUNT = 1_000_000
 SCALAR = '{"componentType":5126,"count":1,"type":"SCALAR"}'
 # Of each kind: what stands before the elements, an element, and what stands after them. An @ in an
-# element is its number. Whether a text breaks a rule does not matter: all of it is read first.
+# element is its number. Where the text breaks a rule, all of it has been read before.
 KINDS = {
     "nodes `{}`": ('"nodes":[', "{}", "]"),
     "nodes `{}` and a number (the tree is read too)": ('"nodes":[', "{}", ",0]"),
-    "images `{}`": ('"images":[', "{}", "]"),
+    "images `{}`, broken": ('"images":[', "{}", "]"),
     "materials `{}`": ('"materials":[', "{}", "]"),
     "materials `{\"extensions\":{}}`": ('"materials":[', '{"extensions":{}}', "]"),
     "scenes `{}`": ('"scenes":[', "{}", "]"),
     "samplers `{}`": ('"samplers":[', "{}", "]"),
     "accessors": ('"accessors":[', SCALAR, "]"),
     "accessors, broken": ('"accessors":[', '{"componentType":0,"count":0,"type":""}', "]"),
-    "buffers": ('"buffers":[', '{"byteLength":1}', "]"),
-    "views": ('"bufferViews":[', '{"buffer":0,"byteLength":1}', "]"),
+    "buffers, without bytes": ('"buffers":[', '{"byteLength":1}', "]"),
+    "views, broken": ('"bufferViews":[', '{"buffer":0,"byteLength":1}', "]"),
     "cameras, broken": ('"cameras":[', '{"type":"a"}', "]"),
     "meshes with a primitive": ('"meshes":[', '{"primitives":[{"attributes":{}}]}', "]"),
     "meshes `{\"primitives\":[]}`": ('"meshes":[', '{"primitives":[]}', "]"),
     "primitives": ('"meshes":[{"primitives":[', '{"attributes":{}}', "]}]"),
     "morph targets `{}`": ('"meshes":[{"primitives":[{"attributes":{},"targets":[', "{}", "]}]}]"),
-    "attributes": ('"meshes":[{"primitives":[{"attributes":{', '"_@":0', "}}]}]"),
+    "attributes, broken": ('"meshes":[{"primitives":[{"attributes":{', '"_@":0', "}}]}]"),
     "animations": ('"animations":[', '{"channels":[],"samplers":[]}', "]"),
     "channels, broken": ('"animations":[{"samplers":[],"channels":[',
                          '{"sampler":0,"target":{"path":"a"}}', "]}]"),
@@ -46,14 +46,14 @@ KINDS = {
     "textures": ('"images":[{"uri":"data:,"}],"textures":[', '{"source":0}', "]"),
     "textures, broken": ('"textures":[', '{"source":0}', "]"),
     "children": ('"nodes":[{"children":[', "0", "]}]"),
-    "joints": ('"skins":[{"joints":[', "0", "]}]"),
+    "joints, broken": ('"skins":[{"joints":[', "0", "]}]"),
     "weights": ('"nodes":[{"weights":[', "0", "]}]"),
     "names of extensions": ('"extensionsUsed":[', '""', "]"),
     "numbers in extras": ('"extras":[', "0", "]"),
     "lists in extras": ('"extras":[', "[]", "]"),
     "objects in extras": ('"extras":[', "{}", "]"),
     "members in extras": ('"extras":{', '"@":0', "}"),
-    "lights": ('"extensions":{"KHR_lights_punctual":{"lights":[', '{"type":"spot"}', "]}}"),
+    "lights, broken": ('"extensions":{"KHR_lights_punctual":{"lights":[', '{"type":"spot"}', "]}}"),
     "variants": ('"extensions":{"KHR_materials_variants":{"variants":[', '{"name":""}', "]}}"),
 }
 
