@@ -22,8 +22,8 @@ SMALL = 100_000
 PARTS = {
     "memory cleared (`memset`)": "__memset",
     "memory copied (`memcpy`, `memmove`)": "__memcpy|__memmove",
-    "`malloc`, `realloc`, `free`": r"_int_|malloc|realloc|calloc|free|unlink_chunk|systrim|sysmalloc"
-                                   r"|tcache|rattle_(de|re)?alloc",
+    "`malloc`, `realloc`, `free`": r"_int_|malloc|realloc|calloc|free|unlink_chunk|systrim"
+                                   r"|sysmalloc|tcache|rattle_(de|re)?alloc",
     "names of members looked up, values read in place": r"gltf_json_pull::rows",
     "records and lists": r"gltf_json_pull::|std_alloc::",
     "the index of the text's marks": r"json::index",
