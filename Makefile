@@ -51,6 +51,7 @@ case:
 	@python3 tools/case.py
 
 # Each in turn. WORDS are passed on, as in `make bench NAME=peers WORDS=--quick`.
+BENCHES += profile memory
 bench:
 	@for it in $(or $(NAME),$(BENCHES)); do \
 		test -x "benches/$$it/run.sh" || { \

@@ -7,8 +7,22 @@ set -euo pipefail
 name=$1 crates=$2 text=$3 work=$4
 top=$(cd "$(dirname "$0")/.." && pwd)
 mkdir -p "$work/crates/$name/src" "$work/.git"
-beside='^gltf_(tests|guide|cases?|json_cases|use_cases|option_cases|show|repack|convert|c)[: ]'
-grep '^gltf' "$top/crates.txt" | grep -v -E "$beside" > "$work/crates.txt"
+# The crates that these stand on, and no others.
+awk -v wanted="$crates" '
+    /^[a-z]/ { split($0, parts, ":"); split(parts[1], head, " "); line[head[1]] = $0 }
+    END {
+        count = split(wanted, list, " ")
+        for (at = 1; at <= count; at++) {
+            it = list[at]
+            if (!(it in line) || it in taken) continue
+            taken[it] = 1
+            print line[it]
+            below = line[it]
+            sub(/^[^:]*:/, "", below)
+            more = split(below, names, " ")
+            for (k = 1; k <= more; k++) list[++count] = names[k]
+        }
+    }' "$top/crates.txt" > "$work/crates.txt"
 for crate in $(cut -d: -f1 "$work/crates.txt"); do
     cp -r "$top/crates/$crate" "$work/crates"
 done
