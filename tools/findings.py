@@ -2,7 +2,7 @@
 """Runs the proved program `gltf_show inspect --json` on small documents. A row is a document and what
 is found in it, as (code, pointer), by hand from the standard: for each code one document that breaks
 the rule and one that just does not. What nothing names, UNUSED_OBJECT, is left out of the rows.
-`make test` calls it after `rt ci`; an argument is another program to run. The last line is
+`make test` calls it after `rt ci`; arguments are another program to run. The last line is
 `N passed, M failed`."""
 import json
 import pathlib
@@ -205,23 +205,27 @@ ROWS += [
 ]
 
 
-def found(program, path):
-    ran = subprocess.run([program, "inspect", "--json", path], capture_output=True, text=True)
-    messages = json.loads(ran.stdout)["issues"]["messages"]
+def found(report):
+    messages = json.loads(report)["issues"]["messages"]
     return [(it["code"], it["pointer"]) for it in messages if it["code"] != "UNUSED_OBJECT"]
 
 
 def main():
-    program = sys.argv[1] if len(sys.argv) > 1 else crates.program("gltf_show")
+    program = sys.argv[1:] or [crates.program("gltf_show")]
     failed = 0
     with tempfile.TemporaryDirectory() as folder:
-        path = pathlib.Path(folder) / "case.gltf"
-        for members, expected in ROWS:
+        paths = [pathlib.Path(folder) / f"{i}.gltf" for i in range(len(ROWS))]
+        for path, (members, _) in zip(paths, ROWS):
             path.write_text(json.dumps({"asset": {"version": "2.0"}, **members}))
-            got = found(program, path)
-            if sorted(got) != sorted(expected):
-                failed += 1
-                print(f"{json.dumps(members)}\n  expected {expected}\n  found {got}")
+        ran = subprocess.run([*program, "inspect", "--json", *paths], capture_output=True, text=True)
+    reports = [line for line in ran.stdout.splitlines() if line.startswith("{")]
+    if len(reports) != len(ROWS):
+        print(f"{len(reports)} reports, {len(ROWS)} documents\n{ran.stderr}")
+        failed = len(ROWS)
+    for report, (members, expected) in zip(reports, ROWS):
+        if sorted(found(report)) != sorted(expected):
+            failed += 1
+            print(f"{json.dumps(members)}\n  expected {expected}\n  found {found(report)}")
     print(f"{len(ROWS) - failed} passed, {failed} failed")
     return 1 if failed else 0
 
