@@ -14,6 +14,7 @@ mod metadata;
 mod names;
 mod node;
 mod part;
+pub mod prelude;
 mod reading;
 mod texture;
 mod view;
