@@ -1,0 +1,103 @@
+-- Why a file is refused, as C sees it.
+use Rattle.std.specs.Prelude.{◌≡◌, ◌⊎◌, ℕ, min, List, [], ◌∷◌, length, replicate}
+use Rattle.gltf_glb.specs.declared.error.Error.{Error}
+use Rattle.gltf_glb.specs.declared.error.Error.TheVariants.{Base64, Binary, BufferLength}
+use Rattle.gltf_glb.specs.declared.error.Error.TheVariants.{Deserialize, Io, Validation, Memory}
+use Rattle.gltf_glb.specs.declared.error.Error.TheVariants.{MissingBlob, UnsupportedScheme}
+use Rattle.gltf_glb.specs.declared.error.Error.TheVariants.{ExternalReferenceInSliceImport}
+use Rattle.gltf_json_record.specs.Place.{Place}
+use Rattle.gltf_json_record.specs.Pointer.{pointer_text}
+use Rattle.gltf_json_record.specs.declared.error.Error as record_error
+use Rattle.gltf_json_record.specs.declared.error.Error.TheVariants as json
+use Rattle.gltf_validation.specs.declared.error.Error as validation
+use Rattle.gltf_c_fault.specs.Message.{text_in_room, Tells}
+use Rattle.gltf_c_fault.specs.Status.{code, status_of}
+use Rattle.gltf_c_fault.specs.declared.fault.GltfFault.{GltfFault}
+use Rattle.gltf_c_fault.specs.declared.fault.Numbers.{Numbers}
+use Rattle.gltf_c_fault.specs.declared.fault.TheConstants.{NONE}
+
+-- no fault: all is 0, and no buffer is named
+abbrev pub no_fault : GltfFault
+no_fault = record {
+  status = 0;
+  rules = 0;
+  buffer = NONE;
+  expected = 0;
+  actual = 0;
+  reserved = replicate 4 0;
+  path = replicate 128 0;
+  text = replicate 512 0;
+}
+
+-- how many rules a document breaks, as far as 32 bits have room for it
+abbrev pub rules_of : Error → ℕ
+rules_of (Validation broken) = min (length broken.items) 4294967295
+rules_of (Base64 cause) = 0
+rules_of (Binary cause) = 0
+rules_of (BufferLength buffer expected actual) = 0
+rules_of (Deserialize cause) = 0
+rules_of (Io cause) = 0
+rules_of MissingBlob = 0
+rules_of ExternalReferenceInSliceImport = 0
+rules_of UnsupportedScheme = 0
+rules_of Memory = 0
+
+-- the buffer that has fewer bytes than it declares, with the two numbers
+abbrev pub no_numbers : Numbers
+no_numbers = record { buffer = NONE; expected = 0; actual = 0 }
+
+abbrev pub numbers_of : Error → Numbers
+numbers_of (BufferLength buffer expected actual) = record {
+  buffer = buffer;
+  expected = expected;
+  actual = actual;
+}
+numbers_of (Validation broken) = no_numbers
+numbers_of (Base64 cause) = no_numbers
+numbers_of (Binary cause) = no_numbers
+numbers_of (Deserialize cause) = no_numbers
+numbers_of (Io cause) = no_numbers
+numbers_of MissingBlob = no_numbers
+numbers_of ExternalReferenceInSliceImport = no_numbers
+numbers_of UnsupportedScheme = no_numbers
+numbers_of Memory = no_numbers
+
+-- where the first of the broken rules is broken
+abbrev pub first_place : List (List Place × validation.Error) → List Place
+first_place [] = []
+first_place (fault ∷ faults) = fault.0
+
+-- where a record is not of the form that the format gives it
+abbrev pub record_place : record_error.Error → List Place
+record_place (json.Text cause) = []
+record_place (json.Record path fault) = path
+record_place json.Memory = []
+
+-- the part of the document that is at fault; the whole of it where no part is known
+abbrev pub place_of : Error → List Place
+place_of (Validation broken) = first_place broken.items
+place_of (Deserialize cause) = record_place cause
+place_of (BufferLength buffer expected actual) = []
+place_of (Base64 cause) = []
+place_of (Binary cause) = []
+place_of (Io cause) = []
+place_of MissingBlob = []
+place_of ExternalReferenceInSliceImport = []
+place_of UnsupportedScheme = []
+place_of Memory = []
+
+-- the JSON Pointer of a place; or an empty text, where there was no memory for it
+abbrev pub ShowsPlace : List Place → List ℕ → Type 0
+ShowsPlace place shown =
+    (shown ≡ text_in_room (pointer_text place) (replicate 128 0)) ⊎ (shown ≡ replicate 128 0)
+
+-- what is said of an error
+pub record IsFault (e : Error) (f : GltfFault) : Type 0 where
+  pub status : f.status ≡ code (status_of e)
+  pub rules : f.rules ≡ rules_of e
+  pub buffer : f.buffer ≡ (numbers_of e).buffer
+  pub expected : f.expected ≡ (numbers_of e).expected
+  pub actual : f.actual ≡ (numbers_of e).actual
+  pub reserved : f.reserved ≡ replicate 4 0
+  pub path : ShowsPlace (place_of e) f.path
+  pub text : Tells e (replicate 512 0) f.text

@@ -1,0 +1,4 @@
+pub mod Status
+pub mod Message
+pub mod Fault
+pub mod Json

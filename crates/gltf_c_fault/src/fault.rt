@@ -1,0 +1,160 @@
+//! Why a file is refused, and where the fault is.
+ghost use Rattle.std.specs.Prelude.{◌≡◌, ℕ, IfOk, List, replicate, string_bytes};
+ghost use Rattle.gltf_json_record.specs.Pointer.{pointer_text};
+ghost use Rattle.gltf_c_fault.specs.Fault.{no_fault, IsFault, place_of, first_place, numbers_of};
+ghost use Rattle.gltf_c_fault.specs.Fault.{rules_of, ShowsPlace};
+ghost use Rattle.gltf_c_fault.specs.Message.{Tells};
+
+use crate::message::{put, tell};
+use crate::status::Status;
+use gltf_glb::Error;
+use gltf_json_record::error::Error as JsonError;
+use gltf_json_record::path::Path;
+use gltf_validation::error::Error as Broken;
+use std::alloc::{AllocError, Global};
+
+/// What stands for a buffer where none is at fault.
+pub const NONE: usize = usize::MAX;
+
+/// Why a file is refused, laid out as C does.
+#[repr(C)]
+#[derive(Clone, Copy, Drop)]
+pub struct GltfFault {
+    /// The number of the [`Status`]; 0 where there is no fault.
+    pub status: u32,
+    /// How many rules are broken.
+    pub rules: u32,
+    /// The buffer that has too few bytes, else [`NONE`].
+    pub buffer: usize,
+    /// How many bytes that buffer declares, else 0.
+    pub expected: usize,
+    /// How many it has, else 0.
+    pub actual: usize,
+    /// 0.
+    pub reserved: [usize; 4],
+    /// The JSON Pointer of the part of the document that is at fault (RFC 6901), cut to fit, with a
+    /// zero byte after it. Empty where no part is known, and where there is no memory for it.
+    pub path: [u8; 128],
+    /// The message, cut to fit, with a zero byte after it.
+    pub text: [u8; 512],
+}
+
+/// No fault.
+pub fn no_fault() -> GltfFault
+    ensures { result ≡ no_fault }
+{
+    GltfFault {
+        status: 0,
+        rules: 0,
+        buffer: NONE,
+        expected: 0,
+        actual: 0,
+        reserved: [0; 4],
+        path: [0; 128],
+        text: [0; 512],
+    }
+}
+
+/// The buffer that has too few bytes, how many it declares, and how many it has.
+#[derive(Clone, Copy, Drop)]
+struct Numbers {
+    buffer: usize,
+    expected: usize,
+    actual: usize,
+}
+
+/// What is said of an error of the loader. Where there is no memory for the path it is empty, and
+/// where there is none for the text, that says so.
+pub fn fault_of(alloc: Global, error: &Error) -> GltfFault
+    ensures { IsFault error.now result }
+{
+    let Numbers {
+        buffer,
+        expected,
+        actual,
+    } = numbers_of(error);
+    let path = path_of(alloc, error);
+    let text = text_of(alloc, error);
+    GltfFault {
+        status: Status::of(error).code(),
+        rules: rules_of(error),
+        buffer,
+        expected,
+        actual,
+        reserved: [0; 4],
+        path,
+        text,
+    }
+}
+
+/// How many rules a document breaks, as far as 32 bits have room for it.
+fn rules_of(error: &Error) -> u32
+    ensures { result ≡ rules_of error.now }
+{
+    match error {
+        Error::Validation(broken) => broken.len().min(4_294_967_295) as u32,
+        _ => 0,
+    }
+}
+
+fn numbers_of(error: &Error) -> Numbers
+    ensures { result ≡ numbers_of error.now }
+{
+    match error {
+        Error::BufferLength {
+            buffer,
+            expected,
+            actual,
+        } => Numbers {
+            buffer: *buffer,
+            expected: *expected,
+            actual: *actual,
+        },
+        _ => Numbers {
+            buffer: NONE,
+            expected: 0,
+            actual: 0,
+        },
+    }
+}
+
+/// The JSON Pointer of the place of an error in its room.
+fn path_of(alloc: Global, error: &Error) -> [u8; 128]
+    ensures { ShowsPlace (place_of error.now) result }
+{
+    let mut room = [0; 128];
+    if let Ok(pointer) = pointer_of(alloc, error) {
+        put(pointer.as_str().as_bytes(), &mut room);
+    }
+    room
+}
+
+/// The JSON Pointer of the place of an error.
+fn pointer_of(alloc: Global, error: &Error) -> Result<String, AllocError>
+    ensures { IfOk result (λ text. string_bytes text ≡ pointer_text (place_of error.now)) }
+{
+    match error {
+        Error::Validation(broken) => first_pointer(alloc, broken),
+        Error::Deserialize(JsonError::Record { path, .. }) => path.pointer(alloc),
+        _ => Ok(String::new(alloc)),
+    }
+}
+
+/// The JSON Pointer of the place of the first rule that is broken.
+fn first_pointer(alloc: Global, broken: &[(Path, Broken)]) -> Result<String, AllocError>
+    ensures { IfOk result (λ text. string_bytes text ≡ pointer_text (first_place broken.now)) }
+{
+    match broken.first() {
+        Some((path, _)) => path.pointer(alloc),
+        None => Ok(String::new(alloc)),
+    }
+}
+
+/// The message of an error in its room.
+fn text_of(alloc: Global, error: &Error) -> [u8; 512]
+    ensures { Tells error.now (replicate 512 0) result }
+{
+    let mut room = [0; 512];
+    tell(alloc, error, &mut room);
+    room
+}
