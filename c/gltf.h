@@ -99,11 +99,11 @@ enum {
     GLTF_BROKEN_RULES = 4,       /* the document breaks rules, as an index out of range */
     GLTF_BAD_BASE64 = 5,         /* the data of a data URI is not base64 (2.8) */
     GLTF_SHORT_BUFFER = 6,       /* a buffer has fewer bytes than its byteLength (3.6.1) */
-    GLTF_MISSING_BLOB = 7,       /* a buffer has no URI, and there is no BIN chunk for it (3.6.1.2) */
+    GLTF_MISSING_BLOB = 7,       /* a buffer has no URI, and there is no BIN chunk (3.6.1.2) */
     GLTF_EXTERNAL_REFERENCE = 8, /* a buffer is in another file, and GLTF_EXTERNAL was not given */
     GLTF_UNSUPPORTED_SCHEME = 9, /* a URI has a scheme other than `data` and `file` */
     GLTF_CLOSED = 11,            /* the file is NULL */
-    GLTF_NO_SUCH_INDEX = 12,     /* there is no such record, or it does not have what was asked for */
+    GLTF_NO_SUCH_INDEX = 12,     /* there is no such record, or it has not what was asked for */
     GLTF_UNREADABLE = 13,        /* the accessor does not fit its buffer views, or they do not fit
                                     their buffers */
     GLTF_NO_ROOM = 14,           /* the items do not fit into `out` */
@@ -123,7 +123,7 @@ typedef struct gltf_fault {
     char text[512];      /* what: a message for people, with all broken rules */
 } gltf_fault;            /* both texts are cut where they are too long, and end with a zero byte */
 
-/* ---- Opening and closing ---------------------------------------------------------------------- */
+/* ---- Opening and closing --------------------------------------------------------------------- */
 
 /* Returns the version of the library, as GLTF_VERSION is made. The library works with a header of
  * the same major version that is not newer. */
@@ -175,7 +175,7 @@ GLTF_API gltf_status gltf_give(gltf_file *file, size_t index, const void *bytes,
 /* Frees a file. */
 GLTF_API void gltf_close(gltf_file *file);
 
-/* ---- Calls for all kinds of records ----------------------------------------------------------- */
+/* ---- Calls for all kinds of records ---------------------------------------------------------- */
 
 enum {
     GLTF_BUFFERS = 0,
@@ -256,7 +256,7 @@ GLTF_API gltf_status gltf_numbers(const gltf_file *file, unsigned int what, size
                                   double *out, size_t room, size_t *count)
     GLTF_CHECKED GLTF_NONNULL((6));
 
-/* ---- Buffers, buffer views, accessors (3.6, 5.1, 5.10, 5.11) ---------------------------------- */
+/* ---- Buffers, buffer views, accessors (3.6, 5.1, 5.10, 5.11) --------------------------------- */
 
 typedef struct gltf_buffer {
     const unsigned char *bytes; /* NULL if the buffer waits */
@@ -329,7 +329,7 @@ GLTF_API gltf_status gltf_accessor_read(const gltf_file *file, size_t index, voi
 GLTF_API gltf_status gltf_accessor_read_u32(const gltf_file *file, size_t index, unsigned int *out,
                                             size_t room) GLTF_CHECKED GLTF_NONNULL((3));
 
-/* ---- Meshes (3.7.2, 5.23, 5.24) --------------------------------------------------------------- */
+/* ---- Meshes (3.7.2, 5.23, 5.24) -------------------------------------------------------------- */
 
 typedef struct gltf_mesh {
     size_t primitives;  /* their number: 0 to primitives - 1 are their positions */
@@ -400,7 +400,7 @@ GLTF_API gltf_status gltf_variant_material(const gltf_file *file, size_t mesh, s
                                            size_t variant, size_t *material)
     GLTF_CHECKED GLTF_NONNULL((5));
 
-/* ---- Materials, textures, images (3.8, 3.9, 5.18 to 5.22, 5.26, 5.29, 5.30) ------------------- */
+/* ---- Materials, textures, images (3.8, 3.9, 5.18 to 5.22, 5.26, 5.29, 5.30) ------------------ */
 
 /* A texture in a material. */
 typedef struct gltf_texture_use {
@@ -511,7 +511,7 @@ typedef struct gltf_image {
 GLTF_API gltf_status gltf_image_info(const gltf_file *file, size_t index, gltf_image *out)
     GLTF_CHECKED GLTF_NONNULL((3));
 
-/* ---- Scenes, nodes, skins (3.5, 3.7.3, 5.25, 5.27, 5.28) -------------------------------------- */
+/* ---- Scenes, nodes, skins (3.5, 3.7.3, 5.25, 5.27, 5.28) ------------------------------------- */
 
 /* The scene to show at first (5.17.12). Returns GLTF_NO_SUCH_INDEX if the file names none. */
 GLTF_API gltf_status gltf_default_scene(const gltf_file *file, size_t *scene)
@@ -559,7 +559,7 @@ typedef struct gltf_skin {
 GLTF_API gltf_status gltf_skin_info(const gltf_file *file, size_t index, gltf_skin *out)
     GLTF_CHECKED GLTF_NONNULL((3));
 
-/* ---- Animations (3.11, 5.5 to 5.8) ------------------------------------------------------------ */
+/* ---- Animations (3.11, 5.5 to 5.8) ----------------------------------------------------------- */
 
 typedef struct gltf_animation {
     size_t channels; /* their number */
@@ -581,7 +581,8 @@ typedef struct gltf_channel {
     unsigned int interpolation; /* GLTF_LINEAR .. GLTF_CUBIC_SPLINE */
     size_t sampler;             /* its position in the animation */
     size_t input;               /* an accessor: times in seconds */
-    size_t output;              /* an accessor: values; with GLTF_CUBIC_SPLINE three for each time */
+    size_t output;              /* an accessor: values, three for each time of a
+                                   GLTF_CUBIC_SPLINE */
     size_t reserved[2];
 } gltf_channel;
 
@@ -589,7 +590,7 @@ typedef struct gltf_channel {
 GLTF_API gltf_status gltf_channel_info(const gltf_file *file, size_t animation, size_t channel,
                                        gltf_channel *out) GLTF_CHECKED GLTF_NONNULL((4));
 
-/* ---- Cameras and lights (5.12 to 5.14; KHR_lights_punctual) ----------------------------------- */
+/* ---- Cameras and lights (5.12 to 5.14; KHR_lights_punctual) ---------------------------------- */
 
 typedef struct gltf_camera {
     unsigned int orthographic; /* 1: xmag and ymag apply; 0: yfov and aspect_ratio apply. The others
