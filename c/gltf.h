@@ -102,6 +102,7 @@ enum {
     GLTF_MISSING_BLOB = 7,       /* a buffer has no URI, and there is no BIN chunk (3.6.1.2) */
     GLTF_EXTERNAL_REFERENCE = 8, /* a buffer is in another file, and GLTF_EXTERNAL was not given */
     GLTF_UNSUPPORTED_SCHEME = 9, /* a URI has a scheme other than `data` and `file` */
+    GLTF_CANNOT_READ = 10,       /* returned by gltf_load.h alone: a file cannot be read */
     GLTF_CLOSED = 11,            /* the file is NULL */
     GLTF_NO_SUCH_INDEX = 12,     /* there is no such record, or it has not what was asked for */
     GLTF_UNREADABLE = 13,        /* the accessor does not fit its buffer views, or they do not fit

@@ -1,0 +1,265 @@
+/* The calls of gltf.h over the exports of crates/gltf_c.
+ *
+ * An export takes a handle, a struct with one pointer. Each call here gives it a handle of its own,
+ * on its own stack, so that calls on one file share nothing that is written. An export takes a
+ * slice as a pointer and a size, and the pointer is not NULL, also if the size is 0. */
+#include "gltf.h"
+
+#include <stdlib.h>
+#include <string.h>
+
+/* GltfFile in the code. */
+typedef struct core_file {
+    void *at;
+} core_file;
+
+static core_file handle_of(const gltf_file *file)
+{
+    core_file handle;
+    handle.at = (void *)(size_t)file;
+    return handle;
+}
+
+/* What an export gets in place of NULL, with a size of 0. */
+static char no_text[1];
+static size_t no_indices[1];
+static double no_numbers[1];
+
+/* The names of extensions for core_open: one block, each name followed by a zero byte. */
+typedef struct name_list {
+    char *names;
+    size_t size;
+} name_list;
+
+/* Returns 0 if there is no memory. The caller frees `names`. */
+static int make_name_list(const gltf_open_options *options, name_list *out)
+{
+    size_t i, count = options == NULL ? 0 : options->extension_count;
+    char *end;
+    out->size = 0;
+    for (i = 0; i < count; i++)
+        out->size += strlen(options->extensions[i]) + 1;
+    end = out->names = (char *)malloc(out->size + 1);
+    if (end == NULL)
+        return 0;
+    for (i = 0; i < count; i++) {
+        size_t size = strlen(options->extensions[i]) + 1;
+        memcpy(end, options->extensions[i], size);
+        end += size;
+    }
+    return 1;
+}
+
+static gltf_status no_memory(gltf_file **file, gltf_fault *fault)
+{
+    *file = NULL;
+    memset(fault, 0, sizeof *fault);
+    fault->status = GLTF_NO_MEMORY;
+    fault->buffer = GLTF_NONE;
+    strcpy(fault->text, "out of memory");
+    return GLTF_NO_MEMORY;
+}
+
+static unsigned int flags_of(const gltf_open_options *options)
+{
+    return options == NULL ? 0 : options->flags;
+}
+
+extern gltf_status core_open(const void *bytes, size_t size, const char *names, size_t names_size,
+                             unsigned int flags, core_file *file, gltf_fault *fault);
+extern gltf_status core_open_owned(void *bytes, size_t size, const char *names, size_t names_size,
+                                   unsigned int flags, core_file *file, gltf_fault *fault);
+extern gltf_status core_give(core_file *file, size_t index, const void *bytes, size_t size);
+extern void core_close(core_file *file);
+extern size_t core_count(core_file *file, unsigned int kind);
+
+unsigned int gltf_version(void)
+{
+    return GLTF_VERSION;
+}
+
+gltf_status gltf_open(const void *bytes, size_t size, const gltf_open_options *options,
+                      gltf_file **file, gltf_fault *fault)
+{
+    core_file handle = { NULL };
+    name_list list;
+    gltf_status status;
+    if (!make_name_list(options, &list))
+        return no_memory(file, fault);
+    status = core_open(bytes, size, list.names, list.size, flags_of(options), &handle, fault);
+    free(list.names);
+    *file = (gltf_file *)handle.at;
+    return status;
+}
+
+gltf_status gltf_open_owned(void *bytes, size_t size, const gltf_open_options *options,
+                            gltf_file **file, gltf_fault *fault)
+{
+    core_file handle = { NULL };
+    name_list list;
+    gltf_status status;
+    if (!make_name_list(options, &list)) {
+        free(bytes);
+        return no_memory(file, fault);
+    }
+    status = core_open_owned(bytes, size, list.names, list.size, flags_of(options), &handle, fault);
+    free(list.names);
+    *file = (gltf_file *)handle.at;
+    return status;
+}
+
+gltf_status gltf_give(gltf_file *file, size_t index, const void *bytes, size_t size)
+{
+    core_file handle = handle_of(file);
+    return core_give(&handle, index, bytes, size);
+}
+
+void gltf_close(gltf_file *file)
+{
+    core_file handle = handle_of(file);
+    core_close(&handle);
+}
+
+size_t gltf_count(const gltf_file *file, unsigned int kind)
+{
+    core_file handle = handle_of(file);
+    return core_count(&handle, kind);
+}
+
+/* A call that does nothing but make the handle: its name, the parameters of its export after the
+ * handle, its own parameters after the file, and the arguments. */
+#define CALL(name, types, parameters, arguments) \
+    extern gltf_status core_##name types; \
+    gltf_status gltf_##name parameters \
+    { \
+        core_file handle = handle_of(file); \
+        return core_##name arguments; \
+    }
+
+/* One that fills in the struct of the record at an index. */
+#define INFO(kind) \
+    CALL(kind##_info, (core_file *, size_t, gltf_##kind *), \
+         (const gltf_file *file, size_t index, gltf_##kind *out), (&handle, index, out))
+
+INFO(buffer)
+INFO(buffer_view)
+INFO(accessor)
+INFO(mesh)
+INFO(material)
+INFO(sampler)
+INFO(texture)
+INFO(image)
+INFO(scene)
+INFO(node)
+INFO(skin)
+INFO(animation)
+INFO(camera)
+INFO(light)
+
+CALL(primitive_info, (core_file *, size_t, size_t, gltf_primitive *),
+     (const gltf_file *file, size_t mesh, size_t primitive, gltf_primitive *out),
+     (&handle, mesh, primitive, out))
+CALL(attribute_info, (core_file *, size_t, size_t, size_t, size_t, gltf_attribute *),
+     (const gltf_file *file, size_t mesh, size_t primitive, size_t target, size_t position,
+      gltf_attribute *out),
+     (&handle, mesh, primitive, target, position, out))
+CALL(channel_info, (core_file *, size_t, size_t, gltf_channel *),
+     (const gltf_file *file, size_t animation, size_t channel, gltf_channel *out),
+     (&handle, animation, channel, out))
+CALL(default_scene, (core_file *, size_t *), (const gltf_file *file, size_t *scene),
+     (&handle, scene))
+CALL(variant_material, (core_file *, size_t, size_t, size_t, size_t *),
+     (const gltf_file *file, size_t mesh, size_t primitive, size_t variant, size_t *material),
+     (&handle, mesh, primitive, variant, material))
+CALL(accessor_read, (core_file *, size_t, void *, size_t),
+     (const gltf_file *file, size_t index, void *out, size_t room), (&handle, index, out, room))
+CALL(accessor_read_u32, (core_file *, size_t, unsigned int *, size_t),
+     (const gltf_file *file, size_t index, unsigned int *out, size_t room),
+     (&handle, index, out, room))
+
+/* The room of a call whose pointer may be NULL. */
+#define ROOM(pointer, other) (room == 0 ? (other) : (pointer)), room
+
+CALL(name, (core_file *, unsigned int, size_t, char *, size_t, size_t *),
+     (const gltf_file *file, unsigned int kind, size_t index, char *text, size_t room,
+      size_t *length),
+     (&handle, kind, index, ROOM(text, no_text), length))
+CALL(text, (core_file *, unsigned int, size_t, char *, size_t, size_t *),
+     (const gltf_file *file, unsigned int what, size_t index, char *text, size_t room,
+      size_t *length),
+     (&handle, what, index, ROOM(text, no_text), length))
+CALL(list, (core_file *, unsigned int, size_t, size_t *, size_t, size_t *),
+     (const gltf_file *file, unsigned int what, size_t index, size_t *out, size_t room,
+      size_t *count),
+     (&handle, what, index, ROOM(out, no_indices), count))
+CALL(numbers, (core_file *, unsigned int, size_t, double *, size_t, size_t *),
+     (const gltf_file *file, unsigned int what, size_t index, double *out, size_t room,
+      size_t *count),
+     (&handle, what, index, ROOM(out, no_numbers), count))
+CALL(json, (core_file *, unsigned int, size_t, size_t, const char *, size_t, char *, size_t,
+            size_t *),
+     (const gltf_file *file, unsigned int kind, size_t index, size_t part, const char *extension,
+      size_t extension_size, char *text, size_t room, size_t *length),
+     (&handle, kind, index, part, extension == NULL ? no_text : extension,
+      extension == NULL ? 0 : extension_size, ROOM(text, no_text), length))
+
+extern gltf_status core_custom_name(core_file *, size_t, size_t, size_t, char *, size_t, size_t *);
+
+gltf_status gltf_attribute_find(const gltf_file *file, size_t mesh, size_t primitive, size_t target,
+                                unsigned int meaning, unsigned int set, size_t *accessor)
+{
+    gltf_attribute each;
+    gltf_status status;
+    size_t i;
+    for (i = 0; (status = gltf_attribute_info(file, mesh, primitive, target, i, &each))
+             == GLTF_SUCCESS; i++)
+        if (each.meaning == meaning && (meaning < GLTF_COLOR || each.set == set)
+            && meaning != GLTF_CUSTOM) {
+            *accessor = each.accessor;
+            break;
+        }
+    return status;
+}
+
+/* A name of the format, from the meaning and the set; a custom one is in the document. */
+gltf_status gltf_attribute_name(const gltf_file *file, size_t mesh, size_t primitive, size_t target,
+                                size_t position, char *text, size_t room, size_t *length)
+{
+    static const char *const names[] = { "POSITION", "NORMAL", "TANGENT", "COLOR_", "TEXCOORD_",
+                                         "JOINTS_", "WEIGHTS_", "_" };
+    gltf_attribute it;
+    char whole[32], digits[16];
+    size_t size = 0, n = 0;
+    unsigned int set;
+    gltf_status status = gltf_attribute_info(file, mesh, primitive, target, position, &it);
+    if (status != GLTF_SUCCESS)
+        return status;
+    size = strlen(names[it.meaning]);
+    memcpy(whole, names[it.meaning], size);
+    if (it.meaning >= GLTF_COLOR && it.meaning <= GLTF_WEIGHTS) {
+        for (set = it.set; n == 0 || set != 0; set /= 10)
+            digits[n++] = (char)('0' + set % 10);
+        while (n > 0)
+            whole[size++] = digits[--n];
+    }
+    if (it.meaning == GLTF_CUSTOM) {
+        core_file handle = handle_of(file);
+        /* the rest of the name goes behind the underscore */
+        status = core_custom_name(&handle, mesh, primitive, position,
+                                  text && room > 1 ? text + 1 : no_text,
+                                  text && room > 1 ? room - 1 : 0, length);
+        if (status == GLTF_SUCCESS) {
+            *length += 1;
+            if (text && room > 0)
+                text[0] = room > 1 ? '_' : 0;
+        }
+        return status;
+    }
+    *length = size;
+    if (text && room > 0) {
+        n = size < room ? size : room - 1;
+        memcpy(text, whole, n);
+        text[n] = 0;
+    }
+    return GLTF_SUCCESS;
+}
