@@ -228,8 +228,9 @@ GLTF_API gltf_status gltf_text(const gltf_file *file, unsigned int what, size_t 
  * its `extensions` under that name, which has `extension_size` bytes (3.12). `part` is the position
  * of a primitive in its mesh, or of a channel or sampler in its animation; for other kinds it is
  * not looked at. The text means the same as the text in the file, and need not be spelled alike.
- * Returns GLTF_NO_SUCH_INDEX if there is none; so also for an extension that this header has a
- * struct member or a call for, at the records where it has it. */
+ * Returns GLTF_NO_SUCH_INDEX if there is none. So it does for an extension that this header has a
+ * struct member or a call for, at the records where it has it; and for all extensions of channels,
+ * animation samplers, lights and variants, which are not kept. */
 GLTF_API gltf_status gltf_json(const gltf_file *file, unsigned int kind, size_t index, size_t part,
                                const char *extension, size_t extension_size, char *text,
                                size_t room, size_t *length) GLTF_CHECKED GLTF_NONNULL((9));

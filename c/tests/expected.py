@@ -147,7 +147,9 @@ class File:
 
 
 def print_extras(about, record):
-    values = {name: known(record, name) for name in JSON}
+    """The extras, and the unknown extensions, which are not kept of some records."""
+    is_kept = about.split()[0] not in ("channels", "animationSamplers", "lights", "variants")
+    values = {name: known(record, name) if is_kept else None for name in JSON}
     values["extras"] = record.get("extras")
     for member in JSON:
         if values[member] is not None:

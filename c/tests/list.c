@@ -1,5 +1,5 @@
-/* Prints every member of every record of files, a line each, as expected.py wants it; of a file that
- * is refused its fault: `list FILE..`. */
+/* Prints every member of every record of files, a line each, as expected.py wants it; of a file
+ * that is refused its fault: `list FILE..`. */
 #define GLTF_LOAD_IMPLEMENTATION
 #include "gltf_load.h"
 
