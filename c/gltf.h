@@ -397,7 +397,8 @@ GLTF_API gltf_status gltf_attribute_find(const gltf_file *file, size_t mesh, siz
                                          size_t *accessor) GLTF_CHECKED GLTF_NONNULL((7));
 
 /* Finds the material of a primitive in a variant (KHR_materials_variants). Returns
- * GLTF_NO_SUCH_INDEX if the primitive has none for it: its own material applies then. */
+ * GLTF_NO_SUCH_INDEX if the primitive has none for it: its own material applies then. No rule
+ * checks this index: gltf_material_info returns GLTF_NO_SUCH_INDEX if there is no such material. */
 GLTF_API gltf_status gltf_variant_material(const gltf_file *file, size_t mesh, size_t primitive,
                                            size_t variant, size_t *material)
     GLTF_CHECKED GLTF_NONNULL((5));

@@ -293,7 +293,7 @@ static void visit_primitive(visit *v, size_t mesh, size_t index, size_t primitiv
     visit_json(v, GLTF_PRIMITIVES, mesh, index);
     for (i = 0; i <= v->counts[GLTF_VARIANTS] && i < 9; i++)
         if (gltf_variant_material(v->file, mesh, index, i, &material) == GLTF_SUCCESS)
-            MUST(v, is_below(material, v->counts[GLTF_MATERIALS]));
+            visit_add(v, &material, sizeof material);
     for (i = 0; visit_attribute(v, mesh, index, GLTF_NONE, i); i++)
         continue;
     MUST(v, i == it.attributes);

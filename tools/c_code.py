@@ -1,0 +1,176 @@
+"""What C sees of the code: the exports of `crates/gltf_c`, the structs that they take, and the
+numbers of enumerators; and whether `c/gltf.h` and `c/gltf_shim.c` have the same."""
+import re
+
+import crates
+
+# What has the code that C sees: the exports, and the types that they take.
+SOURCES = ("gltf_c", "gltf_calls", "gltf_c_records")
+C = crates.TOP / "c"
+# How the exports are called. Each call of the header has the same name without the prefix.
+PREFIX = "core_"
+# The calls of the header that have no export of their own.
+OF_SHIM = {"gltf_version"}
+# What the types of exports are in C. A slice is a pointer and a count.
+TYPES = {
+    "usize": ["size_t"],
+    "u32": ["unsigned int"],
+    "&[u8]": ["const void *", "size_t"],
+    "&mut [u8]": ["void *", "size_t"],
+    "&mut [u32]": ["unsigned int *", "size_t"],
+    "&mut [usize]": ["size_t *", "size_t"],
+    "&mut [f64]": ["double *", "size_t"],
+    "&mut usize": ["size_t *"],
+    "*mut u8": ["void *"],
+}
+# The parameters of which C says that they are text.
+TEXTS = {("&[u8]", "names"), ("&[u8]", "name"), ("&[u8]", "extension"), ("&mut [u8]", "text")}
+# What the types of members are in C, and how many bytes they are.
+FIELDS = {"usize": ("size_t", 8), "u32": ("unsigned int", 4), "f64": ("double", 8),
+          "u8": ("char", 1), "*mut u8": ("void *", 8), "*const u8": ("const unsigned char *", 8)}
+# The structs and the members that C has by other names.
+STRUCTS = {"gltf_file": "core_file"}
+MEMBERS = {("gltf_light", "kind"): "type"}
+# The enumerators that C has by other names, and those that only C has.
+ENUMERATORS = {
+    ("Semantic", "Positions"): "POSITION",
+    ("Semantic", "Normals"): "NORMAL",
+    ("Semantic", "Tangents"): "TANGENT",
+    ("Semantic", "Colors"): "COLOR",
+    ("Semantic", "TexCoords"): "TEXCOORD",
+}
+
+
+def source():
+    files = [file for crate in SOURCES
+             for file in sorted((crates.TOP / "crates" / crate / "src").rglob("*.rt"))]
+    return "".join(file.read_text("utf-8") for file in files)
+
+
+def exports():
+    """The exported functions: of each its name, its parameters and its result."""
+    form = r'pub extern "C" fn (\w+)\(([^)]*)\)(?: -> (\w+))?'
+    found = []
+    for name, inner, result in re.findall(form, source()):
+        pairs = [pair.split(": ", 1) for pair in re.split(r",\s*", inner.strip(" ,\n")) if pair]
+        found.append((name, [pair for pair in pairs if pair[1] != "Global"], result or "void"))
+    return found
+
+
+def words_of(name):
+    """`TwoWords` as `Two_Words`."""
+    return re.sub(r"(?<!^)(?=[A-Z])", "_", name)
+
+
+def c_struct(name):
+    struct = words_of(name).lower()
+    return STRUCTS.get(struct, struct)
+
+
+def c_types(name, kind):
+    if (kind, name) in TEXTS:
+        return ["char *" if "mut" in kind else "const char *", "size_t"]
+    if kind.startswith("&mut Gltf"):
+        return [c_struct(kind[5:]) + " *"]
+    return TYPES[kind]
+
+
+def header():
+    """The text of the header, with no comments and no directives."""
+    text = re.sub(r"/\*.*?\*/", "", (C / "gltf.h").read_text("utf-8"), flags=re.DOTALL)
+    return re.sub(r"(?m)^#.*(?:\\\n.*)*$", "", text)
+
+
+def calls():
+    """The names of the calls that the header declares."""
+    return re.findall(r"GLTF_API [^;(]*?(\w+)\(", header())
+
+
+def version():
+    """The version in the header, as `2.0.0`."""
+    number = int(re.search(r"#define GLTF_VERSION (\d+)", (C / "gltf.h").read_text("utf-8"))[1])
+    return f"{number // 10000}.{number // 100 % 100}.{number % 100}"
+
+
+def declarations():
+    """A declaration made of each export. What the shim declares has to be of the same type."""
+    for name, parameters, result in exports():
+        types = [kind for pair in parameters for kind in c_types(*pair)]
+        result = result if result == "void" else TYPES[result][0]
+        yield f"extern {result} {name}({', '.join(types) or 'void'});"
+
+
+def structs():
+    """The structs that C declares too: of each its name there, and its members in memory."""
+    form = r"#\[repr\(C\)\]\n(?:#\[.*\]\n)*pub struct (\w+) \{\n((?:.*\n)*?)\}\n"
+    text = source()
+    found = [(c_struct(name), re.findall(r"(?m)^    (?:pub(?:\(crate\))? )?(\w+): (.+),$", inner))
+             for name, inner in re.findall(form, text)]
+    assert len(found) == text.count("#[repr(C)]"), found
+    return [(struct, [(MEMBERS.get((struct, member), member), kind) for member, kind in members])
+            for struct, members in found]
+
+
+def holds_in_c(condition):
+    return f'_Static_assert({condition}, "{condition}");'
+
+
+def size_and_type(kind, sizes):
+    """How many bytes a member is, what aligns it, and its type in C, which of a list is that of a
+    pointer to its first element."""
+    if kind in FIELDS:
+        c_type, size = FIELDS[kind]
+        return size, size, c_type
+    if kind.startswith("["):
+        inner, count = kind[1:-1].split("; ")
+        size, align, c_type = size_and_type(inner, sizes)
+        return size * int(count), align, f"{c_type} *"
+    struct = c_struct(kind)
+    return sizes[struct], 8, struct
+
+
+def layouts():
+    """Each member has to be as wide in the header as in the code and at the same place, with
+    nothing after the last but what aligns it."""
+    left, sizes, lines = dict(structs()), {}, []
+    while left:
+        # A struct comes after those that it has as members.
+        ready = [struct for struct, members in left.items() if not any(
+            c_struct(kind) in left for _, kind in members if kind.startswith("Gltf"))]
+        struct = ready[0]
+        at, widest = 0, 1
+        for member, kind in left.pop(struct):
+            size, align, c_type = size_and_type(kind, sizes)
+            at, widest = (at + align - 1) // align * align, max(widest, align)
+            its = f"(({struct} *)0)->{member}"
+            lines += [holds_in_c(f"offsetof({struct}, {member}) == {at}"),
+                      holds_in_c(f"sizeof {its} == {size}"),
+                      holds_in_c(f"_Generic({its}, {c_type}: 1, default: 0)")]
+            at += size
+        sizes[struct] = (at + widest - 1) // widest * widest
+        lines.append(holds_in_c(f"sizeof({struct}) == {sizes[struct]}"))
+    return lines
+
+
+def same(shown, wanted):
+    assert shown == wanted, f"{shown} is not {wanted}"
+
+
+def check_names():
+    """The header and the code have the same calls, structs and members."""
+    text = header()
+    same(sorted(calls()), sorted({*OF_SHIM, *(name.replace(PREFIX, "gltf_", 1)
+                                              for name, _, _ in exports())}))
+    shown = {struct: re.findall(r"(\w+)(?:\[\d+\])?;", inner) for inner, struct in
+             re.findall(r"typedef struct \w+ \{([^}]*)\} (\w+);", text)}
+    # The options are taken apart in the shim.
+    del shown["gltf_open_options"]
+    wanted = dict(structs())
+    assert [member for member, _ in wanted.pop("core_file")] == ["at"]
+    same(shown, {struct: [member for member, _ in members] for struct, members in wanted.items()})
+
+
+def check_file():
+    """A C file that compiles where header, shim and code agree in types, places and numbers."""
+    return "\n".join([
+        f'#include "{C}/gltf_shim.c"', *declarations(), *layouts(), ""])
