@@ -24,8 +24,9 @@ BOX, TRIANGLE, DANGLING = (EXAMPLES / name for name in
 SQUARE = EXAMPLES / "two files" / "square.gltf"
 RIG, SURFACE = TESTS_OF_C / "rig.gltf", TESTS_OF_C / "surface.gltf"
 # What rich.py writes.
-RICH, RICH_GLB, PLAIN = (OUT / "files" / name for name in ("rich.gltf", "rich.glb", "plain.gltf"))
-FINE = [BOX, TRIANGLE, SQUARE, RIG, SURFACE, RICH, RICH_GLB, PLAIN]
+RICH, RICH_GLB, VALID, PLAIN = (OUT / "files" / name for name in
+                                ("rich.gltf", "rich.glb", "valid.glb", "plain.gltf"))
+FINE = [BOX, TRIANGLE, SQUARE, RIG, SURFACE, RICH, RICH_GLB, VALID, PLAIN]
 MESSAGE = programs.DANGLING.rstrip("\n")
 SHOWN = "24 points, the first 0.5 -0.5 -0.5\n"
 STRICT = ["-Wall", "-Wextra", "-Wconversion", "-pedantic", "-Werror", "-O2"]
@@ -290,6 +291,48 @@ def each_growth_is_refused_in_turn(is_long):
         print(ran(program, file), end="")
 
 
+# ---- A program that was written for cgltf.
+
+def meshoptimizer():
+    """The folder of the source of gltfpack 0.18, with cgltf 1.12."""
+    folder = os.environ.get("MESHOPTIMIZER", "")
+    if not (pathlib.Path(folder) / "gltf" / "gltfpack.cpp").is_file():
+        raise Lacking("MESHOPTIMIZER=FOLDER names no source of gltfpack: "
+                      "apt-get source meshoptimizer")
+    return pathlib.Path(folder)
+
+
+def gltfpack_writes_the_same():
+    """gltfpack over cgltf and over the adapter writes the same bytes."""
+    source, room = meshoptimizer(), OUT / "gltfpack"
+    room.mkdir(exist_ok=True)
+    (room / "obj.c").write_text('#define FAST_OBJ_IMPLEMENTATION\n#include "fast_obj.h"\n')
+    flags = ["-O1", "-w", f"-I{source}/extern", f"-I{C}", "-c"]
+    ran("g++", "-std=c++17", "-x", "c++", *flags, C / "cgltf_over_gltf.c", "-o", room / "cpp.o")
+    for file in (room / "obj.c", C / "cgltf_over_gltf.c", TESTS_OF_C / "cgltf_sorted.c"):
+        ran("cc", *flags, file, "-o", room / f"{file.stem}.o")
+    parts = [room / "obj.o"]
+    for file in (*source.glob("gltf/*.cpp"), *source.glob("src/*.cpp")):
+        parts.append(room / f"p_{file.stem}.o")
+        ran("g++", *flags, file, "-o", parts[-1])
+    ran("g++", room / "cgltf_sorted.o", *parts, "-lpthread", "-o", room / "over_cgltf")
+    ran("g++", room / "cgltf_over_gltf.o", *parts, LIBRARY, "-lpthread", "-o", room / "over_gltf")
+    packed = room / "packed.glb"
+    ran(room / "over_cgltf", "-i", BOX, "-o", packed)
+    for file in (BOX, TRIANGLE, SQUARE, RIG, VALID, PLAIN, packed):
+        written = []
+        for program in ("over_cgltf", "over_gltf"):
+            to = room / f"by_{program}.glb"
+            ran(room / program, "-i", file, "-o", to, "-ke", "-kn", "-km",
+                stderr=subprocess.DEVNULL)
+            written.append(to.read_bytes())
+        assert written[0] == written[1], f"{file}: {room}/by_over_gltf.glb differs"
+        print(f"{file.name}: the same {len(written[0])} bytes")
+    came = subprocess.run([room / "over_gltf", "-i", DANGLING, "-o", room / "none.glb"],
+                          stderr=subprocess.PIPE, text=True)
+    same((came.returncode, came.stderr), (2, f"Error loading {DANGLING}: invalid GLTF\n"))
+
+
 # ---- As it is installed.
 
 def is_found_by(tool):
@@ -319,7 +362,7 @@ def by_cmake(room):
                       for kind in ("gltf", "shared", "static"))
     text = ("cmake_minimum_required(VERSION 3.10)\nproject(show C)\n"
             "find_package(gltf {} REQUIRED)\n" + targets)
-    for version in ("2.0", "2.0.0", "1.9", "2.1", "3.0"):
+    for version in ("3.0", "2.1", "1.9", "2.0.0", "2.0"):
         (room / "CMakeLists.txt").write_text(text.format(version))
         words = ["cmake", f"-DCMAKE_PREFIX_PATH={room}/usr", "-S", room,
                  "-B", room / f"built{version}"]
@@ -366,8 +409,8 @@ def tests(is_long):
         [a_stack_has_a_quarter_to_spare], [threads_read_one_file],
         [sees_no_race, "helgrind", turns], [sees_no_race, "drd", turns],
         [mutated_files_break_nothing, mutated], [valgrind_sees_no_error, by_valgrind],
-        [each_growth_is_refused_in_turn, is_long], [is_found_by, "pkg-config"],
-        [is_found_by, "cmake"], [leaves_nothing_when_uninstalled], [man_page_is_clean],
+        [each_growth_is_refused_in_turn, is_long], [gltfpack_writes_the_same],
+        [is_found_by, "pkg-config"], [is_found_by, "cmake"], [leaves_nothing_when_uninstalled], [man_page_is_clean],
     )
 
 

@@ -2,8 +2,8 @@
 """Writes files with nearly every kind of record, in nearly every form: `rich.py FOLDER`.
 
 `rich.gltf` has a buffer in `rich data.bin` beside it and one in a data URI. `rich.glb` is the same
-document with the first of them in its BIN chunk. `plain.gltf` has records with all members absent
-that may be."""
+document with the first of them in its BIN chunk. `valid.glb` has no record that the standard
+forbids. `plain.gltf` has all members absent that may be."""
 import base64
 import json
 import pathlib
@@ -17,6 +17,8 @@ EXTRAS = {"list": [1, 2.5, None, True, "ü\n\"\\"], "empty": {}, "small": 1e-7, 
 
 data, views, accessors = bytearray(), [], []
 marks = 0
+# Whether only what the standard allows is made.
+is_valid = False
 
 
 def marked(record):
@@ -24,7 +26,8 @@ def marked(record):
     record."""
     global marks
     marks += 1
-    return {"name": f"record {marks} é", **record, "extras": {"mark": marks, **EXTRAS},
+    more = {} if is_valid else EXTRAS
+    return {"name": f"record {marks} é", **record, "extras": {"mark": marks, **more},
             "extensions": {"EXT_mark": {"mark": [marks]}, **record.get("extensions", {})}}
 
 
@@ -91,7 +94,7 @@ def make_accessors():
         "moves": accessor("f", "VEC3", [(0, 0, 0), (1, 0, 0), (2, 1, 0)]),
         "turns": accessor("f", "VEC4", [(0, 0, 0, 1), (0, 0, 0.6, 0.8), (0, 0, 1, 0)]),
         "cubic": accessor("f", "VEC3", [(1, 1, 1), (1, 2, 1), (0, 0, 0)] * 3),
-        "morphs": accessor("f", "SCALAR", [0, 0.5, 1]),
+        "morphs": accessor("f", "SCALAR", [0, 0.5, 1, 0.25, 0, 1]),
         "small": accessor("b", "VEC3", [(-128, -127, 0), (127, 1, -1)], normalized=True),
         "matrices": accessor("f", "MAT2", [(1, 2, 3, 4)], bounds=False),
         "wide": accessor("f", "MAT3", [list(range(9))], bounds=False),
@@ -107,8 +110,9 @@ def make_accessors():
                     "byteOffset": 2},
         "values": {"bufferView": where["values"]["bufferView"], "byteOffset": 12}, "count": 1}})
     at["zeros"] = len(accessors) - 1
-    over(0, "f", "VEC3", 4000)  # more than its view holds: it cannot be read
-    over(strided, "f", "VEC4", 2)  # the same, of items that are too wide
+    if not is_valid:
+        over(0, "f", "VEC3", 4000)  # more than its view holds: it cannot be read
+        over(strided, "f", "VEC4", 2)  # the same, of items that are too wide
     return at
 
 
@@ -118,7 +122,9 @@ def use(texture, **more):
 
 def moved(texture, **more):
     """A use of a texture with a transform."""
-    transform = {"offset": [0.5, 0.25 * texture], "rotation": 1.5, "scale": [2, 3], "texCoord": 3}
+    transform = {"offset": [0.5, 0.25 * texture], "rotation": 1.5, "scale": [2, 3]}
+    if not is_valid:  # cgltf's users do not look at it
+        transform["texCoord"] = 3
     return use(texture, texCoord=1, extensions={"KHR_texture_transform": transform}, **more)
 
 
@@ -152,6 +158,8 @@ def materials():
         "transmission", "ior", "volume", "specular", "emissive_strength",
         "pbrSpecularGlossiness")}
     yield {"alphaMode": "OPAQUE", "pbrMetallicRoughness": {}, "extensions": empty}
+    if is_valid:
+        return
     # Numbers that are none, and lists of another length: the defaults hold.
     yield {"alphaCutoff": "x", "emissiveFactor": [1, 1], "pbrMetallicRoughness": {
         "baseColorFactor": [1, 1, 1, 1, 1], "metallicFactor": [1], "roughnessFactor": None},
@@ -180,9 +188,10 @@ def nodes():
                   "scale": [2, 2, 2.5]})
     yield {"rotation": [0, 0, 0.6, 0.8]}
     yield marked({"camera": 0, "matrix": [*UNIT[:12], 3, 4, 5, 1]})
-    yield {"translation": [0, 5, 0], "camera": 1, "extensions": {**lamp, "EXT_mark": [1]}}
-    yield {"scale": [1, 1], "rotation": [0, 0, 0, 1, 0], "name": ""}
-    yield {"matrix": [1] * 15}
+    yield {"translation": [0, 5, 0], "camera": 1, "extensions": {**lamp, "EXT_mark": {"a": 1}}}
+    broken = {} if is_valid else {"scale": [1, 1], "rotation": [0, 0, 0, 1, 0]}
+    yield {**broken, "name": ""}
+    yield {} if is_valid else {"matrix": [1] * 15}
     yield {"mesh": 1}
 
 
@@ -196,11 +205,17 @@ def meshes(at):
                      "targets": targets, "extensions": variants})
     mesh = marked({"weights": [0.25, 0.75], "primitives": [first]})
     mesh["extras"]["targetNames"] = ["smile", "frown"]
-    mesh["primitives"] += [{"attributes": {"POSITION": at["POSITION"]}, "mode": mode}
-                           for mode in range(7)]
-    yield mesh
-    yield {"primitives": [{"attributes": {"POSITION": at["sparse"], "TEXCOORD_0": at["strided"]},
-                           "indices": at["more indices"]}]}
+    more = [{"attributes": {"POSITION": at["POSITION"]}, "mode": mode} for mode in range(7)]
+    odd = {"attributes": {"POSITION": at["sparse"], "TEXCOORD_0": at["strided"]},
+           "indices": at["more indices"]}
+    if is_valid:
+        odd = {"attributes": {"POSITION": at["sparse"]}, "indices": at["indices"]}
+        yield mesh
+        yield {"primitives": [odd, *more[4:5]]}
+    else:
+        mesh["primitives"] += more
+        yield mesh
+        yield {"primitives": [odd]}
 
 
 def cameras():
@@ -250,7 +265,7 @@ def document():
                     {"byteLength": 10, "uri": "data:application/octet-stream;base64," + tail}],
         "extensions": {"KHR_lights_punctual": {"lights": list(lights())},
                        "KHR_materials_variants": {"variants": variants}, "EXT_mark": {"mark": 0}},
-        "extras": ["root", EXTRAS],
+        "extras": ["root", 1 if is_valid else EXTRAS],
     }
 
 
@@ -272,6 +287,13 @@ def main():
     (folder / "rich data.bin").write_bytes(bytes(data))
     del root["buffers"][0]["uri"]
     (folder / "rich.glb").write_bytes(container(spelled(root), bytes(data)))
+    global is_valid, marks
+    is_valid, marks = True, 0
+    for it in (data, views, accessors):
+        it.clear()
+    root = document()
+    del root["buffers"][0]["uri"]
+    (folder / "valid.glb").write_bytes(container(spelled(root), bytes(data)))
     (folder / "plain.gltf").write_bytes(spelled({"asset": {"version": "2.0"}}))
 
 
