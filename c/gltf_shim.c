@@ -163,6 +163,11 @@ CALL(attribute_info, (core_file *, size_t, size_t, size_t, size_t, gltf_attribut
      (const gltf_file *file, size_t mesh, size_t primitive, size_t target, size_t position,
       gltf_attribute *out),
      (&handle, mesh, primitive, target, position, out))
+CALL(attribute_find,
+     (core_file *, size_t, size_t, size_t, unsigned int, unsigned int, size_t *),
+     (const gltf_file *file, size_t mesh, size_t primitive, size_t target, unsigned int meaning,
+      unsigned int set, size_t *accessor),
+     (&handle, mesh, primitive, target, meaning, set, accessor))
 CALL(channel_info, (core_file *, size_t, size_t, gltf_channel *),
      (const gltf_file *file, size_t animation, size_t channel, gltf_channel *out),
      (&handle, animation, channel, out))
@@ -196,70 +201,13 @@ CALL(numbers, (core_file *, unsigned int, size_t, double *, size_t, size_t *),
      (const gltf_file *file, unsigned int what, size_t index, double *out, size_t room,
       size_t *count),
      (&handle, what, index, ROOM(out, no_numbers), count))
-CALL(json, (core_file *, unsigned int, size_t, size_t, const char *, size_t, char *, size_t,
-            size_t *),
+CALL(json, (core_file *, unsigned int, size_t, size_t, unsigned int, const char *, size_t, char *,
+            size_t, size_t *),
      (const gltf_file *file, unsigned int kind, size_t index, size_t part, const char *extension,
       size_t extension_size, char *text, size_t room, size_t *length),
-     (&handle, kind, index, part, extension == NULL ? no_text : extension,
+     (&handle, kind, index, part, extension != NULL, extension == NULL ? no_text : extension,
       extension == NULL ? 0 : extension_size, ROOM(text, no_text), length))
-
-extern gltf_status core_custom_name(core_file *, size_t, size_t, size_t, char *, size_t, size_t *);
-
-gltf_status gltf_attribute_find(const gltf_file *file, size_t mesh, size_t primitive, size_t target,
-                                unsigned int meaning, unsigned int set, size_t *accessor)
-{
-    gltf_attribute each;
-    gltf_status status;
-    size_t i;
-    for (i = 0; (status = gltf_attribute_info(file, mesh, primitive, target, i, &each))
-             == GLTF_SUCCESS; i++)
-        if (each.meaning == meaning && (meaning < GLTF_COLOR || each.set == set)
-            && meaning != GLTF_CUSTOM) {
-            *accessor = each.accessor;
-            break;
-        }
-    return status;
-}
-
-/* A name of the format, from the meaning and the set; a custom one is in the document. */
-gltf_status gltf_attribute_name(const gltf_file *file, size_t mesh, size_t primitive, size_t target,
-                                size_t position, char *text, size_t room, size_t *length)
-{
-    static const char *const names[] = { "POSITION", "NORMAL", "TANGENT", "COLOR_", "TEXCOORD_",
-                                         "JOINTS_", "WEIGHTS_", "_" };
-    gltf_attribute it;
-    char whole[32], digits[16];
-    size_t size = 0, n = 0;
-    unsigned int set;
-    gltf_status status = gltf_attribute_info(file, mesh, primitive, target, position, &it);
-    if (status != GLTF_SUCCESS)
-        return status;
-    size = strlen(names[it.meaning]);
-    memcpy(whole, names[it.meaning], size);
-    if (it.meaning >= GLTF_COLOR && it.meaning <= GLTF_WEIGHTS) {
-        for (set = it.set; n == 0 || set != 0; set /= 10)
-            digits[n++] = (char)('0' + set % 10);
-        while (n > 0)
-            whole[size++] = digits[--n];
-    }
-    if (it.meaning == GLTF_CUSTOM) {
-        core_file handle = handle_of(file);
-        /* the rest of the name goes behind the underscore */
-        status = core_custom_name(&handle, mesh, primitive, position,
-                                  text && room > 1 ? text + 1 : no_text,
-                                  text && room > 1 ? room - 1 : 0, length);
-        if (status == GLTF_SUCCESS) {
-            *length += 1;
-            if (text && room > 0)
-                text[0] = room > 1 ? '_' : 0;
-        }
-        return status;
-    }
-    *length = size;
-    if (text && room > 0) {
-        n = size < room ? size : room - 1;
-        memcpy(text, whole, n);
-        text[n] = 0;
-    }
-    return GLTF_SUCCESS;
-}
+CALL(attribute_name, (core_file *, size_t, size_t, size_t, size_t, char *, size_t, size_t *),
+     (const gltf_file *file, size_t mesh, size_t primitive, size_t target, size_t position,
+      char *text, size_t room, size_t *length),
+     (&handle, mesh, primitive, target, position, ROOM(text, no_text), length))

@@ -5,8 +5,16 @@ import pathlib
 
 import c
 import c_code
+import crates
 
 HEADERS = ("gltf.h", "gltf_load.h", "gltf.hpp")
+
+
+def is_built():
+    """Whether the library was built of the present sources: those of the code, and the shim."""
+    return crates.is_built_of(c.LIBRARY, "gltf_c") and all(
+        os.stat(c.C / name).st_mtime_ns < os.stat(c.LIBRARY).st_mtime_ns
+        for name in ("gltf.h", "gltf_shim.c"))
 
 
 def folders(prefix, environment):

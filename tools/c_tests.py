@@ -126,6 +126,17 @@ def pages_name_all_calls():
         same(set(c_code.calls()) - words, set())
 
 
+def page_shows_code_that_is_tried():
+    """The code of the page is in the examples, and these do what the page says."""
+    code = "".join((C / name).read_text("utf-8") for name in ("show.c", "draw.c"))
+    page = (crates.TOP / "docs" / "C.md").read_text("utf-8")
+    for block in re.findall(r"```c\n(.*?)```", page, re.DOTALL):
+        assert block in code, block
+    program = compiled(C / "draw.c", OUT / "draw")
+    for file, wanted in {BOX: 12, TRIANGLE: 2, SQUARE: 2, VALID: 3}.items():
+        same(ran(program, file).count("<path"), wanted)
+
+
 # ---- What it reads.
 
 def lists_every_member():
@@ -404,7 +415,8 @@ def tests(is_long):
         [shared_library_is_plain], [header_says_what_the_code_has],
         *([headers_compile_by, compiler] for compiler in LANGUAGES),
         *([shows_by, compiler] for compiler in LANGUAGES),
-        [pages_name_all_calls], [lists_every_member], [lists_by, "g++"], [lists_by, "clang++"],
+        [pages_name_all_calls], [page_shows_code_that_is_tried],
+        [lists_every_member], [lists_by, "g++"], [lists_by, "clang++"],
         [loads_files], [is_read_by_ctypes], [links_from_rust], [closed_files_are_defined],
         [a_stack_has_a_quarter_to_spare], [threads_read_one_file],
         [sees_no_race, "helgrind", turns], [sees_no_race, "drd", turns],
