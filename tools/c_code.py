@@ -4,8 +4,6 @@ import re
 
 import crates
 
-# What has the code that C sees: the exports, and the types that they take.
-SOURCES = ("gltf_c", "gltf_calls", "gltf_c_records")
 C = crates.TOP / "c"
 # How the exports are called. Each call of the header has the same name without the prefix.
 PREFIX = "core_"
@@ -42,7 +40,8 @@ ENUMERATORS = {
 
 
 def source():
-    files = [file for crate in SOURCES
+    """The code that C may see something of: that of the exports, and of all crates below them."""
+    files = [file for crate in crates.below("gltf_c")
              for file in sorted((crates.TOP / "crates" / crate / "src").rglob("*.rt"))]
     return "".join(file.read_text("utf-8") for file in files)
 

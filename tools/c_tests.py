@@ -35,7 +35,7 @@ LANGUAGES = {"gcc": ("c89", "c99", "c11"), "g++": ("c++98", "c++17"),
              "clang": ("c89", "c99", "c11"), "clang++": ("c++98", "c++17")}
 # With --long: how many mutated copies of each file are tried by the sanitizers and by valgrind, and
 # how often each of four threads reads a file under helgrind and drd. And the same without.
-LONG, SHORT = (17_000, 170, 3_000), (1_200, 12, 10)
+LONG, SHORT = (17_000, 170, 3_000), (2_000, 30, 40)
 
 
 class Lacking(Exception):
