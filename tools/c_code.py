@@ -29,13 +29,39 @@ FIELDS = {"usize": ("size_t", 8), "u32": ("unsigned int", 4), "f64": ("double", 
 # The structs and the members that C has by other names.
 STRUCTS = {"gltf_file": "core_file"}
 MEMBERS = {("gltf_light", "kind"): "type"}
-# The enumerators that C has by other names, and those that only C has.
+# The enums of the code that C has as enumerators, each with the beginning of their names there:
+# those of which a call gives the number, and those of which it takes the number.
+GIVEN = {"Status": "", "DataType": "", "Mode": "", "Semantic": "", "AlphaMode": "",
+         "Interpolation": "", "Property": "PATH_", "Type": ""}
+TAKEN = {"Kind": "", "Semantic": "", "Text": "ASSET_", "NodeList": "", "NumberList": "",
+         "Place": ""}
+# The enumerators that C has by other names.
 ENUMERATORS = {
+    ("Status", "InputOutput"): "CANNOT_READ",
     ("Semantic", "Positions"): "POSITION",
     ("Semantic", "Normals"): "NORMAL",
     ("Semantic", "Tangents"): "TANGENT",
     ("Semantic", "Colors"): "COLOR",
     ("Semantic", "TexCoords"): "TEXCOORD",
+    ("Semantic", "Extras"): "CUSTOM",
+    ("Property", "MorphTargetWeights"): "PATH_WEIGHTS",
+    ("Text", "BufferUri"): "BUFFER_URI",
+    ("Text", "ImageUri"): "IMAGE_URI",
+    ("Text", "ImageMimeType"): "IMAGE_MIME_TYPE",
+    ("NodeList", "Scene"): "SCENE_NODES",
+    ("NodeList", "Children"): "NODE_CHILDREN",
+    ("NodeList", "Joints"): "SKIN_JOINTS",
+    ("Place", "Primitive"): "PRIMITIVES",
+    ("Place", "Channel"): "CHANNELS",
+    ("Place", "AnimationSampler"): "ANIMATION_SAMPLERS",
+}
+# The bits of the header, and the status of gltf_load.h: the code has no variant for them. The lists
+# of every member compare the bits.
+OF_HEADER = {
+    "GLTF_CANNOT_READ", "GLTF_EXTERNAL", "GLTF_UNLIT", "GLTF_SPECULAR_GLOSSINESS",
+    "GLTF_TRANSMISSION", "GLTF_IOR", "GLTF_EMISSIVE_STRENGTH", "GLTF_VOLUME", "GLTF_SPECULAR",
+    "GLTF_METALLIC_ROUGHNESS", "GLTF_HAS_MATRIX", "GLTF_HAS_TRANSLATION", "GLTF_HAS_ROTATION",
+    "GLTF_HAS_SCALE",
 }
 
 
@@ -151,6 +177,22 @@ def layouts():
     return lines
 
 
+def enumerators():
+    """The enumerators, each with the number that the code has for it."""
+    text = "".join(file.read_text("utf-8") for crate in crates.below("gltf_c")
+                   if re.fullmatch(r"gltf_c(alls|_\w+)?", crate)
+                   for file in sorted((crates.TOP / "crates" / crate / "src").rglob("*.rt")))
+    taken = re.findall(rf"(?m)^\s*(\d+) => Some\(({'|'.join(TAKEN)})::(\w+)", text)
+    form = rf"\b({'|'.join(GIVEN)})::(\w+)(?:\(_\))?\)*(?: \| \S+)? => (\d+),"
+    given = re.findall(form, text)
+    found = {}
+    for kind, variant, number in [*((b, c, a) for a, b, c in taken), *given]:
+        name = "GLTF_" + ENUMERATORS.get((kind, variant),
+                                         {**GIVEN, **TAKEN}[kind] + words_of(variant).upper())
+        same(found.setdefault(name, number), number)
+    return found
+
+
 def same(shown, wanted):
     assert shown == wanted, f"{shown} is not {wanted}"
 
@@ -167,9 +209,11 @@ def check_names():
     wanted = dict(structs())
     assert [member for member, _ in wanted.pop("core_file")] == ["at"]
     same(shown, {struct: [member for member, _ in members] for struct, members in wanted.items()})
+    same(sorted(re.findall(r"\b(GLTF_\w+) = ", text)), sorted({*enumerators(), *OF_HEADER}))
 
 
 def check_file():
     """A C file that compiles where header, shim and code agree in types, places and numbers."""
     return "\n".join([
-        f'#include "{C}/gltf_shim.c"', *declarations(), *layouts(), ""])
+        f'#include "{C}/gltf_shim.c"', *declarations(), *layouts(),
+        *(holds_in_c(f"{name} == {number}") for name, number in enumerators().items()), ""])
