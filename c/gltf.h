@@ -252,8 +252,7 @@ enum {
     GLTF_NODE_WEIGHTS = 3  /* 5.25.9: if there are none, those of the node's mesh apply */
 };
 
-/* Copies a list of numbers of a record. If the list is absent, `*count` is 0. An element that is
- * not a number is 0. */
+/* Copies a list of numbers of a record. If it is absent, or no list of numbers, `*count` is 0. */
 GLTF_API gltf_status gltf_numbers(const gltf_file *file, unsigned int what, size_t index,
                                   double *out, size_t room, size_t *count)
     GLTF_CHECKED GLTF_NONNULL((6));
@@ -538,9 +537,8 @@ typedef struct gltf_node {
     size_t light;            /* of KHR_lights_punctual */
     size_t children;         /* their number: gltf_list(.., GLTF_NODE_CHILDREN, ..) */
     size_t weights;          /* their number: gltf_numbers(.., GLTF_NODE_WEIGHTS, ..) */
-    unsigned int has;        /* GLTF_HAS_MATRIX | ..; if it has a matrix, the three other bits are 0
-                                and those members have their defaults; if not, `matrix` is the unit
-                                matrix */
+    unsigned int has;        /* GLTF_HAS_MATRIX | ..; a matrix that the file has applies in place of
+                                the three other members */
     unsigned int reserved_word;
     double matrix[16];       /* column by column */
     double translation[3];

@@ -28,7 +28,7 @@ FIELDS = {"usize": ("size_t", 8), "u32": ("unsigned int", 4), "f64": ("double", 
           "u8": ("char", 1), "*mut u8": ("void *", 8), "*const u8": ("const unsigned char *", 8)}
 # The structs and the members that C has by other names.
 STRUCTS = {"gltf_file": "core_file"}
-MEMBERS = {("gltf_light", "kind"): "type"}
+MEMBERS = {("gltf_light", "kind"): "type", ("gltf_light", "type_"): "type"}
 # The enums of the code that C has as enumerators, each with the beginning of their names there:
 # those of which a call gives the number, and those of which it takes the number.
 GIVEN = {"Status": "", "DataType": "", "Mode": "", "Semantic": "", "AlphaMode": "",

@@ -63,6 +63,12 @@ def numbers(record, member, default):
     return value if fits else default
 
 
+def all_numbers(record, member):
+    """A list of numbers of any length; empty where it is no such list."""
+    value = record.get(member)
+    return value if isinstance(value, list) and all(map(is_number, value)) else []
+
+
 def known(record, name):
     """What a record has under the name of an extension."""
     return record.get("extensions", {}).get(name)
@@ -228,7 +234,7 @@ def print_accessor(file, about, index, record):
     put(about, "stride", stride or size)
     put(about, "in place", int(in_place))
     for member in ("min", "max"):
-        put_numbers(about, member, record.get(member, []))
+        put_numbers(about, member, all_numbers(record, member))
     print_items(file, about, record)
 
 
@@ -262,8 +268,8 @@ def print_primitive(file, about, record):
 
 def print_mesh(file, about, index, record):
     put(about, "primitives", len(record["primitives"]))
-    put(about, "weights", len(record.get("weights", [])))
-    put_numbers(about, "weights", record.get("weights", []))
+    put(about, "weights", len(all_numbers(record, "weights")))
+    put_numbers(about, "weights", all_numbers(record, "weights"))
     for k, primitive in enumerate(record["primitives"]):
         print_primitive(file, f"primitives {index} {k}", primitive)
         for n, target in enumerate(primitive.get("targets", [])):
@@ -366,18 +372,13 @@ def print_node(file, about, index, record):
     for member in ("mesh", "skin", "camera"):
         put(about, member, record.get(member))
     put(about, "light", (known(record, LIGHTS) or {}).get("light"))
-    put(about, "weights", len(record.get("weights", [])))
-    has = 1 if "matrix" in record else 0
-    for bit, member in ((2, "translation"), (4, "rotation"), (8, "scale")):
-        has += bit if member in record and "matrix" not in record else 0
-    put(about, "has", has)
-    of = {} if "matrix" in record else record
-    put_numbers(about, "matrix", numbers(record, "matrix", UNIT))
-    put_numbers(about, "translation", numbers(of, "translation", [0] * 3))
-    put_numbers(about, "rotation", numbers(of, "rotation", [0, 0, 0, 1]))
-    put_numbers(about, "scale", numbers(of, "scale", [1] * 3))
+    put(about, "weights", len(all_numbers(record, "weights")))
+    members = ("matrix", "translation", "rotation", "scale")
+    put(about, "has", sum(1 << k for k, member in enumerate(members) if member in record))
+    for member, default in zip(members, (UNIT, [0] * 3, [0, 0, 0, 1], [1] * 3)):
+        put_numbers(about, member, numbers(record, member, default))
     put(about, "children", *record.get("children", []))
-    put_numbers(about, "weights", record.get("weights", []))
+    put_numbers(about, "weights", all_numbers(record, "weights"))
 
 
 def print_skin(file, about, index, record):

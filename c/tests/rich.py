@@ -111,6 +111,7 @@ def make_accessors():
         "values": {"bufferView": where["values"]["bufferView"], "byteOffset": 12}, "count": 1}})
     at["zeros"] = len(accessors) - 1
     if not is_valid:
+        accessors[at["zeros"]].update(min=[0, None, 0], max="none")
         over(0, "f", "VEC3", 4000)  # more than its view holds: it cannot be read
         over(strided, "f", "VEC4", 2)  # the same, of items that are too wide
     return at
@@ -191,7 +192,7 @@ def nodes():
     yield {"translation": [0, 5, 0], "camera": 1, "extensions": {**lamp, "EXT_mark": {"a": 1}}}
     broken = {} if is_valid else {"scale": [1, 1], "rotation": [0, 0, 0, 1, 0]}
     yield {**broken, "name": ""}
-    yield {} if is_valid else {"matrix": [1] * 15}
+    yield {} if is_valid else {"matrix": [1] * 15, "translation": [1, 2, 3], "weights": [1, "x"]}
     yield {"mesh": 1}
 
 

@@ -372,7 +372,7 @@ static void visit_node(visit *v, size_t index)
     MUST(v, is_below_or_none(it.skin, v->counts[GLTF_SKINS]));
     MUST(v, is_below_or_none(it.camera, v->counts[GLTF_CAMERAS]));
     MUST(v, is_below_or_none(it.light, v->counts[GLTF_LIGHTS]));
-    MUST(v, it.has < 16 && (it.has == GLTF_HAS_MATRIX || it.has % 2 == 0));
+    MUST(v, it.has < 16);
     visit_add(v, &it, sizeof it);
     visit_list(v, GLTF_NODE_CHILDREN, index, it.children);
     visit_numbers(v, GLTF_NODE_WEIGHTS, index);
