@@ -106,9 +106,8 @@ enum {
     GLTF_CLOSED = 11,            /* the file is NULL */
     GLTF_NO_SUCH_INDEX = 12,     /* there is no such record, or it has not what was asked for */
     GLTF_UNREADABLE = 13,        /* the accessor does not fit its buffer views, or they do not fit
-                                    their buffers */
+                                    their buffers, as one that waits for gltf_give */
     GLTF_NO_ROOM = 14,           /* the items do not fit into `out` */
-    GLTF_NO_BYTES = 15,          /* the buffer waits for gltf_give */
     GLTF_OTHER_TYPE = 16         /* the accessor's components are not of the type of this call */
 };
 
@@ -159,12 +158,6 @@ typedef struct gltf_open_options {
  * nothing about the file. */
 GLTF_API gltf_status gltf_open(const void *bytes, size_t size, const gltf_open_options *options,
                                gltf_file **file, gltf_fault *fault)
-    GLTF_CHECKED GLTF_NONNULL((1, 4, 5));
-
-/* Does the same for a block that came from malloc, and takes it over: the library frees it, also if
- * the call fails. The BIN chunk of a container is then used where it is and not copied. */
-GLTF_API gltf_status gltf_open_owned(void *bytes, size_t size, const gltf_open_options *options,
-                                     gltf_file **file, gltf_fault *fault)
     GLTF_CHECKED GLTF_NONNULL((1, 4, 5));
 
 /* Supplies the bytes of a buffer that waits for them (`waits` of gltf_buffer). They are copied.
@@ -230,7 +223,8 @@ GLTF_API gltf_status gltf_text(const gltf_file *file, unsigned int what, size_t 
  * not looked at. The text means the same as the text in the file, and need not be spelled alike.
  * Returns GLTF_NO_SUCH_INDEX if there is none. So it does for an extension that this header has a
  * struct member or a call for, at the records where it has it; and for all extensions of channels,
- * animation samplers, lights and variants, which are not kept. */
+ * animation samplers, lights and variants, which are not kept. It may return
+ * GLTF_NO_MEMORY. */
 GLTF_API gltf_status gltf_json(const gltf_file *file, unsigned int kind, size_t index, size_t part,
                                const char *extension, size_t extension_size, char *text,
                                size_t room, size_t *length) GLTF_CHECKED GLTF_NONNULL((9));
@@ -316,11 +310,11 @@ GLTF_API gltf_status gltf_accessor_info(const gltf_file *file, size_t index, glt
     GLTF_CHECKED GLTF_NONNULL((3));
 
 /* Copies all items to `out` without gaps, count * item_size bytes, with the sparse overrides
- * applied (3.6.2). Bytes of `out` after them are unchanged. Returns GLTF_NO_BYTES if one of the
- * accessor's buffers waits; else GLTF_UNREADABLE if it has neither a view nor a sparse part, or its
- * items, sparse indices or sparse values have a count of 0, are not inside their view, or have a
- * view that is not inside its buffer or a byteStride less than their size; else GLTF_NO_ROOM if
- * the items are more than `room` bytes. */
+ * applied (3.6.2). Bytes of `out` after them are unchanged. Returns GLTF_UNREADABLE if the accessor
+ * has neither a view nor a sparse part, or if its items, sparse indices or sparse values have a
+ * count of 0, are not inside their view, or have a view that is not inside its buffer or a
+ * byteStride less than their size; else GLTF_NO_ROOM if the items are more than `room` bytes. A
+ * buffer that waits has no bytes. */
 GLTF_API gltf_status gltf_accessor_read(const gltf_file *file, size_t index, void *out, size_t room)
     GLTF_CHECKED GLTF_NONNULL((3));
 
@@ -383,7 +377,8 @@ GLTF_API gltf_status gltf_attribute_info(const gltf_file *file, size_t mesh, siz
                                          size_t target, size_t position, gltf_attribute *out)
     GLTF_CHECKED GLTF_NONNULL((6));
 
-/* Copies the name of that attribute, as `TEXCOORD_0` or `_TEMPERATURE`. */
+/* Copies the name of that attribute, as `TEXCOORD_0` or `_TEMPERATURE`. It may return
+ * GLTF_NO_MEMORY. */
 GLTF_API gltf_status gltf_attribute_name(const gltf_file *file, size_t mesh, size_t primitive,
                                          size_t target, size_t position, char *text, size_t room,
                                          size_t *length) GLTF_CHECKED GLTF_NONNULL((8));

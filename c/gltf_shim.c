@@ -67,8 +67,6 @@ static unsigned int flags_of(const gltf_open_options *options)
 
 extern gltf_status core_open(const void *bytes, size_t size, const char *names, size_t names_size,
                              unsigned int flags, core_file *file, gltf_fault *fault);
-extern gltf_status core_open_owned(void *bytes, size_t size, const char *names, size_t names_size,
-                                   unsigned int flags, core_file *file, gltf_fault *fault);
 extern gltf_status core_give(core_file *file, size_t index, const void *bytes, size_t size);
 extern void core_close(core_file *file);
 extern size_t core_count(core_file *file, unsigned int kind);
@@ -87,22 +85,6 @@ gltf_status gltf_open(const void *bytes, size_t size, const gltf_open_options *o
     if (!make_name_list(options, &list))
         return no_memory(file, fault);
     status = core_open(bytes, size, list.names, list.size, flags_of(options), &handle, fault);
-    free(list.names);
-    *file = (gltf_file *)handle.at;
-    return status;
-}
-
-gltf_status gltf_open_owned(void *bytes, size_t size, const gltf_open_options *options,
-                            gltf_file **file, gltf_fault *fault)
-{
-    core_file handle = { NULL };
-    name_list list;
-    gltf_status status;
-    if (!make_name_list(options, &list)) {
-        free(bytes);
-        return no_memory(file, fault);
-    }
-    status = core_open_owned(bytes, size, list.names, list.size, flags_of(options), &handle, fault);
     free(list.names);
     *file = (gltf_file *)handle.at;
     return status;

@@ -2,8 +2,8 @@
 """Measures the library for C, out/c/libgltf.a, which `make c` builds, and prints tables in Markdown:
 
   - opening and closing a file, beside cgltf's parse, load_buffers and validate
-  - opening a container of 100 MB that is handed over, and reading its items in place, beside cgltf
-    with its copies of items
+  - opening a container of 100 MB and reading its items in place, beside cgltf with its copies of
+    items
   - each call that fills in a struct
 
 cgltf is that of CGLTF=FOLDER, or as installed; without it nothing is compared. Each number is the

@@ -47,7 +47,7 @@ int main(int words, char **word)
     size_t size, found;
     int failed = 0;
     unsigned char *bytes = words == 2 ? contents_of(word[1], &size) : NULL;
-    if (bytes == NULL || gltf_open_owned(bytes, size, NULL, &file, &fault) != GLTF_SUCCESS)
+    if (bytes == NULL || gltf_open(bytes, size, NULL, &file, &fault) != GLTF_SUCCESS)
         return 2;
     INFO(buffer, GLTF_BUFFERS);
     INFO(buffer_view, GLTF_BUFFER_VIEWS);

@@ -62,25 +62,14 @@ static size_t size;
 
 /* Opens, gives a buffer that waits its bytes, visits all and closes. Returns the status of the
  * opening; `v` has what the visit read, and `given` the status of the giving. */
-static gltf_status whole(int owned, visit *v, gltf_status *given, gltf_fault *fault)
+static gltf_status whole(visit *v, gltf_status *given, gltf_fault *fault)
 {
     static const char *const names[] = { "EXT_one", "EXT_two" };
     static const gltf_open_options options = { GLTF_EXTERNAL, 0, names, 2, { 0, 0, 0, 0 } };
     static unsigned char zeros[65536];
     gltf_file *file;
     gltf_buffer buffer;
-    gltf_status status;
-    unsigned char *block = NULL;
-    if (owned) {
-        /* The block that the library frees is one of those that are counted. */
-        block = (unsigned char *)__real_malloc(size + 1);
-        if (block == NULL)
-            return GLTF_CANNOT_READ;
-        blocks++;
-        memcpy(block, bytes, size);
-        status = gltf_open_owned(block, size, &options, &file, fault);
-    } else
-        status = gltf_open(bytes, size, &options, &file, fault);
+    gltf_status status = gltf_open(bytes, size, &options, &file, fault);
     *given = GLTF_SUCCESS;
     if (gltf_buffer_info(file, 0, &buffer) == GLTF_SUCCESS && buffer.waits
         && buffer.byte_length <= sizeof zeros)
@@ -117,22 +106,19 @@ static int counts(gltf_status status, const gltf_fault *fault, gltf_status own,
 }
 
 /* Returns 0, or the number of what is wrong. */
-static int try_all(int owned)
+static int try_all(void)
 {
     gltf_fault fault, own_fault;
     gltf_status own, status, given;
     visit v, own_visit;
     long growths;
-    refused = with_text = without_text = 0;
-    granted = -1;
-    was_refused = 0;
-    own = whole(owned, &own_visit, &given, &own_fault);
+    own = whole(&own_visit, &given, &own_fault);
     if (own_visit.wrong != 0 || given != GLTF_SUCCESS || blocks != 0)
         return 5;
     for (growths = 0;; growths++) {
         was_refused = 0;
         granted = growths;
-        status = whole(owned, &v, &given, &fault);
+        status = whole(&v, &given, &fault);
         granted = -1;
         if (!was_refused)
             break;
@@ -140,20 +126,18 @@ static int try_all(int owned)
             || (given != GLTF_SUCCESS && given != GLTF_NO_MEMORY))
             return 3;
     }
-    printf("%s: %ld growths, each refused once: %ld times no memory, then status %u; %ld messages "
-           "are the text of the result, %ld that there is no memory for it\n",
-           owned ? "owned" : "copied", growths, refused, own, with_text, without_text);
+    printf("%ld growths, each refused once: %ld times no memory, then status %u; %ld messages are "
+           "the text of the result, %ld that there is no memory for it\n", growths, refused, own,
+           with_text, without_text);
     return blocks == 0 && status == own && v.sum == own_visit.sum ? 0 : 4;
 }
 
 int main(int words, char **word)
 {
     FILE *file = words == 2 ? fopen(word[1], "rb") : NULL;
-    int wrong;
     if (file == NULL)
         return 2;
     size = fread(bytes, 1, sizeof bytes, file);
     fclose(file);
-    wrong = try_all(0);
-    return wrong != 0 ? wrong : try_all(1);
+    return try_all();
 }

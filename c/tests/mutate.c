@@ -1,5 +1,5 @@
-/* Opens mutated copies of files, visits and closes them: `mutate TIMES FILE..`. It ends with 0 where
- * every result is one that the header names; a sanitizer sees the rest. */
+/* Opens mutated copies of files, visits and closes them: `mutate TIMES FILE..`. It ends with 0
+ * where every result is one that the header names; a sanitizer sees the rest. */
 #include "contents.h"
 #include "visit.h"
 
@@ -81,8 +81,7 @@ static int is_fault(gltf_status status, const gltf_fault *fault)
         && (fault->text[0] != 0) == (status != GLTF_SUCCESS);
 }
 
-/* A file's bytes are in a block of their own size, so that each read past them is seen; in every
- * second turn the library gets that block. */
+/* A file's bytes are in a block of their own size, so that each read past them is seen. */
 static int try_one(const unsigned char *bytes, size_t size, long *opened)
 {
     static const char *const names[] = { "EXT_mark", "\377", "" };
@@ -101,12 +100,8 @@ static int try_one(const unsigned char *bytes, size_t size, long *opened)
     options.extensions = names;
     options.extension_count = any(4);
     memset(&fault, 0x5a, sizeof fault);
-    if (any(2) == 0)
-        status = gltf_open_owned(exact, size, &options, &file, &fault);
-    else {
-        status = gltf_open(exact, size, any(2) == 0 ? &options : NULL, &file, &fault);
-        free(exact);
-    }
+    status = gltf_open(exact, size, any(2) == 0 ? &options : NULL, &file, &fault);
+    free(exact);
     if (status >= STATUSES || (file == NULL) == (status == GLTF_SUCCESS)
         || !is_fault(status, &fault))
         return 106;

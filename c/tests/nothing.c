@@ -69,7 +69,7 @@ static void try_nothing(void)
 }
 
 /* The sum of a visit, which is the same each time. The bytes are freed before it. */
-static unsigned long opened_and_closed(const unsigned char *bytes, size_t size, int owned)
+static unsigned long opened_and_closed(const unsigned char *bytes, size_t size)
 {
     unsigned char *block = (unsigned char *)malloc(size);
     gltf_file *file;
@@ -79,11 +79,9 @@ static unsigned long opened_and_closed(const unsigned char *bytes, size_t size, 
     if (block == NULL)
         return 0;
     memcpy(block, bytes, size);
-    if ((owned ? gltf_open_owned(block, size, NULL, &file, &fault)
-         : gltf_open(block, size, NULL, &file, &fault)) != GLTF_SUCCESS)
+    if (gltf_open(block, size, NULL, &file, &fault) != GLTF_SUCCESS)
         wrong = __LINE__;
-    if (!owned)
-        free(block);
+    free(block);
     v.file = file;
     visit_all(&v);
     gltf_close(file);
@@ -101,9 +99,9 @@ int main(int words, char **word)
     if (bytes == NULL)
         return 2;
     try_nothing();
-    sum = opened_and_closed(bytes, size, 0);
+    sum = opened_and_closed(bytes, size);
     for (turn = 0; turn < 4; turn++)
-        if (opened_and_closed(bytes, size, turn % 2) != sum)
+        if (opened_and_closed(bytes, size) != sum)
             wrong = __LINE__;
     if (gltf_version() != GLTF_VERSION)
         wrong = __LINE__;

@@ -1,7 +1,7 @@
-/* Makes every call of gltf.h that reads, for every record of a file and for some that are not there,
- * with rooms of many sizes, each in a block of its own. It adds up all that is written, and checks
- * what the header says of any file: which statuses there are, that indices are in range, and that
- * nothing is written past a room. */
+/* Makes every call of gltf.h that reads, for every record of a file and for some that are not
+ * there, with rooms of many sizes, each in a block of its own. It adds up all that is written, and
+ * checks what the header says of any file: which statuses there are, that indices are in range, and
+ * that nothing is written past a room. */
 #ifndef VISIT_H
 #define VISIT_H
 
@@ -210,8 +210,7 @@ static void visit_items(visit *v, size_t index, const gltf_accessor *it)
         items[size] = 0x5a;
         status = gltf_accessor_read(v->file, index, items, size);
         MUST(v, status == GLTF_SUCCESS || status == GLTF_UNREADABLE
-                || (!fits && status == GLTF_NO_ROOM)
-                || (v->has_options && status == GLTF_NO_BYTES));
+                || (!fits && status == GLTF_NO_ROOM));
         MUST(v, it->data == NULL || status != GLTF_UNREADABLE);
         MUST(v, items[size] == 0x5a);
         visit_add(v, &status, sizeof status);
@@ -255,6 +254,7 @@ static int visit_attribute(visit *v, size_t mesh, size_t primitive, size_t targe
 {
     gltf_attribute it;
     size_t length = 0, again = 0, found = 0, room;
+    gltf_status status;
     char *name;
     if (gltf_attribute_info(v->file, mesh, primitive, target, position, &it) != GLTF_SUCCESS)
         return 0;
@@ -262,15 +262,18 @@ static int visit_attribute(visit *v, size_t mesh, size_t primitive, size_t targe
          gltf_attribute_info(v->file, mesh, primitive, target, GLTF_NONE, &it));
     MUST(v, it.meaning <= GLTF_CUSTOM && is_below(it.accessor, v->counts[GLTF_ACCESSORS]));
     visit_add(v, &it, sizeof it);
-    MUST(v, gltf_attribute_name(v->file, mesh, primitive, target, position, NULL, 0, &length)
-            == GLTF_SUCCESS && length > 0);
+    status = gltf_attribute_name(v->file, mesh, primitive, target, position, NULL, 0, &length);
+    MUST(v, (status == GLTF_SUCCESS && length > 0) || visit_lacks(v, status));
     room = 1 + visit_any(v, length + 2);
     name = (char *)VISIT_MALLOC(room);
-    if (name != NULL) {
-        MUST(v, gltf_attribute_name(v->file, mesh, primitive, target, position, name, room, &again)
-                == GLTF_SUCCESS && again == length);
-        MUST(v, name[length < room ? length : room - 1] == 0);
-        visit_add(v, name, length < room ? length : room);
+    if (name != NULL && status == GLTF_SUCCESS) {
+        status = gltf_attribute_name(v->file, mesh, primitive, target, position, name, room,
+                                     &again);
+        MUST(v, status == GLTF_SUCCESS || visit_lacks(v, status));
+        if (status == GLTF_SUCCESS) {
+            MUST(v, again == length && name[length < room ? length : room - 1] == 0);
+            visit_add(v, name, length < room ? length : room);
+        }
     }
     VISIT_FREE(name);
     MUST(v, gltf_attribute_find(v->file, mesh, primitive, target, it.meaning, it.set, &found)
