@@ -123,20 +123,46 @@ size_t gltf_count(const gltf_file *file, unsigned int kind)
     CALL(kind##_info, (core_file *, size_t, gltf_##kind *), \
          (const gltf_file *file, size_t index, gltf_##kind *out), (&handle, index, out))
 
-INFO(buffer)
 INFO(buffer_view)
-INFO(accessor)
 INFO(mesh)
 INFO(material)
 INFO(sampler)
 INFO(texture)
-INFO(image)
 INFO(scene)
 INFO(node)
 INFO(skin)
 INFO(animation)
 INFO(camera)
 INFO(light)
+
+/* GltfBytes in the code: bytes of a buffer, by the address of its first byte. That the offset and
+ * the size lie in the buffer is proved; the sum is made here. */
+typedef struct core_bytes {
+    const unsigned char *at;
+    size_t offset;
+    size_t size;
+    size_t stride;
+} core_bytes;
+
+/* One that fills in such a struct for an accessor, a buffer or a view: its member is the address of
+ * the bytes, or NULL where the export of the bytes does not succeed. */
+#define INFO_WITH_BYTES(kind, member, of, bytes_index) \
+    extern gltf_status core_##kind##_info(core_file *, size_t, gltf_##kind *); \
+    extern gltf_status core_##of##_bytes(core_file *, size_t, core_bytes *); \
+    gltf_status gltf_##kind##_info(const gltf_file *file, size_t index, gltf_##kind *out) \
+    { \
+        core_file handle = handle_of(file); \
+        core_bytes bytes; \
+        gltf_status status = core_##kind##_info(&handle, index, out); \
+        if (status == GLTF_SUCCESS) \
+            out->member = core_##of##_bytes(&handle, bytes_index, &bytes) == GLTF_SUCCESS \
+                ? bytes.at + bytes.offset : NULL; \
+        return status; \
+    }
+
+INFO_WITH_BYTES(buffer, bytes, buffer, index)
+INFO_WITH_BYTES(accessor, data, accessor, index)
+INFO_WITH_BYTES(image, bytes, view, out->view)
 
 CALL(primitive_info, (core_file *, size_t, size_t, gltf_primitive *),
      (const gltf_file *file, size_t mesh, size_t primitive, gltf_primitive *out),

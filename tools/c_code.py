@@ -7,8 +7,9 @@ import crates
 C = crates.TOP / "c"
 # How the exports are called. Each call of the header has the same name without the prefix.
 PREFIX = "core_"
-# The calls of the header that have no export of their own.
-OF_SHIM = {"gltf_version"}
+# The calls of the header that have no export, and the exports that only the shim calls.
+WITHOUT_EXPORT = {"gltf_version"}
+OF_SHIM = {"core_buffer_bytes", "core_accessor_bytes", "core_view_bytes"}
 # What the types of exports are in C. A slice is a pointer and a count.
 TYPES = {
     "usize": ["size_t"],
@@ -27,8 +28,9 @@ TEXTS = {("&[u8]", "names"), ("&[u8]", "name"), ("&[u8]", "extension"), ("&mut [
 FIELDS = {"usize": ("size_t", 8), "u32": ("unsigned int", 4), "f64": ("double", 8),
           "u8": ("char", 1), "*mut u8": ("void *", 8), "*const u8": ("const unsigned char *", 8)}
 # The structs and the members that C has by other names.
-STRUCTS = {"gltf_file": "core_file"}
-MEMBERS = {("gltf_light", "kind"): "type", ("gltf_light", "type_"): "type"}
+STRUCTS = {"gltf_file": "core_file", "gltf_bytes": "core_bytes"}
+MEMBERS = {("gltf_light", "type_"): "type", ("gltf_buffer", "no_bytes"): "bytes",
+           ("gltf_accessor", "no_bytes"): "data", ("gltf_image", "no_bytes"): "bytes"}
 # The enums of the code that C has as enumerators, each with the beginning of their names there:
 # those of which a call gives the number, and those of which it takes the number.
 GIVEN = {"Status": "", "DataType": "", "Mode": "", "Semantic": "", "AlphaMode": "",
@@ -167,6 +169,8 @@ def layouts():
         for member, kind in left.pop(struct):
             size, align, c_type = size_and_type(kind, sizes)
             at, widest = (at + align - 1) // align * align, max(widest, align)
+            if kind == "usize" and member in ("bytes", "data"):
+                c_type = FIELDS["*const u8"][0]  # which the shim writes over it
             its = f"(({struct} *)0)->{member}"
             lines += [holds_in_c(f"offsetof({struct}, {member}) == {at}"),
                       holds_in_c(f"sizeof {its} == {size}"),
@@ -200,14 +204,16 @@ def same(shown, wanted):
 def check_names():
     """The header and the code have the same calls, structs and members."""
     text = header()
-    same(sorted(calls()), sorted({*OF_SHIM, *(name.replace(PREFIX, "gltf_", 1)
-                                              for name, _, _ in exports())}))
+    exported = {name for name, _, _ in exports()}
+    assert OF_SHIM <= exported, exported
+    same(sorted(calls()), sorted({*WITHOUT_EXPORT, *(name.replace(PREFIX, "gltf_", 1)
+                                                     for name in exported - OF_SHIM)}))
     shown = {struct: re.findall(r"(\w+)(?:\[\d+\])?;", inner) for inner, struct in
              re.findall(r"typedef struct \w+ \{([^}]*)\} (\w+);", text)}
     # The options are taken apart in the shim.
     del shown["gltf_open_options"]
     wanted = dict(structs())
-    assert [member for member, _ in wanted.pop("core_file")] == ["at"]
+    del wanted["core_file"], wanted["core_bytes"]  # of the shim
     same(shown, {struct: [member for member, _ in members] for struct, members in wanted.items()})
     same(sorted(re.findall(r"\b(GLTF_\w+) = ", text)), sorted({*enumerators(), *OF_HEADER}))
 
