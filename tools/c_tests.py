@@ -194,7 +194,8 @@ def loads_files():
                                "below/short": "short"}.items():
             (room / path).parent.mkdir(parents=True, exist_ok=True)
             (room / path).write_text(contents)
-        for word, table in ((), LOADED), (("anywhere",), LOADED_ANYWHERE), (("resolver",), RESOLVED):
+        tables = ((), LOADED), (("anywhere",), LOADED_ANYWHERE), (("resolver",), RESOLVED)
+        for word, table in tables:
             for uri, wanted in table.items():
                 uri = uri.replace("{room}", name)
                 file = room / "below" / "file.gltf"
@@ -422,7 +423,8 @@ def tests(is_long):
         [sees_no_race, "helgrind", turns], [sees_no_race, "drd", turns],
         [mutated_files_break_nothing, mutated], [valgrind_sees_no_error, by_valgrind],
         [each_growth_is_refused_in_turn, is_long], [gltfpack_writes_the_same],
-        [is_found_by, "pkg-config"], [is_found_by, "cmake"], [leaves_nothing_when_uninstalled], [man_page_is_clean],
+        [is_found_by, "pkg-config"], [is_found_by, "cmake"], [leaves_nothing_when_uninstalled],
+        [man_page_is_clean],
     )
 
 
