@@ -54,9 +54,9 @@
  *
  * Proved: for every file and every call that observes these, the call returns, reads and writes no
  * memory but what it was given and what it has from malloc, and does what is said at the call.
- * Tested, not proved: the few lines of C between this header and the proved code (c/gltf_shim.c),
- * that reading from many threads is safe, that the bytes behind a pointer stay until gltf_close,
- * and that all memory is freed.
+ * Tested, not proved: the few lines of C between this header and the proved code (c/gltf_shim.c;
+ * gltf_accessor_read_u32 widens there what the proved code reads), that reading from many threads
+ * is safe, that the bytes behind a pointer stay until gltf_close, and that all memory is freed.
  *
  * Section numbers are those of the glTF 2.0 specification. */
 #ifndef GLTF_H

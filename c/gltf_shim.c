@@ -186,9 +186,37 @@ CALL(variant_material, (core_file *, size_t, size_t, size_t, size_t *),
      (&handle, mesh, primitive, variant, material))
 CALL(accessor_read, (core_file *, size_t, void *, size_t),
      (const gltf_file *file, size_t index, void *out, size_t room), (&handle, index, out, room))
-CALL(accessor_read_u32, (core_file *, size_t, unsigned int *, size_t),
-     (const gltf_file *file, size_t index, unsigned int *out, size_t room),
-     (&handle, index, out, room))
+/* The components are read to the end of their room, and widened from the first on: none is written
+ * over before it is read. */
+gltf_status gltf_accessor_read_u32(const gltf_file *file, size_t index, unsigned int *out,
+                                   size_t room)
+{
+    core_file handle = handle_of(file);
+    gltf_accessor it;
+    unsigned char *from;
+    size_t width, count, i;
+    gltf_status status = core_accessor_info(&handle, index, &it);
+    if (status != GLTF_SUCCESS)
+        return status;
+    if (it.component_type != GLTF_U8 && it.component_type != GLTF_U16
+        && it.component_type != GLTF_U32)
+        return GLTF_OTHER_TYPE;
+    if (it.count > room / it.components)
+        return core_accessor_read(&handle, index, no_text, 0);
+    width = it.item_size / it.components;
+    count = it.count * it.components;
+    from = (unsigned char *)out + count * (sizeof *out - width);
+    status = core_accessor_read(&handle, index, from, count * width);
+    for (i = 0; i < count && status == GLTF_SUCCESS; i++, from += width) {
+        unsigned int number = from[0];
+        if (width >= 2)
+            number |= (unsigned int)from[1] << 8;
+        if (width == 4)
+            number |= (unsigned int)from[2] << 16 | (unsigned int)from[3] << 24;
+        out[i] = number;
+    }
+    return status;
+}
 
 /* The room of a call whose pointer may be NULL. */
 #define ROOM(pointer, other) (room == 0 ? (other) : (pointer)), room

@@ -8,7 +8,7 @@ C = crates.TOP / "c"
 # How the exports are called. Each call of the header has the same name without the prefix.
 PREFIX = "core_"
 # The calls of the header that have no export, and the exports that only the shim calls.
-WITHOUT_EXPORT = {"gltf_version"}
+WITHOUT_EXPORT = {"gltf_version", "gltf_accessor_read_u32"}
 OF_SHIM = {"core_buffer_bytes", "core_accessor_bytes", "core_view_bytes"}
 # What the types of exports are in C. A slice is a pointer and a count.
 TYPES = {
@@ -30,7 +30,7 @@ FIELDS = {"usize": ("size_t", 8), "u32": ("unsigned int", 4), "f64": ("double", 
 # The structs and the members that C has by other names.
 STRUCTS = {"gltf_file": "core_file", "gltf_bytes": "core_bytes"}
 MEMBERS = {("gltf_light", "type_"): "type", ("gltf_buffer", "no_bytes"): "bytes",
-           ("gltf_accessor", "no_bytes"): "data", ("gltf_image", "no_bytes"): "bytes"}
+           ("gltf_accessor", "no_data"): "data", ("gltf_image", "no_bytes"): "bytes"}
 # The enums of the code that C has as enumerators, each with the beginning of their names there:
 # those of which a call gives the number, and those of which it takes the number.
 GIVEN = {"Status": "", "DataType": "", "Mode": "", "Semantic": "", "AlphaMode": "",
@@ -57,11 +57,11 @@ ENUMERATORS = {
     ("Place", "Channel"): "CHANNELS",
     ("Place", "AnimationSampler"): "ANIMATION_SAMPLERS",
 }
-# The bits of the header, and the status of gltf_load.h: the code has no variant for them. The lists
-# of every member compare the bits.
+# The bits of the header, and the statuses of gltf_load.h and of the shim: the code has no variant
+# for them. The lists of every member compare the bits.
 OF_HEADER = {
-    "GLTF_CANNOT_READ", "GLTF_EXTERNAL", "GLTF_UNLIT", "GLTF_SPECULAR_GLOSSINESS",
-    "GLTF_TRANSMISSION", "GLTF_IOR", "GLTF_EMISSIVE_STRENGTH", "GLTF_VOLUME", "GLTF_SPECULAR",
+    "GLTF_CANNOT_READ", "GLTF_OTHER_TYPE", "GLTF_EXTERNAL", "GLTF_UNLIT",
+    "GLTF_SPECULAR_GLOSSINESS", "GLTF_TRANSMISSION", "GLTF_IOR", "GLTF_EMISSIVE_STRENGTH", "GLTF_VOLUME", "GLTF_SPECULAR",
     "GLTF_METALLIC_ROUGHNESS", "GLTF_HAS_MATRIX", "GLTF_HAS_TRANSLATION", "GLTF_HAS_ROTATION",
     "GLTF_HAS_SCALE",
 }
