@@ -33,7 +33,7 @@ MEMBERS = {("gltf_light", "type_"): "type", ("gltf_buffer", "no_bytes"): "bytes"
            ("gltf_accessor", "no_data"): "data", ("gltf_image", "no_bytes"): "bytes"}
 # The enums of the code that C has as enumerators, each with the beginning of their names there:
 # those of which a call gives the number, and those of which it takes the number.
-GIVEN = {"Status": "", "DataType": "", "Mode": "", "Semantic": "", "AlphaMode": "",
+GIVEN = {"Status": "", "ComponentType": "", "Mode": "", "Semantic": "", "AlphaMode": "",
          "Interpolation": "", "Property": "PATH_", "Type": ""}
 TAKEN = {"Kind": "", "Semantic": "", "Text": "ASSET_", "NodeList": "", "NumberList": "",
          "Place": ""}
@@ -61,7 +61,8 @@ ENUMERATORS = {
 # for them. The lists of every member compare the bits.
 OF_HEADER = {
     "GLTF_CANNOT_READ", "GLTF_OTHER_TYPE", "GLTF_EXTERNAL", "GLTF_UNLIT",
-    "GLTF_SPECULAR_GLOSSINESS", "GLTF_TRANSMISSION", "GLTF_IOR", "GLTF_EMISSIVE_STRENGTH", "GLTF_VOLUME", "GLTF_SPECULAR",
+    "GLTF_SPECULAR_GLOSSINESS", "GLTF_TRANSMISSION", "GLTF_IOR", "GLTF_EMISSIVE_STRENGTH",
+    "GLTF_VOLUME", "GLTF_SPECULAR",
     "GLTF_METALLIC_ROUGHNESS", "GLTF_HAS_MATRIX", "GLTF_HAS_TRANSLATION", "GLTF_HAS_ROTATION",
     "GLTF_HAS_SCALE",
 }
@@ -188,7 +189,8 @@ def enumerators():
                    for file in sorted((crates.TOP / "crates" / crate / "src").rglob("*.rt")))
     taken = re.findall(rf"(?m)^\s*(\d+) => Some\(({'|'.join(TAKEN)})::(\w+)", text)
     form = rf"\b({'|'.join(GIVEN)})::(\w+)(?:\(_\))?\)*(?: \| \S+)? => (\d+),"
-    given = re.findall(form, text)
+    givers = re.findall(r"\bfn (?:\w+_number|code)\(.*?\n *\}\n\s*\}\n", text, re.DOTALL)
+    given = [found for giver in givers for found in re.findall(form, giver)]
     found = {}
     for kind, variant, number in [*((b, c, a) for a, b, c in taken), *given]:
         name = "GLTF_" + ENUMERATORS.get((kind, variant),
