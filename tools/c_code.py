@@ -35,8 +35,7 @@ MEMBERS = {("gltf_light", "type_"): "type", ("gltf_buffer", "no_bytes"): "bytes"
 # those of which a call gives the number, and those of which it takes the number.
 GIVEN = {"Status": "", "ComponentType": "", "Mode": "", "Semantic": "", "AlphaMode": "",
          "Interpolation": "", "Property": "PATH_", "Type": ""}
-TAKEN = {"Kind": "", "Semantic": "", "Text": "ASSET_", "NodeList": "", "NumberList": "",
-         "Place": ""}
+TAKEN = {"Kind": "", "Semantic": "", "TextMember": "ASSET_", "NodeList": "", "Place": ""}
 # The enumerators that C has by other names.
 ENUMERATORS = {
     ("Status", "InputOutput"): "CANNOT_READ",
@@ -47,9 +46,9 @@ ENUMERATORS = {
     ("Semantic", "TexCoords"): "TEXCOORD",
     ("Semantic", "Extras"): "CUSTOM",
     ("Property", "MorphTargetWeights"): "PATH_WEIGHTS",
-    ("Text", "BufferUri"): "BUFFER_URI",
-    ("Text", "ImageUri"): "IMAGE_URI",
-    ("Text", "ImageMimeType"): "IMAGE_MIME_TYPE",
+    ("TextMember", "BufferUri"): "BUFFER_URI",
+    ("TextMember", "ImageUri"): "IMAGE_URI",
+    ("TextMember", "ImageMimeType"): "IMAGE_MIME_TYPE",
     ("NodeList", "Scene"): "SCENE_NODES",
     ("NodeList", "Children"): "NODE_CHILDREN",
     ("NodeList", "Joints"): "SKIN_JOINTS",
@@ -57,9 +56,10 @@ ENUMERATORS = {
     ("Place", "Channel"): "CHANNELS",
     ("Place", "AnimationSampler"): "ANIMATION_SAMPLERS",
 }
-# The bits of the header, and the statuses of gltf_load.h and of the shim: the code has no variant
-# for them. The lists of every member compare the bits.
+# The bits of the header, the lists of numbers, and the statuses of gltf_load.h and of the shim: the
+# code has no variant for them. The test of every member tries the bits and the lists.
 OF_HEADER = {
+    "GLTF_ACCESSOR_MIN", "GLTF_ACCESSOR_MAX", "GLTF_MESH_WEIGHTS", "GLTF_NODE_WEIGHTS",
     "GLTF_CANNOT_READ", "GLTF_OTHER_TYPE", "GLTF_EXTERNAL", "GLTF_UNLIT",
     "GLTF_SPECULAR_GLOSSINESS", "GLTF_TRANSMISSION", "GLTF_IOR", "GLTF_EMISSIVE_STRENGTH",
     "GLTF_VOLUME", "GLTF_SPECULAR",
