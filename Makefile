@@ -4,7 +4,7 @@ CALL ?= chunks
 FILE ?= examples/box.glb
 PREFIX ?= /usr/local
 NAME :=
-BENCHES := items records import files peers c
+BENCHES := items records import files peers
 
 # The scripts in tools/ take the words from the environment, unchanged: a path may have any
 # character. The caller's folder is another one under `make -C`.
@@ -17,16 +17,14 @@ help:
 	@echo 'For users'
 	@echo '  make show [CALL=chunks|check] [FILE=PATH]  shows the chunks of a GLB file, or checks a file'
 	@echo '  make prove                                 proves and builds the programs'
-	@echo '  make c [WORDS=--long]                      proves, builds and tests the library for C'
-	@echo '  make install [PREFIX=FOLDER] [LIBDIR=..] [INCLUDEDIR=..] [MANDIR=..]'
-	@echo '                                             installs the programs and that library'
-	@echo '  make uninstall                             removes them: with the same words'
+	@echo '  make c                                     proves, builds and tests the library for C'
+	@echo '  make install [PREFIX=FOLDER]               installs the programs and that library'
 	@echo '  make reference                             writes out/reference/index.html'
 	@echo 'For a change'
 	@echo '  make check NAME=CRATE                      proves one crate and those that it uses'
 	@echo '  make case                                  runs the cases alone'
 	@echo '  make wrong [NAME=CRATE]                    tries the wrong bodies of a crate'
-	@echo '  make bench [NAME=items|records|import|files|peers|c] [WORDS=..]  runs the benchmarks'
+	@echo '  make bench [NAME=items|records|import|files|peers] [WORDS=..]  runs the benchmarks'
 	@echo '  make test                                  the gate: all proofs and all tests'
 
 show:
@@ -36,16 +34,10 @@ prove:
 	@python3 tools/prove.py
 
 c:
-	@python3 tools/c.py $(WORDS)
+	@python3 tools/c.py
 
-install uninstall: export LIBDIR := $(value LIBDIR)
-install uninstall: export INCLUDEDIR := $(value INCLUDEDIR)
-install uninstall: export MANDIR := $(value MANDIR)
 install:
 	@python3 tools/install.py
-
-uninstall:
-	@python3 tools/install.py uninstall
 
 reference:
 	@python3 tools/reference.py
@@ -80,4 +72,4 @@ test:
 wrong:
 	@tools/wrong.sh $(NAME)
 
-.PHONY: help show prove c install uninstall reference check case bench test wrong
+.PHONY: help show prove c install reference check case bench test wrong

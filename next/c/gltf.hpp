@@ -5,7 +5,7 @@
 //     for (std::size_t i = 0; i < file.count(GLTF_MESHES); i++)
 //         use(file.name(GLTF_MESHES, i), file.mesh(i).primitives);
 //
-// Only gltf.h is proved. What the calls do is said there.
+// What the calls do is said in gltf.h.
 #ifndef GLTF_HPP
 #define GLTF_HPP
 
