@@ -1,0 +1,290 @@
+// gltf.hpp: gltf.h for C++11 and later. A file closes itself, what fails is an exception, records
+// are returned by value, and items are vectors or stay where they are.
+//
+//     gltf::file file(bytes.data(), bytes.size());
+//     for (std::size_t i = 0; i < file.count(GLTF_MESHES); i++)
+//         use(file.name(GLTF_MESHES, i), file.mesh(i).primitives);
+//
+// What the calls do is said in gltf.h.
+#ifndef GLTF_HPP
+#define GLTF_HPP
+
+#include "gltf.h"
+
+#include <cstddef>
+#include <cstring>
+#include <new>
+#include <stdexcept>
+#include <string>
+#include <utility>
+#include <vector>
+
+namespace gltf {
+
+// A file that is refused, or a call that failed. `what()` is the fault's text.
+class error : public std::runtime_error {
+public:
+    explicit error(const gltf_fault &why)
+        : std::runtime_error(why.text), fault(why)
+    {
+    }
+    gltf_fault fault;
+};
+
+// Throws where a status is not GLTF_SUCCESS: std::bad_alloc for GLTF_NO_MEMORY, else an error.
+inline void check(gltf_status status)
+{
+    if (status == GLTF_NO_MEMORY)
+        throw std::bad_alloc();
+    if (status == GLTF_SUCCESS)
+        return;
+    gltf_fault fault;
+    std::memset(&fault, 0, sizeof fault);
+    fault.status = status;
+    fault.buffer = GLTF_NONE;
+    std::string text = "gltf: a call returned status " + std::to_string(status);
+    text.copy(fault.text, sizeof fault.text - 1);
+    throw error(fault);
+}
+
+// The component type of a number of C++.
+template <class T> struct component;
+template <> struct component<signed char> { enum { type = GLTF_I8 }; };
+template <> struct component<unsigned char> { enum { type = GLTF_U8 }; };
+template <> struct component<short> { enum { type = GLTF_I16 }; };
+template <> struct component<unsigned short> { enum { type = GLTF_U16 }; };
+template <> struct component<unsigned int> { enum { type = GLTF_U32 }; };
+template <> struct component<float> { enum { type = GLTF_F32 }; };
+
+// The items of an accessor where they are in the file, of N numbers each. It is valid until the
+// file is closed, and empty where the items have to be copied.
+template <class T, std::size_t N> class view {
+public:
+    struct item {
+        T of[N];
+    };
+    view(const unsigned char *data, std::size_t count, std::size_t stride)
+        : data_(data), count_(data == nullptr ? 0 : count), stride_(stride)
+    {
+    }
+    std::size_t size() const { return count_; }
+    bool empty() const { return count_ == 0; }
+    // A copy of an item, which need not be aligned in the file.
+    item operator[](std::size_t index) const
+    {
+        item out;
+        std::memcpy(out.of, data_ + index * stride_, sizeof out.of);
+        return out;
+    }
+
+private:
+    const unsigned char *data_;
+    std::size_t count_, stride_;
+};
+
+// An open file. Many threads may call the const members of one file at the same time.
+class file {
+public:
+    // Opens a file, of which the bytes are copied.
+    file(const void *bytes, std::size_t size, const gltf_open_options *options = nullptr)
+        : file_(nullptr)
+    {
+        gltf_fault fault;
+        if (gltf_open(bytes, size, options, &file_, &fault) != GLTF_SUCCESS)
+            throw error(fault);
+    }
+    // Takes over a file, as one of gltf_load.
+    explicit file(gltf_file *opened) : file_(opened) {}
+    file(file &&other) noexcept : file_(other.file_) { other.file_ = nullptr; }
+    file &operator=(file &&other) noexcept
+    {
+        std::swap(file_, other.file_);
+        return *this;
+    }
+    file(const file &) = delete;
+    file &operator=(const file &) = delete;
+    ~file() { gltf_close(file_); }
+
+    // For the calls of gltf.h.
+    const gltf_file *get() const { return file_; }
+
+    // Supplies the bytes of a buffer that waits.
+    void give(std::size_t buffer, const void *bytes, std::size_t size)
+    {
+        check(gltf_give(file_, buffer, bytes, size));
+    }
+
+    std::size_t count(unsigned int kind) const { return gltf_count(file_, kind); }
+
+#define GLTF_RECORD(kind) \
+    gltf_##kind kind(std::size_t index) const \
+    { \
+        gltf_##kind out; \
+        check(gltf_##kind##_info(file_, index, &out)); \
+        return out; \
+    }
+#define GLTF_PART(kind, whole) \
+    gltf_##kind kind(std::size_t whole, std::size_t index) const \
+    { \
+        gltf_##kind out; \
+        check(gltf_##kind##_info(file_, whole, index, &out)); \
+        return out; \
+    }
+    GLTF_RECORD(buffer)
+    GLTF_RECORD(buffer_view)
+    GLTF_RECORD(accessor)
+    GLTF_RECORD(mesh)
+    GLTF_PART(primitive, mesh)
+    GLTF_RECORD(material)
+    GLTF_RECORD(sampler)
+    GLTF_RECORD(texture)
+    GLTF_RECORD(image)
+    GLTF_RECORD(scene)
+    GLTF_RECORD(node)
+    GLTF_RECORD(skin)
+    GLTF_RECORD(animation)
+    GLTF_PART(channel, animation)
+    GLTF_RECORD(camera)
+    GLTF_RECORD(light)
+#undef GLTF_RECORD
+#undef GLTF_PART
+
+    // The accessor of an attribute of a primitive, or of a morph target of it, or GLTF_NONE.
+    std::size_t attribute(std::size_t mesh, std::size_t primitive, unsigned int meaning,
+                          unsigned int set = 0, std::size_t target = GLTF_NONE) const
+    {
+        std::size_t out = GLTF_NONE;
+        check_found(gltf_attribute_find(file_, mesh, primitive, target, meaning, set, &out));
+        return out;
+    }
+
+    // The scene to show at first; GLTF_NONE if the file names none.
+    std::size_t default_scene() const
+    {
+        std::size_t out = GLTF_NONE;
+        check_found(gltf_default_scene(file_, &out));
+        return out;
+    }
+
+    // The name of a record; empty if it has none.
+    std::string name(unsigned int kind, std::size_t index) const
+    {
+        return text_of([&](char *text, std::size_t room, std::size_t *length) {
+            return gltf_name(file_, kind, index, text, room, length);
+        });
+    }
+
+    // Another text of a record; empty if it has none.
+    std::string text(unsigned int what, std::size_t index) const
+    {
+        return text_of([&](char *text, std::size_t room, std::size_t *length) {
+            return gltf_text(file_, what, index, text, room, length);
+        });
+    }
+
+    // The JSON text of the extras of a record; empty if it has none.
+    std::string extras(unsigned int kind, std::size_t index, std::size_t part = 0) const
+    {
+        return text_of([&](char *text, std::size_t room, std::size_t *length) {
+            return gltf_json(file_, kind, index, part, nullptr, 0, text, room, length);
+        });
+    }
+
+    // The JSON text of an extension of a record; empty if it has none.
+    std::string extension(unsigned int kind, std::size_t index, const std::string &name,
+                          std::size_t part = 0) const
+    {
+        return text_of([&](char *text, std::size_t room, std::size_t *length) {
+            return gltf_json(file_, kind, index, part, name.data(), name.size(), text, room,
+                             length);
+        });
+    }
+
+    std::vector<std::size_t> list(unsigned int what, std::size_t index) const
+    {
+        std::size_t count = 0;
+        check(gltf_list(file_, what, index, nullptr, 0, &count));
+        std::vector<std::size_t> out(count);
+        check(gltf_list(file_, what, index, out.data(), count, &count));
+        return out;
+    }
+
+    std::vector<double> numbers(unsigned int what, std::size_t index) const
+    {
+        std::size_t count = 0;
+        check(gltf_numbers(file_, what, index, nullptr, 0, &count));
+        std::vector<double> out(count);
+        check(gltf_numbers(file_, what, index, out.data(), count, &count));
+        return out;
+    }
+
+    // All items of an accessor, as the N numbers of the first, those of the second, and so on. It
+    // fails with GLTF_OTHER_TYPE if they are other numbers.
+    template <class T, std::size_t N> std::vector<T> items(std::size_t index) const
+    {
+        gltf_accessor it = typed<T, N>(index);
+        std::vector<T> out(readable(it) * N);
+        check(gltf_accessor_read(file_, index, out.data(), out.size() * sizeof(T)));
+        return out;
+    }
+
+    // The items of an accessor in place; empty if they have to be copied. It fails likewise.
+    template <class T, std::size_t N> view<T, N> in_place(std::size_t index) const
+    {
+        gltf_accessor it = typed<T, N>(index);
+        return view<T, N>(it.data, it.count, it.stride);
+    }
+
+    // All components of an accessor of whole numbers without a sign.
+    std::vector<unsigned int> indices(std::size_t index) const
+    {
+        gltf_accessor it = accessor(index);
+        std::vector<unsigned int> out(readable(it) * it.components);
+        check(gltf_accessor_read_u32(file_, index, out.data(), out.size()));
+        return out;
+    }
+
+private:
+    // Throws where a call failed, but not where there is just nothing.
+    static void check_found(gltf_status status)
+    {
+        if (status != GLTF_NO_SUCH_INDEX)
+            check(status);
+    }
+
+    template <class Call> static std::string text_of(Call call)
+    {
+        std::size_t length = 0;
+        gltf_status status = call(nullptr, 0, &length);
+        if (status == GLTF_NO_SUCH_INDEX)
+            return std::string();
+        check(status);
+        std::string out(length + 1, '\0');
+        check(call(&out[0], out.size(), &length));
+        out.resize(length);
+        return out;
+    }
+
+    template <class T, std::size_t N> gltf_accessor typed(std::size_t index) const
+    {
+        gltf_accessor it = accessor(index);
+        if (it.component_type != static_cast<unsigned int>(component<T>::type)
+            || it.components != N)
+            check(GLTF_OTHER_TYPE);
+        return it;
+    }
+
+    // The number of items to make room for. A file may state any number, and one that is sparse and
+    // has no view need not have as many bytes.
+    static std::size_t readable(const gltf_accessor &it)
+    {
+        if (it.count > static_cast<std::size_t>(-1) / (16 * it.item_size))
+            throw std::bad_alloc();
+        return it.count;
+    }
+
+    gltf_file *file_;
+};
+
+} // namespace gltf
+#endif

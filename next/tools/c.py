@@ -1,0 +1,110 @@
+#!/usr/bin/env python3
+"""Builds the library for C and tries it: `make c`, and, after `rt ci`, `make test`.
+
+The prover proves `crates/gltf_c` before a byte of it is built: the exports, over the calls in
+`crates/gltf_calls`. `out/c/libgltf.a` is that library, the few lines of C in `c/gltf_shim.c` and
+those of the toolchain over malloc, joined, and shows the calls of `c/gltf.h` alone.
+`out/c/libgltf.so` is the same as a shared library.
+
+With the word `after-ci` it uses the libraries as `rt ci` left them, and proves only the exports
+again. With `--long` the tests take more files and more turns, some forty minutes.
+
+A test whose tool is not there is reported as not tried, and counts neither as passed nor as failed.
+The last line is `N passed, M failed`."""
+import os
+import pathlib
+import subprocess
+import sys
+
+sys.dont_write_bytecode = True
+
+import c_code
+import crates
+
+CRATE = crates.TOP / "crates" / "gltf_c"
+C = c_code.C
+OUT = crates.TOP / "out" / "c"
+LIBRARY = OUT / "libgltf.a"
+SHARED = OUT / "libgltf.so"
+# What the shim is compiled by, and with which warnings.
+SHIM = ["-std=c89", "-O2", "-fPIC", "-fvisibility=default", "-Wall", "-Wextra", "-Wconversion",
+        "-pedantic", "-Werror"]
+
+
+def ran(*words, **how):
+    """What a command writes; it has to end with 0."""
+    how = {"check": True, "text": True, "stdout": subprocess.PIPE, **how}
+    return subprocess.run([os.fspath(word) for word in words], **how).stdout
+
+
+def kit():
+    return pathlib.Path(ran("rt", "doc").strip()).parent
+
+
+def build(after_ci):
+    """The archive of the crate."""
+    archive = CRATE / "out" / "libgltf_c.a"
+    if not after_ci:
+        subprocess.run(["rt", "lib"], cwd=CRATE, check=True)
+        return archive
+    listed, top = crates.listed(), crates.TOP / "crates"
+    of_kit = ["std", *(name for name in listed["gltf_c"] if name not in listed)]
+    words = ["--crate-name", "gltf_c", "src/lib.rt", "-L", f"dependency={kit()}/rlibs"]
+    for name in dict.fromkeys(of_kit):
+        words += ["--extern", f"{name}={kit()}/rlibs/{name}.rlib"]
+    for name in listed["gltf_c"]:
+        if name in listed:
+            words += ["--extern", f"{name}={top}/{name}/out/rlib/{name}.rlib"]
+    for name in crates.below("gltf_c")[:-1]:
+        words += ["-L", f"dependency={top}/{name}/out/rlib"]
+    words += ["--antt-project", f"{kit()}/rattle/logic/antt-project.json"]
+    words += ["--logic-built", f"{kit()}/logic_built", "--jobs", "2", "--links", "gltf_c="]
+    words += ["--crate-type", "staticlib", "--toolchain", f"{kit()}/toolchain"]
+    (CRATE / "out").mkdir(exist_ok=True)
+    words += ["--backend", "llvm", "-o", archive]
+    ran(f"{kit()}/bin/rattle", "build", *words, cwd=CRATE)
+    return archive
+
+
+def join(archive):
+    """One archive that shows the calls of the header alone."""
+    OUT.mkdir(parents=True, exist_ok=True)
+    shim, joined = OUT / "gltf_shim.o", OUT / "gltf.o"
+    ran("cc", *SHIM, "-c", C / "gltf_shim.c", "-o", shim)
+    ran("ld", "-r", "-o", joined, "--whole-archive", archive, f"{kit()}/c/liblibc_c.a",
+        "--no-whole-archive", shim)
+    ran("objcopy", *(f"--keep-global-symbol={name}" for name in c_code.calls()), joined)
+    LIBRARY.unlink(missing_ok=True)
+    ran("ar", "rcs", LIBRARY, joined)
+
+
+def share():
+    """The shared library. Its soname has the major version alone: a library with the same soname
+    has all that the former one had."""
+    version = c_code.version()
+    major = version.partition(".")[0]
+    names = "\n".join(f"    {name};" for name in c_code.calls())
+    script = OUT / "libgltf.map"
+    script.write_text(f"GLTF_{major} {{\n  global:\n{names}\n  local:\n    *;\n}};\n")
+    for old in OUT.glob("libgltf.so*"):
+        old.unlink()
+    file = OUT / f"libgltf.so.{version}"
+    ran("cc", "-shared", "-nostartfiles", OUT / "gltf.o", f"-Wl,-soname,libgltf.so.{major}",
+        f"-Wl,--version-script={script}", "-Wl,-z,defs,-z,relro,-z,now,-z,noexecstack",
+        "-Wl,--hash-style=gnu", "-Wl,--build-id", "-o", file)
+    (OUT / f"libgltf.so.{major}").symlink_to(file.name)
+    SHARED.symlink_to(f"libgltf.so.{major}")
+
+
+def main():
+    import c_tests
+
+    join(build("after-ci" in sys.argv[1:]))
+    share()
+    results = c_tests.results("--long" in sys.argv[1:])
+    print(f"{results.count(True)} passed, {results.count(False)} failed")
+    return 1 if False in results else 0
+
+
+if __name__ == "__main__":
+    sys.exit(main())

@@ -1,0 +1,449 @@
+"""The tests of the library for C."""
+import ctypes
+import os
+import pathlib
+import re
+import resource
+import shutil
+import subprocess
+import sys
+import tempfile
+
+import c
+import c_code
+import c_install
+import crates
+import programs
+from c import C, LIBRARY, OUT, SHARED, ran
+from c_code import same
+
+TESTS_OF_C = C / "tests"
+EXAMPLES = crates.TOP / "examples"
+BOX, TRIANGLE, DANGLING = (EXAMPLES / name for name in
+                           ("box.glb", "triangle.gltf", "dangling.gltf"))
+SQUARE = EXAMPLES / "two files" / "square.gltf"
+RIG, SURFACE = TESTS_OF_C / "rig.gltf", TESTS_OF_C / "surface.gltf"
+# What rich.py writes.
+RICH, RICH_GLB, VALID, PLAIN = (OUT / "files" / name for name in
+                                ("rich.gltf", "rich.glb", "valid.glb", "plain.gltf"))
+FINE = [BOX, TRIANGLE, SQUARE, RIG, SURFACE, RICH, RICH_GLB, VALID, PLAIN]
+MESSAGE = programs.DANGLING.rstrip("\n")
+SHOWN = "24 points, the first 0.5 -0.5 -0.5\n"
+STRICT = ["-Wall", "-Wextra", "-Wconversion", "-pedantic", "-Werror", "-O2"]
+# The compilers, each with the languages that the headers are tried in.
+LANGUAGES = {"gcc": ("c89", "c99", "c11"), "g++": ("c++98", "c++17"),
+             "clang": ("c89", "c99", "c11"), "clang++": ("c++98", "c++17")}
+# With --long: how many mutated copies of each file are tried by the sanitizers and by valgrind, and
+# how often each of four threads reads a file under helgrind and drd. And the same without.
+LONG, SHORT = (17_000, 170, 3_000), (2_000, 30, 40)
+
+
+class Lacking(Exception):
+    """A tool or a source that is not there."""
+
+
+def need(tool):
+    if not shutil.which(tool):
+        raise Lacking(f"there is no {tool}")
+
+
+def is_cpp(language):
+    return language.startswith("c++")
+
+
+def compiled(source, program, *more, by="cc", language="c89", library=LIBRARY):
+    """A program of a file of C or C++."""
+    words = ["-x", "c++"] if is_cpp(language) else ["-x", "c"]
+    ran(by, *STRICT, f"-std={language}", *words, f"-I{C}", source, "-x", "none", *more, library,
+        "-o", program)
+    return program
+
+
+def built(name, *more, to=None, language="c99"):
+    """A program of `c/tests`."""
+    return compiled(TESTS_OF_C / f"{name}.c", OUT / (to or name), *more, language=language)
+
+
+# ---- What the library shows, and what the header says.
+
+def shows_its_calls_alone():
+    shown = {line.split()[-1] for line in ran("nm", "-g", "--defined-only", LIBRARY).splitlines()
+             if len(line.split()) == 3}
+    same(shown, set(c_code.calls()))
+
+
+def shared_library_shows_its_calls_alone():
+    shown = {line.split()[-1].partition("@")[0] for line in
+             ran("nm", "-D", "--defined-only", SHARED).splitlines() if " T " in line}
+    same(shown, set(c_code.calls()))
+
+
+def shared_library_is_plain():
+    """Its soname; it needs the C library alone; no code at its start, no relocations of text, no
+    memory of threads; all is bound at the start and read-only then, and no stack is code."""
+    about, parts = ran("readelf", "-dW", SHARED), ran("readelf", "-lW", SHARED)
+    same(re.findall(r"\((SONAME|NEEDED)\).*\[(.*)\]", about),
+         [("NEEDED", "libc.so.6"),
+          ("SONAME", f"libgltf.so.{c_code.version().partition('.')[0]}")])
+    for word in ("TEXTREL", "(INIT)", "INIT_ARRAY", "(FINI)", "FINI_ARRAY", "RPATH", "RUNPATH"):
+        assert word not in about, word
+    assert re.search(r"\(FLAGS(_1)?\).*NOW", about) and "GNU_RELRO" in parts
+    assert re.search(r"GNU_STACK.* RW ", parts) and " TLS " not in parts
+    assert " RWE " not in parts
+
+
+def header_says_what_the_code_has():
+    """The header and the code have the same calls, structs, members and enumerators, of the same
+    types and numbers, and each struct lies in memory alike."""
+    c_code.check_names()
+    file = OUT / "header.c"
+    file.write_text(c_code.check_file())
+    ran("cc", "-std=c11", "-Wall", "-Werror", "-Wno-address", f"-I{C}", "-fsyntax-only", file)
+
+
+def headers_compile_by(compiler):
+    need(compiler)
+    for language in LANGUAGES[compiler]:
+        for header in ("gltf.h", "gltf_load.h", "gltf.hpp"):
+            if header == "gltf.hpp" and language != "c++17":
+                continue
+            file = OUT / f"header.{'cpp' if is_cpp(language) else 'c'}"
+            file.write_text(f'#define GLTF_LOAD_IMPLEMENTATION\n#include "{header}"\n'
+                            f'#include "{header}"\n')
+            ran(compiler, *STRICT, f"-std={language}", f"-I{C}", "-fsyntax-only", file)
+
+
+def shows_by(compiler):
+    need(compiler)
+    for language in LANGUAGES[compiler]:
+        program = compiled(C / "show.c", OUT / f"show_{compiler}", by=compiler, language=language)
+        same(ran(program, BOX), SHOWN)
+
+
+def pages_name_all_calls():
+    for page in (crates.TOP / "docs" / "C.md", C / "install" / "gltf.3"):
+        words = set(re.findall(r"gltf_\w+", page.read_text("utf-8")))
+        same(set(c_code.calls()) - words, set())
+
+
+def page_shows_code_that_is_tried():
+    """The code of the page is in the examples, and these do what the page says."""
+    code = "".join((C / name).read_text("utf-8") for name in ("show.c", "draw.c"))
+    page = (crates.TOP / "docs" / "C.md").read_text("utf-8")
+    for block in re.findall(r"```c\n(.*?)```", page, re.DOTALL):
+        assert block in code, block
+    program = compiled(C / "draw.c", OUT / "draw")
+    for file, wanted in {BOX: 12, TRIANGLE: 2, SQUARE: 2, VALID: 3}.items():
+        same(ran(program, file).count("<path"), wanted)
+
+
+# ---- What it reads.
+
+def lists_every_member():
+    program = built("list", language="c89")
+    for file in FINE:
+        printed = OUT / "printed"
+        printed.write_text(ran(program, file))
+        where = ran(sys.executable, TESTS_OF_C / "expected.py", printed, file, check=False)
+        assert not where, f"{file}:\n{where}"
+    same(ran(program, DANGLING).splitlines(), [
+        "fault status: 4", "fault rules: 2", "fault buffer: none", "fault expected: 0",
+        "fault actual: 0", "fault path: /nodes/0/mesh", f"fault text: {MESSAGE}"])
+
+
+def lists_by(compiler):
+    """The wrapper for C++."""
+    need(compiler)
+    program = OUT / "list_cpp"
+    wanted = ("points: 24, in place 24, last 1\nindices: 36\n"
+              "node `Box`: 0 children, 0 weights, extras \n"
+              "scene 0, version 2.0, no buffer ``\n12 : gltf: a call returned status 12\n"
+              f"4 /nodes/0/mesh: {MESSAGE}\n")
+    for language in ("c++11", "c++17", "c++20"):
+        compiled(TESTS_OF_C / "list.cpp", program, by=compiler, language=language)
+        same(ran(program, BOX, DANGLING), wanted)
+
+
+# URIs of a buffer of eight bytes in below/file.gltf, with what gltf_load gives of them.
+BESIDE, BELOW, ABOVE = "beside i", "below it", "above it"
+OUTSIDE = "cannot get the bytes of `{}`: it is not in the folder of the file or below"
+MISSING = "cannot get the bytes of `{}`: No such file or directory"
+LOADED = {
+    "a b.bin": BESIDE, "a%20b.bin": BESIDE, "./a b.bin": BESIDE, "dir/c..d": BELOW,
+    "d%C3%ADr/%63": BELOW, "dir/../a b.bin": (8, OUTSIDE), "../up.bin": (8, OUTSIDE),
+    "%2e%2E/up.bin": (8, OUTSIDE), "..%2Fup.bin": (8, OUTSIDE), "..": (8, OUTSIDE),
+    "{room}/up.bin": (8, OUTSIDE), "%2Fetc/passwd": (8, OUTSIDE),
+    "file:a%20b.bin": (8, OUTSIDE), "file:///etc/passwd": (8, OUTSIDE),
+    "a%00b": (8, OUTSIDE), "a%3Ab": (8, OUTSIDE), "none": (10, MISSING), "%zz%4": (10, MISSING),
+    "short": (6, "`{}` has fewer bytes than the buffer"),
+}
+LOADED_ANYWHERE = {
+    "a%20b.bin": BESIDE, "../up.bin": ABOVE, "%2e%2e/up.bin": ABOVE, "{room}/up.bin": ABOVE,
+    "file://{room}/up.bin": ABOVE, "file:a%20b.bin": BESIDE, "none": (10, MISSING),
+    "a%00b": (8, "cannot get the bytes of `{}`: no file name"),
+}
+RESOLVED = {"known": "from a r", "unknown": (13, "cannot get the bytes of `{}`")}
+
+
+def loads_files():
+    program = built("load", language="c89")
+    with tempfile.TemporaryDirectory() as name:
+        room = pathlib.Path(name)
+        for path, contents in {"up.bin": "above it", "below/a b.bin": "beside it",
+                               "below/dir/c..d": "below it", "below/d\u00edr/c": "below it",
+                               "below/short": "short"}.items():
+            (room / path).parent.mkdir(parents=True, exist_ok=True)
+            (room / path).write_text(contents)
+        tables = ((), LOADED), (("anywhere",), LOADED_ANYWHERE), (("resolver",), RESOLVED)
+        for word, table in tables:
+            for uri, wanted in table.items():
+                uri = uri.replace("{room}", name)
+                file = room / "below" / "file.gltf"
+                file.write_text('{"asset":{"version":"2.0"},"buffers":[{"byteLength":8,"uri":"'
+                                f'{uri}"}}]}}')
+                if not isinstance(wanted, str):
+                    sizes = "(5 of 8)" if wanted[0] == 6 else "(0 of 0)"
+                    wanted = f"{wanted[0]} /buffers/0/uri: {wanted[1].format(uri)} {sizes}"
+                same(ran(program, file, *word), wanted + "\n")
+        same(ran(program, room / "none"),
+             "10 : cannot read the file: No such file or directory (0 of 0)\n")
+
+
+def is_read_by_ctypes():
+    """The shared library, by Python's own means."""
+    library = ctypes.CDLL(os.fspath(SHARED))
+    library.gltf_count.restype = ctypes.c_size_t
+    data, file, fault = BOX.read_bytes(), ctypes.c_void_p(), ctypes.create_string_buffer(1024)
+    status = library.gltf_open(data, ctypes.c_size_t(len(data)), None, ctypes.byref(file), fault)
+    same((status, library.gltf_count(file, 2)), (0, 4))
+    length, room = ctypes.c_size_t(), ctypes.create_string_buffer(8)
+    status = library.gltf_name(file, 4, ctypes.c_size_t(0), room, ctypes.c_size_t(8),
+                               ctypes.byref(length))
+    same((status, room.value, length.value), (0, b"Box", 3))
+    library.gltf_close(file)
+    same(f"{library.gltf_version()}", str(int("".join(
+        f"{int(part):02}" for part in c_code.version().split(".")))))
+
+
+def links_from_rust():
+    need("rustc")
+    program = OUT / "main"
+    ran("rustc", "-O", TESTS_OF_C / "main.rs", "-o", program, f"-Clink-arg={LIBRARY}")
+    same(ran(program, BOX), "4 accessors\n")
+
+
+# ---- What a caller may do.
+
+def closed_files_are_defined():
+    program = built("nothing")
+    ran(program, BOX)
+    need("valgrind")
+    ran("valgrind", "-q", "--leak-check=full", "--error-exitcode=9", program, BOX)
+
+
+def stack():
+    """How many KiB of stack the header asks for."""
+    return int(re.search(r"give a thread (\d+) KiB", (C / "gltf.h").read_text("utf-8"))[1])
+
+
+def is_enough(program, file, kib):
+    """Whether a program reads a file with a stack of so many KiB."""
+    limit = (kib * 1024, kib * 1024)
+    how = {"preexec_fn": lambda: resource.setrlimit(resource.RLIMIT_STACK, limit)}
+    return subprocess.run([program, file], stdout=subprocess.DEVNULL, **how).returncode == 0
+
+
+def a_stack_has_a_quarter_to_spare():
+    levels, rules = "[" * 125 + "]" * 125, ",".join(['{"mesh":3}'] * 200_000)
+    texts = {"deep": f'"extras":{levels}', "broken": f'"nodes":[{rules}]'}
+    for name, member in texts.items():
+        (OUT / f"{name}.gltf").write_text(f'{{"asset":{{"version":"2.0"}},{member}}}')
+    files = [*FINE, DANGLING, *(OUT / f"{name}.gltf" for name in texts)]
+    program, most = built("list", language="c89"), stack() * 3 // 4
+    for file in files:
+        enough = (kib for kib in range(64, most + 1, 16) if is_enough(program, file, kib))
+        least = next(enough, None)
+        assert least, f"{file} takes more than {most} KiB of stack"
+        print(f"{file.name}: {least} KiB of stack")
+
+
+def readers():
+    return built("readers", "-pthread", f"-DSTACK={stack() * 1024}")
+
+
+def threads_read_one_file():
+    for file in (BOX, RIG, RICH):
+        ran(readers(), "3000" if file != RICH else "300", file)
+
+
+def sees_no_race(tool, turns):
+    need("valgrind")
+    for file in (BOX, RICH) if turns < LONG[2] else (BOX, RIG):
+        ran("valgrind", "-q", f"--tool={tool}", "--error-exitcode=9", readers(),
+            str(turns if file != RICH else 1), file)
+
+
+def mutated_files_break_nothing(times):
+    # A finding ends the program, also one of undefined behaviour.
+    program = built("mutate", "-g", "-fsanitize=address,undefined", "-fno-sanitize-recover=all")
+    print(ran(program, str(times), BOX, TRIANGLE, DANGLING, RIG, RICH, RICH_GLB), end="")
+
+
+def valgrind_sees_no_error(times):
+    need("valgrind")
+    program = built("mutate", to="mutate_by_valgrind")
+    ran("valgrind", "-q", "--leak-check=full", "--error-exitcode=9", program, str(times), BOX,
+        TRIANGLE, DANGLING, RIG, RICH, RICH_GLB)
+
+
+def each_growth_is_refused_in_turn(is_long):
+    wraps = ",".join(f"--wrap={name}" for name in ("malloc", "realloc", "free"))
+    program = built("failing", f"-Wl,{wraps}")
+    for file in (BOX, TRIANGLE, DANGLING, RIG, SURFACE, *([RICH] if is_long else [])):
+        print(ran(program, file), end="")
+
+
+# ---- A program that was written for cgltf.
+
+def meshoptimizer():
+    """The folder of the source of gltfpack 0.18, with cgltf 1.12."""
+    folder = os.environ.get("MESHOPTIMIZER", "")
+    if not (pathlib.Path(folder) / "gltf" / "gltfpack.cpp").is_file():
+        raise Lacking("MESHOPTIMIZER=FOLDER names no source of gltfpack: "
+                      "apt-get source meshoptimizer")
+    return pathlib.Path(folder)
+
+
+def gltfpack_writes_the_same():
+    """gltfpack over cgltf and over the adapter writes the same bytes."""
+    source, room = meshoptimizer(), OUT / "gltfpack"
+    room.mkdir(exist_ok=True)
+    (room / "obj.c").write_text('#define FAST_OBJ_IMPLEMENTATION\n#include "fast_obj.h"\n')
+    flags = ["-O1", "-w", f"-I{source}/extern", f"-I{C}", "-c"]
+    ran("g++", "-std=c++17", "-x", "c++", *flags, C / "cgltf_over_gltf.c", "-o", room / "cpp.o")
+    for file in (room / "obj.c", C / "cgltf_over_gltf.c", TESTS_OF_C / "cgltf_sorted.c"):
+        ran("cc", *flags, file, "-o", room / f"{file.stem}.o")
+    parts = [room / "obj.o"]
+    for file in (*source.glob("gltf/*.cpp"), *source.glob("src/*.cpp")):
+        parts.append(room / f"p_{file.stem}.o")
+        ran("g++", *flags, file, "-o", parts[-1])
+    ran("g++", room / "cgltf_sorted.o", *parts, "-lpthread", "-o", room / "over_cgltf")
+    ran("g++", room / "cgltf_over_gltf.o", *parts, LIBRARY, "-lpthread", "-o", room / "over_gltf")
+    packed = room / "packed.glb"
+    ran(room / "over_cgltf", "-i", BOX, "-o", packed)
+    for file in (BOX, TRIANGLE, SQUARE, RIG, VALID, PLAIN, packed):
+        written = []
+        for program in ("over_cgltf", "over_gltf"):
+            to = room / f"by_{program}.glb"
+            ran(room / program, "-i", file, "-o", to, "-ke", "-kn", "-km",
+                stderr=subprocess.DEVNULL)
+            written.append(to.read_bytes())
+        assert written[0] == written[1], f"{file}: {room}/by_over_gltf.glb differs"
+        print(f"{file.name}: the same {len(written[0])} bytes")
+    came = subprocess.run([room / "over_gltf", "-i", DANGLING, "-o", room / "none.glb"],
+                          stderr=subprocess.PIPE, text=True)
+    same((came.returncode, came.stderr), (2, f"Error loading {DANGLING}: invalid GLTF\n"))
+
+
+# ---- As it is installed.
+
+def is_found_by(tool):
+    """A program is built against the installed files, as this tool finds them, by the shared and by
+    the static library."""
+    need(tool)
+    with tempfile.TemporaryDirectory() as name:
+        room = pathlib.Path(name)
+        c_install.install(f"{room}/usr", {"LIBDIR": f"{room}/usr/lib/x86_64-linux-gnu"})
+        for file in ("show.c", "contents.h"):
+            shutil.copy(C / file, room)
+        by_cmake(room) if tool == "cmake" else by_pkg_config(room)
+
+
+def by_pkg_config(room):
+    where = {**os.environ, "PKG_CONFIG_PATH": f"{room}/usr/lib/x86_64-linux-gnu/pkgconfig"}
+    same(ran("pkg-config", "--modversion", "gltf", env=where).strip(), c_code.version())
+    flags = ran("pkg-config", "--cflags", "--libs", "gltf", env=where).split()
+    ran("cc", room / "show.c", *flags, "-o", room / "show")
+    where["LD_LIBRARY_PATH"] = f"{room}/usr/lib/x86_64-linux-gnu"
+    same(ran(room / "show", BOX, env=where), SHOWN)
+
+
+def by_cmake(room):
+    targets = "".join(f"add_executable(by_{kind} show.c)\n"
+                      f"target_link_libraries(by_{kind} gltf::{kind})\n"
+                      for kind in ("gltf", "shared", "static"))
+    text = ("cmake_minimum_required(VERSION 3.10)\nproject(show C)\n"
+            "find_package(gltf {} REQUIRED)\n" + targets)
+    for version in ("3.0", "2.1", "1.9", "2.0.0", "2.0"):
+        (room / "CMakeLists.txt").write_text(text.format(version))
+        words = ["cmake", f"-DCMAKE_PREFIX_PATH={room}/usr", "-S", room,
+                 "-B", room / f"built{version}"]
+        is_wanted = version.startswith("2.0")
+        came = subprocess.run(words, stdout=subprocess.DEVNULL, stderr=subprocess.DEVNULL)
+        same(came.returncode == 0, is_wanted)
+    ran("cmake", "--build", room / "built2.0")
+    for kind in ("gltf", "shared", "static"):
+        same(ran(room / "built2.0" / f"by_{kind}", BOX), SHOWN)
+
+
+def leaves_nothing_when_uninstalled():
+    with tempfile.TemporaryDirectory() as name:
+        for environment in ({}, {"LIBDIR": "/usr/lib/x86_64-linux-gnu", "INCLUDEDIR": "/opt/inc",
+                                 "MANDIR": "/usr/man"}):
+            c_install.install("/usr", environment, name)
+            files = {path for path, _ in c_install.parts("/usr", environment)}
+            found = {"/" + os.path.relpath(os.path.join(folder, file), name)
+                     for folder, _, files in os.walk(name) for file in files}
+            same(found, files)
+            c_install.uninstall("/usr", environment, name)
+            same([files for _, _, files in os.walk(name) if files], [])
+
+
+def man_page_is_clean():
+    need("man")
+    page = C / "install" / "gltf.3"
+    came = subprocess.run(["man", "--warnings", "-E", "UTF-8", "-l", "-Tutf8", "-Z", page],
+                          stdout=subprocess.PIPE, stderr=subprocess.PIPE, text=True,
+                          env={**os.environ, "MANROFFSEQ": "", "LC_ALL": "C.UTF-8"})
+    same((came.returncode, came.stderr, len(came.stdout) > 4000), (0, "", True))
+
+
+def tests(is_long):
+    """Each test, with what it is given."""
+    mutated, by_valgrind, turns = LONG if is_long else SHORT
+    return (
+        [shows_its_calls_alone], [shared_library_shows_its_calls_alone],
+        [shared_library_is_plain], [header_says_what_the_code_has],
+        *([headers_compile_by, compiler] for compiler in LANGUAGES),
+        *([shows_by, compiler] for compiler in LANGUAGES),
+        [pages_name_all_calls], [page_shows_code_that_is_tried],
+        [lists_every_member], [lists_by, "g++"], [lists_by, "clang++"],
+        [loads_files], [is_read_by_ctypes], [links_from_rust], [closed_files_are_defined],
+        [a_stack_has_a_quarter_to_spare], [threads_read_one_file],
+        [sees_no_race, "helgrind", turns], [sees_no_race, "drd", turns],
+        [mutated_files_break_nothing, mutated], [valgrind_sees_no_error, by_valgrind],
+        [each_growth_is_refused_in_turn, is_long], [gltfpack_writes_the_same],
+        [is_found_by, "pkg-config"], [is_found_by, "cmake"], [leaves_nothing_when_uninstalled],
+        [man_page_is_clean],
+    )
+
+
+def holds(test, *given):
+    """Whether a test passes; None where it is not tried."""
+    name = " ".join([test.__name__.replace("_", " "), *map(str, given)])
+    try:
+        test(*given)
+    except Lacking as why:
+        print(f"c: {name}: not tried, since {why}")
+        return None
+    except (AssertionError, subprocess.CalledProcessError, KeyError, OSError) as why:
+        print(f"c: {name}: FAILED: {why}")
+        return False
+    print(f"c: {name}: ok")
+    return True
+
+
+def results(is_long):
+    (OUT / "files").mkdir(parents=True, exist_ok=True)
+    ran(sys.executable, TESTS_OF_C / "rich.py", OUT / "files")
+    return [holds(*row) for row in tests(is_long)]
