@@ -1,0 +1,7 @@
+//! What an open handle of the library for C holds: a document, and the bytes of its buffers, of
+//! which some may wait for bytes that other files have.
+#![tactic(auto)]
+
+pub mod file;
+pub mod given;
+pub mod names;
