@@ -2,3 +2,4 @@ pub mod Joins
 pub mod Parts
 pub mod Imported
 pub mod Loaded
+pub mod Refused

@@ -1,3 +1,4 @@
 pub mod Causes
 pub mod Bundle
 pub mod Laws
+pub mod Refusals

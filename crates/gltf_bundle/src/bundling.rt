@@ -1,7 +1,10 @@
 //! One container out of a file and the files that its buffers name.
-ghost use Rattle.std.specs.Prelude.{◌≡◌, IfOk, if◌then◌else◌};
+ghost use Rattle.std.specs.Prelude.{◌≡◌, IfOk, IfErr, if◌then◌else◌, length};
 ghost use Rattle.gltf_buffers.specs.Names.{names_of};
 ghost use Rattle.gltf_bundle.specs.Bundle.{IsBundle, IsJoined, IsAccepted, IsContainerOf};
+ghost use Rattle.gltf_bundle.specs.Refusals.{RefusesBundle, RefusesContainerOf};
+ghost use Rattle.gltf_edit.specs.Faults.{IsTooLong};
+ghost use Rattle.gltf_edit.specs.Joined.{joined};
 ghost use Rattle.gltf_glb.specs.Glb.{items_of};
 ghost use Rattle.gltf.specs.Shown.{blob_bytes, bytes_of_each};
 ghost use Rattle.serde_json.specs.View.{view};
@@ -27,11 +30,12 @@ use std::borrow::CowSlice;
 /// are dropped. An extension that is not known here and names buffers itself cannot be seen: its
 /// indices stay as they are.
 ///
-/// Answers [`BundleError::Import`] with the error of the import, or where there is not enough
-/// memory; [`BundleError::View`] with the first view that does not lie in the bytes of its buffer;
-/// [`BundleError::TooLong`] where the one buffer, and [`BundleError::Answer`] where the container
-/// would have more than 4294967295 bytes. The container is imported before it is answered:
-/// [`BundleError::Answer`] also says that it is refused, which is not expected of any file.
+/// Returns [`BundleError::Import`] with the error of the import, or where there is not enough
+/// memory. Each other error is of a file that is imported: [`BundleError::View`] with the first
+/// view that does not lie in the bytes of its buffer; [`BundleError::TooLong`] where the one buffer,
+/// and [`BundleError::Answer`] where the container would have more than 4294967295 bytes. The
+/// container is imported before it is returned: [`BundleError::Answer`] also says that it is
+/// refused, which is not expected of any file.
 pub fn bundle<S: NamedBytes>(
     alloc: Global,
     source: &mut S,
@@ -40,6 +44,8 @@ pub fn bundle<S: NamedBytes>(
     ensures bundle { IfOk result (λ answer. IsBundle (names_of (S.bytes_by_name source.old))
         path.now answer.items) }
     ensures accepted { IfOk result (λ answer. IsAccepted answer.items) }
+    ensures refused { IfErr result (RefusesBundle (names_of (S.bytes_by_name source.old)) path.now
+        (S.failures source.old) (S.failures source.new)) }
 {
     let Loaded { value, buffers } = load(alloc, source, path)?;
     let joined = join(alloc, &buffers)?;
@@ -48,6 +54,7 @@ pub fn bundle<S: NamedBytes>(
     let answer = container_of(alloc, &value, joined.blob)?;
     match import_slice(alloc, &answer) {
         Ok(_) => Ok(answer),
+        Err(Error::Memory) => Err(BundleError::Import(Error::Memory)),
         Err(error) => Err(BundleError::Answer(error)),
     }
 }
@@ -62,7 +69,8 @@ struct Joined {
 
 /// Joins the bytes of all buffers.
 fn join(alloc: Global, buffers: &[Data]) -> Result<Joined, Fault>
-    ensures { IfOk result (IsJoined (bytes_of_each buffers.now)) }
+    ensures joined { IfOk result (IsJoined (bytes_of_each buffers.now)) }
+    ensures refused { IfErr result (IsTooLong (length (joined (bytes_of_each buffers.now)))) }
 {
     let mut bytes = Vec::with_capacity(alloc, room_for(buffers))?;
     let mut spans = Vec::with_capacity(alloc, buffers.len())?;
@@ -92,8 +100,9 @@ fn room_for(buffers: &[Data]) -> usize {
 
 /// The value's text and the blob as a container.
 fn container_of(alloc: Global, value: &Value, blob: Option<Vec<u8>>) -> Result<Vec<u8>, BundleError>
-    ensures { IfOk result (λ answer. IsContainerOf (view value.now) (blob_bytes blob)
+    ensures written { IfOk result (λ answer. IsContainerOf (view value.now) (blob_bytes blob)
         answer.items) }
+    ensures refused { IfErr result (RefusesContainerOf (view value.now) (blob_bytes blob)) }
 {
     let written = value.to_string(alloc)?;
     let text = written.as_str();

@@ -1,7 +1,10 @@
 //! The value of a file's JSON, and the bytes of its buffers.
-ghost use Rattle.std.specs.Prelude.{IfOk};
+ghost use Rattle.std.specs.Prelude.{◌≡◌, IfOk, IfErr};
 ghost use Rattle.std.specs.Cow.{cow_slice_items};
 ghost use Rattle.gltf_bundle.specs.Bundle.{IsLoaded, IsValueOf};
+ghost use Rattle.gltf_bundle.specs.Refusals.{RefusesSource};
+ghost use Rattle.gltf_bundle.specs.declared.error.BundleError.TheVariants.{Import};
+ghost use Rattle.gltf_glb.specs.declared.error.Error.TheVariants.{Memory};
 ghost use Rattle.gltf.specs.Import.{AreParts};
 ghost use Rattle.gltf_glb.specs.Glb.{items_of};
 ghost use Rattle.gltf_buffers.specs.Names.{names_of};
@@ -33,7 +36,9 @@ pub(crate) fn load<S: NamedBytes>(
     source: &mut S,
     path: &str,
 ) -> Result<Loaded, BundleError>
-    ensures { IfOk result (IsLoaded (names_of (S.bytes_by_name source.old)) path.now) }
+    ensures loaded { IfOk result (IsLoaded (names_of (S.bytes_by_name source.old)) path.now) }
+    ensures refused { IfErr result (RefusesSource (names_of (S.bytes_by_name source.old)) path.now
+        (S.failures source.old) (S.failures source.new)) }
 {
     // A law that the proof stands on; the call does nothing.
     one_reading();
@@ -57,15 +62,15 @@ pub(crate) fn load<S: NamedBytes>(
 
 /// The value of the JSON text of a file.
 fn value_of(alloc: Global, bytes: &[u8]) -> Result<Value, BundleError>
-    ensures { IfOk result (λ v. IsValueOf bytes.now (view v)) }
+    ensures value { IfOk result (λ v. IsValueOf bytes.now (view v)) }
+    ensures memory { IfErr result (λ e. e ≡ Import Memory) }
 {
-    let glb = match glb_of(bytes) {
-        Ok(glb) => glb,
-        Err(error) => return Err(BundleError::Import(error)),
+    // The file was accepted, so it has a text, which is that of a value.
+    let Ok(glb) = glb_of(bytes) else {
+        return Err(BundleError::Import(Error::Memory));
     };
     match Value::from_slice(alloc, glb.json.as_slice()) {
         Ok(value) => Ok(value),
-        // The file was accepted, so its text is that of a value.
         Err(_) => Err(BundleError::Import(Error::Memory)),
     }
 }

@@ -2,8 +2,8 @@ use Rattle.std.proofs.Common.{ap, ◌∙◌}
 use Rattle.serde_json.specs.Read.{read}
 use Rattle.gltf_bundle.proofs.bundling.container_of.Goals as goal
 
-pub returns-in-Ok : goal.returns-in-Ok
-returns-in-Ok c =
+pub returns-in-Ok-clause-written : goal.returns-in-Ok-clause-written
+returns-in-Ok-clause-written c =
     let text = c.as_bytes.result.now in
     let whole = c.as_bytes.ensures.value ∙ c.as_str-text.ensures.value in
     let w = rw c.owned.ensures at c.in-Ok.ensures.written in

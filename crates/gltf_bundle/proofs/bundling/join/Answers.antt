@@ -3,6 +3,8 @@ use Rattle.std.proofs.lemmas.Grind.{common_steps}
 use Rattle.gltf_buffers.specs.declared.data.Data.{Data}
 use Rattle.gltf.specs.Shown.{bytes_of_each}
 use Rattle.gltf_bundle.proofs.Joins.{IsSoFar, start, each_more, go_on, the_blob}
+use Rattle.std.proofs.lemmas.Result.{err_from_is_err_and}
+use Rattle.gltf_bundle.proofs.Refused.{longer, with_one_more}
 use Rattle.gltf_bundle.proofs.bundling.join.Goals as goal
 
 pub loop-buffer-init : goal.loop-buffer-init
@@ -18,8 +20,8 @@ loop-buffer-preserved c =
     (go_on all c.buffer-item.result.0.items far.bytes.items c.append.new.bytes.items
     far.spans.items c.append.new.spans.items far.invariant made.bytes made.spans made.fits)
 
-pub returns : goal.returns
-returns c =
+pub returns-clause-joined : goal.returns-clause-joined
+returns-clause-joined c =
     let far = c.loop-buffer in
     let buffers = c.args.buffers.now in
     let all : take far.buffer-index buffers ≡ buffers = grind (arith, common_steps) in
@@ -32,3 +34,13 @@ returns c =
       total = long ∙ ap (λ (xs : List ℕ). length xs) whole.is_joined;
       fits = subst (λ (xs : List ℕ). length xs < 2 ^ 32) whole.is_joined whole.short;
     }
+
+pub returns-in_err-append-clause-refused : goal.returns-in_err-append-clause-refused
+returns-in_err-append-clause-refused c =
+    let far = c.loop-buffer in
+    let made = rw c.deref.ensures.value at c.in_err-append.ensures.refused in
+    let exit = c.from_residual-in_err-append in
+    let passed = err_from_is_err_and exit.result exit.ensures.1 in
+    rw (passed.1, passed.2) (longer _ _ c.in_err-append.field-0.0
+    (with_one_more c.args.buffers.now far.buffer-index c.buffer-item.result far.bytes.items
+    (omega arith) c.buffer-item.is far.invariant.is_joined) made)

@@ -1,0 +1,71 @@
+-- What the errors of a bundle say.
+use Rattle.std.specs.Prelude.{◌≡◌, ◌<◌, ◌≤◌, ◌^◌, ◌⊎◌, ℕ, List, length, Option}
+use Rattle.serde_json.specs.Data.{Data, depth}
+use Rattle.serde_json.specs.Read.{max_depth}
+use Rattle.gltf_edit.specs.Bundled.{bundled, ArePlaced}
+use Rattle.gltf_edit.specs.Faults.{NamesStray}
+use Rattle.gltf_edit.specs.Joined.{joined, spans_from}
+use Rattle.gltf_edit.specs.declared.fault.Fault.TheVariants.{Outside}
+use Rattle.gltf_json.specs.Reading.{Reads}
+use Rattle.gltf_json.specs.declared.root.Root.{Root}
+use Rattle.gltf_glb.specs.Written.{container_bytes, total_of}
+use Rattle.gltf_glb.specs.declared.error.Error.{Error}
+use Rattle.gltf_glb.specs.declared.error.Error.TheVariants.{Memory}
+use Rattle.gltf_names.specs.Named.{Named}
+use Rattle.gltf_buffers.specs.Names.{Names}
+use Rattle.gltf.specs.Errors.{OutOfMemoryOr}
+use Rattle.gltf.specs.Files.{RefusesFileAt}
+use Rattle.gltf.specs.Import.{RefusesImport}
+use Rattle.gltf_bundle.specs.Bundle.{IsSource, blob_of}
+use Rattle.gltf_bundle.specs.declared.error.BundleError.{BundleError}
+use Rattle.gltf_bundle.specs.declared.error.BundleError.TheVariants as bundle
+
+-- the error of the import of the file at the path, or out of memory
+abbrev pub RefusesSource : Names → List ℕ → List Named → List Named → BundleError → Type 0
+RefusesSource names path old new (bundle.Import e) =
+    OutOfMemoryOr (RefusesFileAt names path old new) e
+RefusesSource names path old new _ = ⊥
+
+-- the file is accepted, and view i is the first that does not lie in its buffer
+pub record HasStray (names : Names) (path : List ℕ) (i : ℕ) : Type 0 where
+  pub value : Data
+  pub root_ : Root
+  pub buffers : List (List ℕ)
+  pub source : IsSource names path value root_ buffers
+  pub stray : NamesStray (spans_from 0 buffers) value (Outside i)
+
+-- the file is accepted, and its buffers are too long for one
+pub record HasTooMuch (names : Names) (path : List ℕ) : Type 0 where
+  pub value : Data
+  pub root_ : Root
+  pub buffers : List (List ℕ)
+  pub source : IsSource names path value root_ buffers
+  pub long : 2 ^ 32 ≤ length (joined buffers)
+
+-- the file is accepted, each view lies in its buffer, and the container would be too long, or is
+-- refused with this error; out of memory says nothing of it
+pub record HasNoContainer (names : Names) (path : List ℕ) (e : Error) : Type 0 where
+  pub value : Data
+  pub root_ : Root
+  pub buffers : List (List ℕ)
+  pub source : IsSource names path value root_ buffers
+  pub placed : ArePlaced (spans_from 0 buffers) value
+  pub json : List ℕ
+  pub reads : Reads json (bundled (spans_from 0 buffers) (length (joined buffers)) value)
+  pub fault : (2 ^ 32 ≤ total_of json (blob_of buffers))
+      ⊎ OutOfMemoryOr (RefusesImport (container_bytes json (blob_of buffers))) e
+
+-- the error is that of the import, or names the one other condition that does not hold
+abbrev pub RefusesBundle : Names → List ℕ → List Named → List Named → BundleError → Type 0
+RefusesBundle names path old new (bundle.Import e) =
+    OutOfMemoryOr (RefusesFileAt names path old new) e
+RefusesBundle names path old new (bundle.View i) = HasStray names path i
+RefusesBundle names path old new bundle.TooLong = HasTooMuch names path
+RefusesBundle names path old new (bundle.Answer e) = HasNoContainer names path e
+
+-- out of memory, or the container of some text of the value and of the blob would be too long
+abbrev pub RefusesContainerOf : Data → Option (List ℕ) → BundleError → Type 0
+RefusesContainerOf value blob (bundle.Import e) = e ≡ Memory
+RefusesContainerOf value blob (bundle.Answer e) =
+    (json : List ℕ) × (depth value ≤ max_depth → Reads json value) × (2 ^ 32 ≤ total_of json blob)
+RefusesContainerOf value blob _ = ⊥
