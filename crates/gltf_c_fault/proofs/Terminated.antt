@@ -1,9 +1,9 @@
 -- Text that was written to the front of a room.
-use Rattle.std.proofs.Common.{◌≡◌, ℕ, zero, suc, ◌+◌, ◌-◌, ◌<◌, ◌≤◌, List, [], ◌∷◌, ◌++◌, length}
+use Rattle.std.proofs.Common.{◌≡◌, ℕ, suc, ◌-◌, ◌<◌, List, [], ◌∷◌, ◌++◌, length}
 use Rattle.std.proofs.Common.{take, drop, set, refl, sym, ap, subst, true≢false, arith}
-use Rattle.std.specs.Prelude.{min, ◌==◌, false, true}
+use Rattle.std.specs.Prelude.{min, ◌==◌, false}
 use Rattle.std.proofs.lemmas.List.{length-take-le}
-use Rattle.gltf_c_fault.specs.Message.{text_in_room, shown_length}
+use Rattle.gltf_c_fault.specs.Message.{text_in_room}
 
 -- a byte that is set after a front
 ended : (byte : ℕ) (front room : List ℕ) → length front < length room
