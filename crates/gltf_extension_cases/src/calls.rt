@@ -1,0 +1,90 @@
+//! Calls on the first record of a list.
+use crate::written::{write_fault, write_found};
+use gltf::Document;
+use gltf_extensions::{
+    anisotropy, basisu, clearcoat, diffuse_transmission, dispersion, iridescence,
+    mesh_gpu_instancing, meshopt_compression, node_visibility, sheen, webp, xmp_packet,
+    xmp_packets,
+};
+use std::alloc::{AllocError, Global};
+
+/// Writes what a call gives of the first material, texture, node, view or scene.
+pub(crate) fn write(
+    alloc: Global,
+    call: &str,
+    document: &Document,
+    line: &mut String,
+) -> Result<(), AllocError> {
+    if let Some(material) = document.materials().next() {
+        return of_material(alloc, call, document, &material, line);
+    }
+    if let Some(node) = document.nodes().next() {
+        return of_node(alloc, call, document, &node, line);
+    }
+    if let Some(texture) = document.textures().next() {
+        let valid = document.as_valid();
+        return match call {
+            "basisu" => write_found(alloc, basisu(alloc, valid, &texture), line),
+            "webp" => write_found(alloc, webp(alloc, valid, &texture), line),
+            _ => line.push_str("no call"),
+        };
+    }
+    if let Some(view) = document.views().next() {
+        let found = meshopt_compression(alloc, document.as_valid(), &view);
+        return write_found(alloc, found, line);
+    }
+    write_packet(alloc, document, line)
+}
+
+fn of_material(
+    alloc: Global,
+    call: &str,
+    document: &Document,
+    material: &gltf::Material,
+    line: &mut String,
+) -> Result<(), AllocError> {
+    let valid = document.as_valid();
+    match call {
+        "clearcoat" => write_found(alloc, clearcoat(alloc, valid, material), line),
+        "sheen" => write_found(alloc, sheen(alloc, valid, material), line),
+        "iridescence" => write_found(alloc, iridescence(alloc, valid, material), line),
+        "anisotropy" => write_found(alloc, anisotropy(alloc, valid, material), line),
+        "dispersion" => write_found(alloc, dispersion(alloc, valid, material), line),
+        "diffuse_transmission" => {
+            write_found(alloc, diffuse_transmission(alloc, valid, material), line)
+        }
+        _ => line.push_str("no call"),
+    }
+}
+
+fn of_node(
+    alloc: Global,
+    call: &str,
+    document: &Document,
+    node: &gltf::Node,
+    line: &mut String,
+) -> Result<(), AllocError> {
+    let valid = document.as_valid();
+    match call {
+        "visibility" => write_found(alloc, node_visibility(alloc, valid, node), line),
+        "instancing" => write_found(alloc, mesh_gpu_instancing(alloc, valid, node), line),
+        _ => line.push_str("no call"),
+    }
+}
+
+/// Writes the packet of the first scene.
+fn write_packet(alloc: Global, document: &Document, line: &mut String) -> Result<(), AllocError> {
+    let Some(scene) = document.scenes().next() else {
+        return line.push_str("no scene");
+    };
+    let (Some(packets), Some(named)) = (
+        document.extension_value("KHR_xmp_json_ld"),
+        scene.extension_value("KHR_xmp_json_ld"),
+    ) else {
+        return line.push_str("none");
+    };
+    match xmp_packet(alloc, xmp_packets(packets), named) {
+        Ok(packet) => write!(line, "{packet:?}"),
+        Err(fault) => write_fault(alloc, &fault, line),
+    }
+}

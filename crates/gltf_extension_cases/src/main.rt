@@ -1,0 +1,57 @@
+//! Answers a file of cases on extensions, a case a line, with a line each: the name of a call, and
+//! the text of a document, whose first record with extensions the call is on. `tables/` beside this
+//! folder says what has to be answered.
+#![tactic(auto)]
+
+mod calls;
+mod imports;
+mod pairs;
+mod written;
+
+use gltf::Error;
+use std::alloc::Global;
+use std::rt::HostRuntime;
+use std::{env, fs};
+
+fn main(rt: HostRuntime) -> Result<(), Error> {
+    let mut words = env::args(&rt)?;
+    let _program = words.next();
+    let paths: Vec<String> = words.collect(rt.alloc())?;
+    for path in &paths {
+        answer_file(&rt, path.as_str())?;
+    }
+    Ok(())
+}
+
+/// Prints the name of a file, and the line that answers each of its cases.
+fn answer_file(rt: &HostRuntime, path: &str) -> Result<(), Error> {
+    println!(rt; "{path}")?;
+    let cases = fs::read_to_string(rt, path)?;
+    for case in cases.lines() {
+        let mut line = String::new(rt.alloc());
+        answer(rt.alloc(), case, &mut line)?;
+        println!(rt; "{line}")?;
+    }
+    Ok(())
+}
+
+/// Writes what answers a case.
+fn answer(alloc: Global, case: &str, line: &mut String) -> Result<(), Error> {
+    let (call, text) = case.split_once(" ").unwrap_or((case, ""));
+    if call == "accepts" {
+        pairs::write_accepted(text, line)?;
+        return Ok(());
+    }
+    if matches!(
+        call,
+        "import" | "plain" | "positions" | "normals" | "tangents" | "tex_coords"
+    ) {
+        imports::write(alloc, call, text, line)?;
+        return Ok(());
+    }
+    match gltf::Gltf::from_slice(alloc, text.as_bytes()) {
+        Ok(file) => calls::write(alloc, call, &file.document, line)?,
+        Err(error) => write!(line, "{error}")?,
+    }
+    Ok(())
+}

@@ -1,0 +1,46 @@
+//! What calls give, as text.
+use gltf::json::path::Path;
+use gltf_extensions::{ExtensionFault, Handle};
+use gltf_validation::validate::Validate;
+use std::alloc::{AllocError, Global};
+use std::fmt::Debug;
+
+/// Writes the record of an extension, why it was not read, or that there is none.
+pub(crate) fn write_found<R: Validate + Copy + Debug>(
+    alloc: Global,
+    found: Option<Result<Handle<'_, R>, ExtensionFault>>,
+    line: &mut String,
+) -> Result<(), AllocError> {
+    match found {
+        Some(Ok(handle)) => write!(line, "{:?}", handle.as_record()),
+        Some(Err(fault)) => write_fault(alloc, &fault, line),
+        None => line.push_str("none"),
+    }
+}
+
+/// Writes the JSON Pointer of each fault, and what is wrong there.
+pub(crate) fn write_fault(
+    alloc: Global,
+    fault: &ExtensionFault,
+    line: &mut String,
+) -> Result<(), AllocError> {
+    match fault {
+        ExtensionFault::Record { path, fault } => {
+            write_pointer(alloc, path, line)?;
+            write!(line, ": {fault}")
+        }
+        ExtensionFault::Rules(faults) => {
+            for (path, error) in faults {
+                write_pointer(alloc, path, line)?;
+                write!(line, ": {error};")?;
+            }
+            Ok(())
+        }
+        ExtensionFault::Memory => line.push_str("out of memory"),
+    }
+}
+
+fn write_pointer(alloc: Global, path: &Path, line: &mut String) -> Result<(), AllocError> {
+    let pointer = path.pointer(alloc)?;
+    line.push_str(pointer.as_str())
+}
