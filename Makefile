@@ -4,7 +4,7 @@ CALL ?= chunks
 FILE ?= examples/box.glb
 PREFIX ?= /usr/local
 NAME :=
-BENCHES := items records import files peers
+BENCHES := items records import files peers c
 
 # The scripts in tools/ take the words from the environment, unchanged: a path may have any
 # character. The caller's folder is another one under `make -C`.
@@ -17,14 +17,21 @@ help:
 	@echo 'For users'
 	@echo '  make show [CALL=chunks|check] [FILE=PATH]  shows the chunks of a GLB file, or checks a file'
 	@echo '  make prove                                 proves and builds the programs'
-	@echo '  make c                                     proves, builds and tests the library for C'
-	@echo '  make install [PREFIX=FOLDER]               installs the programs and that library'
+	@echo '  make c [WORDS=--long]                      proves, builds and tests the library for C'
+	@echo '  make python                                tries the package for Python, after make c'
+	@echo '  make wheel                                 writes the wheel of it to out/dist'
+	@echo '  make install [PREFIX=FOLDER] [LIBDIR=..] [INCLUDEDIR=..] [MANDIR=..]'
+	@echo '                                             installs the programs and that library'
+	@echo '  make uninstall                             removes them: with the same words'
 	@echo '  make reference                             writes out/reference/index.html'
 	@echo 'For a change'
 	@echo '  make check NAME=CRATE                      proves one crate and those that it uses'
 	@echo '  make case                                  runs the cases alone'
+	@echo '  make fuzz [SECONDS=60]                     runs libFuzzer over the library for C, after make c'
+	@echo '  make soak [FILES=2000]                     runs the programs on broken files, after make prove'
+	@echo '  make devices                               runs them where the system fails them'
 	@echo '  make wrong [NAME=CRATE]                    tries the wrong bodies of a crate'
-	@echo '  make bench [NAME=items|records|import|files|peers] [WORDS=..]  runs the benchmarks'
+	@echo '  make bench [NAME=items|records|import|files|peers|c] [WORDS=..]  runs the benchmarks'
 	@echo '  make test                                  the gate: all proofs and all tests'
 
 show:
@@ -34,10 +41,16 @@ prove:
 	@python3 tools/prove.py
 
 c:
-	@python3 tools/c.py
+	@python3 tools/c.py $(WORDS)
 
+install uninstall: export LIBDIR := $(value LIBDIR)
+install uninstall: export INCLUDEDIR := $(value INCLUDEDIR)
+install uninstall: export MANDIR := $(value MANDIR)
 install:
 	@python3 tools/install.py
+
+uninstall:
+	@python3 tools/install.py uninstall
 
 reference:
 	@python3 tools/reference.py
@@ -70,7 +83,22 @@ test:
 	@python3 tools/edits.py
 	@python3 tools/gate.py
 
+python:
+	@python3 tools/python.py
+
+wheel:
+	@python3 tools/wheel.py
+
+fuzz:
+	@python3 tools/fuzz.py $(SECONDS)
+
+soak:
+	@python3 tools/soak.py $(FILES)
+
+devices:
+	@python3 tools/devices.py
+
 wrong:
 	@tools/wrong.sh $(NAME)
 
-.PHONY: help show prove c install reference check case bench test wrong
+.PHONY: help show prove c install uninstall reference check case bench test wrong python wheel fuzz soak devices

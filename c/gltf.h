@@ -1,86 +1,176 @@
-/* glTF 2.0, loaded and checked: the proved loader for C and C++.
+/* gltf.h, version 2: opens glTF 2.0 files, checks them, and reads what they hold.
  *
- *     gltf_file file = GLTF_CLOSED_FILE;
- *     gltf_accessor what;
- *     void *items;
- *     char why[256];
- *     if (gltf_open(bytes, size, &file, why, sizeof why) != GLTF_SUCCESS)
- *         return puts(why), 1;
- *     if (gltf_accessor_info(&file, 0, &what) == GLTF_SUCCESS
- *         && (items = malloc(what.count * what.item_size)) != NULL) {
- *         if (gltf_accessor_read(&file, 0, items, what.count * what.item_size) == GLTF_SUCCESS)
- *             use(items);
- *         free(items);
+ *     gltf_file *file;
+ *     gltf_fault fault;
+ *     gltf_accessor points;
+ *
+ *     if (gltf_open(bytes, size, NULL, &file, &fault) != GLTF_SUCCESS) {
+ *         fprintf(stderr, "%s: %s\n", fault.path, fault.text);
+ *         return 1;
  *     }
- *     gltf_close(&file);
+ *     if (gltf_accessor_info(file, 0, &points) == GLTF_SUCCESS && points.data != NULL)
+ *         upload(points.data, points.count, points.stride);
+ *     gltf_close(file);
  *
- * WHAT IS PROVED of every call that keeps to the duties below. It returns, whatever the bytes are,
- * and it reads and writes no memory but what its arguments name and what it has from malloc. What
- * each call returns is said at the call, and is proved as it is said there.
- * NOT PROVED, but tested: that all memory is given back, and that this header agrees with the code.
+ * Files. gltf_open makes a gltf_file and gltf_close frees it. The calls that read a file take a
+ * `const gltf_file *`. They do not change the file, so any number of threads may read one file at
+ * the same time. gltf_give and gltf_close change the file: no other thread may use it meanwhile. A
+ * NULL file is a closed file. Every call accepts it: gltf_close does nothing, gltf_count returns 0,
+ * and the others return GLTF_CLOSED.
  *
- * WHAT A CALLER HAS TO KEEP. The library tests none of it, not even for NULL: its functions take
- * references, and of these nothing can be asked.
- *   1. No pointer is NULL, also where the size beside it is 0. A pointer to bytes points to as many
- *      as the size says, at most PTRDIFF_MAX. Nothing else writes them during the call.
- *   2. What a call writes to (`file`, `message`, `text`, `length`, `out`) overlaps nothing else
- *      that it is given, and is aligned as its type.
- *   3. A gltf_file begins as GLTF_CLOSED_FILE, that is as zeros. Nothing but these functions writes
- *      to it. It may be moved by copying its bytes; then only one of the copies is used.
- *   4. All calls on a file come from the thread that opened it. Different files may be used at once
- *      by different threads.
- *   5. malloc, realloc and free are of one allocator, and align to 16. No call comes from a signal
- *      handler, nor from the forked child of a process with threads.
- *   6. The stack has room: give a thread 512 KiB. No proof bounds it. The most that a file was seen
- *      to take is some 240 KiB, for a material with all extensions; files with 126 levels of JSON
- *      and with 200,000 broken rules take less.
- * A closed file is a good argument everywhere. Opening an open file drops what it held.
- * Closing twice does nothing.
+ * Return values. A call that can fail returns a gltf_status. If it is not GLTF_SUCCESS, nothing has
+ * been written to the caller's variables, except by gltf_open. Every call that takes a file and an
+ * index returns GLTF_CLOSED if the file is NULL, and GLTF_NO_SUCH_INDEX if there is no record with
+ * that index; these two are not mentioned again below. Indices begin at 0, in the order of the
+ * file. An index that is absent in a record is GLTF_NONE.
  *
- * Sizes and offsets are in bytes. Indices begin at 0 and follow the order in the file.
- */
+ * Records. Each kind of record has one struct, and one call that fills it. A member that is absent
+ * in the file has the default of glTF 2.0. A number is the double nearest to the one in the file. A
+ * member that should be a number, or a list of so many numbers, and is not, has its default too: no
+ * rule refuses it. Members called `reserved` are 0. Later libraries with the same major version may
+ * use them, where 0 will mean what this version does. They add calls, enumerators and bits, and
+ * change nothing else.
+ *
+ * Texts are UTF-8. They are copied to `text`, which has room for `room` bytes, are cut to `room` -
+ * 1 bytes, and end with a zero byte. A cut may split a character. `*length` receives the length of
+ * the whole text without that zero byte; the text was cut if `*length` >= `room`. If `room` is 0,
+ * nothing is copied and `text` may be NULL. A text may have zero bytes of its own.
+ *
+ * Lists are copied to `out`, which has room for `room` elements; those that do not fit are left
+ * out. `*count` receives the length of the whole list. If `room` is 0, `out` may be NULL.
+ *
+ * Pointers to bytes in a struct (`bytes`, `data`) point into the file. They are valid until
+ * gltf_close, and those into a buffer that waits are NULL until gltf_give. Do not write to them.
+ *
+ * What a caller has to observe:
+ *   1. A pointer may be NULL only where this header says so. A pointer and a size beside it are a
+ *      block of that many bytes, at most PTRDIFF_MAX.
+ *   2. What a call writes overlaps nothing else that it is given, and is aligned for its type.
+ *   3. A file is closed once, and not used after that.
+ *   4. malloc, realloc and free belong together and align to 16 bytes. No call is made in a signal
+ *      handler, or in the forked child of a process with threads.
+ *   5. The stack has room: give a thread 512 KiB. No proof bounds it. tools/c.py measures what
+ *      files take, and fails if one takes more than three quarters of that.
+ *
+ * Proved: for every file and every call that observes these, the call returns, reads and writes no
+ * memory but what it was given and what it has from malloc, and does what is said at the call.
+ * Tested, not proved: the few lines of C between this header and the proved code (c/gltf_shim.c;
+ * gltf_accessor_read_u32 widens there what the proved code reads), that reading from many threads
+ * is safe, that the bytes behind a pointer stay until gltf_close, and that all memory is freed.
+ *
+ * Section numbers are those of the glTF 2.0 specification. */
 #ifndef GLTF_H
 #define GLTF_H
 
 #include <stddef.h>
 
+/* The version of this header: major * 10000 + minor * 100 + patch. */
+#define GLTF_VERSION 20000
+
+#if defined(__GNUC__) || defined(__clang__)
+#define GLTF_CHECKED __attribute__((warn_unused_result))
+#define GLTF_NONNULL(which) __attribute__((nonnull which))
+#define GLTF_PURE __attribute__((pure))
+#else
+#define GLTF_CHECKED
+#define GLTF_NONNULL(which)
+#define GLTF_PURE
+#endif
+#ifndef GLTF_API
+#define GLTF_API extern
+#endif
+
 #ifdef __cplusplus
 extern "C" {
 #endif
 
-/* An open or a closed file. Its member is the library's. */
-typedef struct gltf_file {
-    void *held;
-} gltf_file;
+/* An open file. */
+typedef struct gltf_file gltf_file;
 
-#define GLTF_CLOSED_FILE { 0 }
+/* The index of a record that is absent. */
+#define GLTF_NONE ((size_t)-1)
 
-/* What a call returns. A call that does not return GLTF_SUCCESS has written nothing, but for
- * gltf_open, which closes the file and writes the message. */
+typedef unsigned int gltf_status;
 enum {
     GLTF_SUCCESS = 0,
-    GLTF_NO_MEMORY = 1,
-    GLTF_BAD_CONTAINER = 2,       /* the bytes begin with `glTF` and are no GLB container */
-    GLTF_BAD_JSON = 3,            /* the text is no JSON, or its value is no glTF document */
-    GLTF_BROKEN_RULES = 4,        /* the document breaks rules: the message has all of them */
-    GLTF_BAD_BASE64 = 5,          /* the payload of a data URI is no base64 */
-    GLTF_SHORT_BUFFER = 6,        /* a buffer has fewer bytes than it declares */
-    GLTF_MISSING_BLOB = 7,        /* a buffer has no URI, and there is no BIN chunk for it */
-    GLTF_EXTERNAL_REFERENCE = 8,  /* a URI leads to another file */
-    GLTF_UNSUPPORTED_SCHEME = 9,  /* a URI has a scheme that is neither `data` nor `file`, or spells
-                                     no text */
-    GLTF_INPUT_OUTPUT = 10,       /* returned by no call */
-    GLTF_CLOSED = 11,             /* the file is closed */
-    GLTF_NO_SUCH_INDEX = 12,      /* nothing has that index, or it has not what was asked for */
-    GLTF_UNREADABLE = 13,         /* the accessor does not fit its views, or they their buffers, as
-                                     gltf_accessor_read says it */
-    GLTF_NO_ROOM = 14,            /* the items are more bytes than there is room for */
-    GLTF_OUT_OF_RANGE = 15        /* the buffer ends before the bytes that were asked for */
+    GLTF_NO_MEMORY = 1,          /* malloc failed */
+    GLTF_BAD_CONTAINER = 2,      /* the bytes begin with `glTF` and are not a GLB container (4.4) */
+    GLTF_BAD_JSON = 3,           /* the text is not JSON, or not a glTF document (3.2) */
+    GLTF_BROKEN_RULES = 4,       /* the document breaks rules, as an index out of range */
+    GLTF_BAD_BASE64 = 5,         /* the data of a data URI is not base64 (2.8) */
+    GLTF_SHORT_BUFFER = 6,       /* a buffer has fewer bytes than its byteLength (3.6.1) */
+    GLTF_MISSING_BLOB = 7,       /* a buffer has no URI, and there is no BIN chunk (3.6.1.2) */
+    GLTF_EXTERNAL_REFERENCE = 8, /* a buffer is in another file, and GLTF_EXTERNAL was not given */
+    GLTF_UNSUPPORTED_SCHEME = 9, /* a URI has a scheme other than `data` and `file` */
+    GLTF_CANNOT_READ = 10,       /* returned by gltf_load.h alone: a file cannot be read */
+    GLTF_CLOSED = 11,            /* the file is NULL */
+    GLTF_NO_SUCH_INDEX = 12,     /* there is no such record, or it has not what was asked for */
+    GLTF_UNREADABLE = 13,        /* the accessor does not fit its buffer views, or they do not fit
+                                    their buffers, as one that waits for gltf_give */
+    GLTF_NO_ROOM = 14,           /* the items do not fit into `out` */
+    GLTF_OTHER_TYPE = 16         /* the accessor's components are not of the type of this call */
 };
-typedef unsigned int gltf_status;
 
-/* The kinds of records that gltf_count counts: the lists of the root; not the lights and variants
- * of extensions. */
+/* Why gltf_open failed. */
+typedef struct gltf_fault {
+    gltf_status status;  /* what gltf_open returned */
+    unsigned int rules;  /* the number of broken rules if it is GLTF_BROKEN_RULES, else 0 */
+    size_t buffer;       /* the buffer that is at fault, or GLTF_NONE */
+    size_t expected;     /* the byteLength of that buffer if it is GLTF_SHORT_BUFFER, else 0 */
+    size_t actual;       /* and the number of bytes that it has */
+    size_t reserved[4];
+    char path[128];      /* where: a JSON Pointer (RFC 6901) as `/nodes/0/mesh`, or "" */
+    char text[512];      /* what: a message for people, with all broken rules */
+} gltf_fault;            /* both texts are cut where they are too long, and end with a zero byte */
+
+/* ---- Opening and closing --------------------------------------------------------------------- */
+
+/* Returns the version of the library, as GLTF_VERSION is made. The library works with a header of
+ * the same major version that is not newer. */
+GLTF_API unsigned int gltf_version(void);
+
+/* Flags of gltf_open_options. */
+enum {
+    GLTF_EXTERNAL = 1 /* accept buffers in other files; gltf_give supplies their bytes */
+};
+
+/* What gltf_open accepts besides. Set a variable to { 0 } first, then the members that you need. */
+typedef struct gltf_open_options {
+    unsigned int flags;            /* GLTF_EXTERNAL or 0; other bits are ignored */
+    unsigned int reserved_word;
+    const char *const *extensions; /* names of extensions that you handle yourself: a file that
+                                      requires them is accepted. Texts that end with a zero byte */
+    size_t extension_count;
+    size_t reserved[4];
+} gltf_open_options;
+
+/* Opens a file that is in memory: a GLB container if its bytes begin with `glTF`, else JSON text
+ * (2.8, 3.6.1, 4.4). `options` may be NULL. The library keeps copies, so `bytes` may be freed as
+ * soon as the call returns.
+ *
+ * Returns GLTF_SUCCESS exactly if the container, the JSON text, the records, the rules and the
+ * buffers are valid, and there was enough memory. `*file` is then the open file, and `*fault` is
+ * empty: its `status` is 0 and its `buffer` is GLTF_NONE. Otherwise `*file` is NULL and `*fault`
+ * describes the first of these layers that is not valid. The rules are that indices are in range,
+ * that codes are known, that required members are there, and that each required extension is
+ * supported or is one of `options->extensions`. The buffers are valid if each has as many bytes as
+ * it declares; with GLTF_EXTERNAL those in other files are not looked at here. GLTF_NO_MEMORY says
+ * nothing about the file. */
+GLTF_API gltf_status gltf_open(const void *bytes, size_t size, const gltf_open_options *options,
+                               gltf_file **file, gltf_fault *fault)
+    GLTF_CHECKED GLTF_NONNULL((1, 4, 5));
+
+/* Supplies the bytes of a buffer that waits for them (`waits` of gltf_buffer). They are copied.
+ * Returns GLTF_NO_SUCH_INDEX if there is no such buffer or it does not wait, and GLTF_SHORT_BUFFER
+ * if `size` is less than its byteLength. If the call fails, the buffer still waits. */
+GLTF_API gltf_status gltf_give(gltf_file *file, size_t index, const void *bytes, size_t size)
+    GLTF_CHECKED GLTF_NONNULL((3));
+
+/* Frees a file. */
+GLTF_API void gltf_close(gltf_file *file);
+
+/* ---- Calls for all kinds of records ---------------------------------------------------------- */
+
 enum {
     GLTF_BUFFERS = 0,
     GLTF_BUFFER_VIEWS = 1,
@@ -94,200 +184,441 @@ enum {
     GLTF_IMAGES = 9,
     GLTF_TEXTURES = 10,
     GLTF_SAMPLERS = 11,
-    GLTF_CAMERAS = 12
+    GLTF_CAMERAS = 12,
+    GLTF_LIGHTS = 13,              /* of KHR_lights_punctual */
+    GLTF_VARIANTS = 14,            /* of KHR_materials_variants */
+    GLTF_EXTENSIONS_USED = 15,     /* gltf_name returns the elements of these two lists */
+    GLTF_EXTENSIONS_REQUIRED = 16, /* without those that gltf_open was given in its options */
+    GLTF_ASSET = 17,               /* one record: `asset` */
+    GLTF_ROOT = 18,                /* one record: the document */
+    GLTF_PRIMITIVES = 19,          /* of a mesh: for gltf_json only, as the next two */
+    GLTF_CHANNELS = 20,            /* of an animation */
+    GLTF_ANIMATION_SAMPLERS = 21   /* of an animation */
 };
 
-/* The types of components, by their numbers in glTF 2.0. A number has its lowest byte first. */
+/* Returns the number of records of a kind, GLTF_BUFFERS to GLTF_ROOT; 0 for any other kind. */
+GLTF_API size_t gltf_count(const gltf_file *file, unsigned int kind) GLTF_PURE;
+
+/* Copies the name of a record. Returns GLTF_NO_SUCH_INDEX if it has none. */
+GLTF_API gltf_status gltf_name(const gltf_file *file, unsigned int kind, size_t index, char *text,
+                               size_t room, size_t *length) GLTF_CHECKED GLTF_NONNULL((6));
+
 enum {
-    GLTF_I8 = 5120,
-    GLTF_U8 = 5121,
-    GLTF_I16 = 5122,
-    GLTF_U16 = 5123,
-    GLTF_U32 = 5125,
-    GLTF_F32 = 5126
+    GLTF_BUFFER_URI = 0,        /* 5.10.1: as it is in the file, not decoded; also the next */
+    GLTF_IMAGE_URI = 1,         /* 5.18.1 */
+    GLTF_IMAGE_MIME_TYPE = 2,   /* 5.18.2: as `image/png` */
+    GLTF_ASSET_VERSION = 3,     /* 5.9. The index of these four is 0 */
+    GLTF_ASSET_MIN_VERSION = 4,
+    GLTF_ASSET_GENERATOR = 5,
+    GLTF_ASSET_COPYRIGHT = 6
 };
 
-/* What an accessor is. A matrix is a column after the other. Columns of 2 or 3 components of one
- * byte, and of 3 of two, are padded in a file to multiples of 4 bytes (glTF 2.0, section 3.6.2.4):
- * of these matrices the padding is read as numbers too. */
+/* Copies another text of a record. Returns GLTF_NO_SUCH_INDEX if it has none. */
+GLTF_API gltf_status gltf_text(const gltf_file *file, unsigned int what, size_t index, char *text,
+                               size_t room, size_t *length) GLTF_CHECKED GLTF_NONNULL((6));
+
+/* Copies JSON text: the `extras` of a record if `extension` is NULL, else what the record has in
+ * its `extensions` under that name, which has `extension_size` bytes (3.12). `part` is the position
+ * of a primitive in its mesh, or of a channel or sampler in its animation; for other kinds it is
+ * not looked at. The text means the same as the text in the file, and need not be spelled alike.
+ * Returns GLTF_NO_SUCH_INDEX if there is none. So it does for an extension that this header has a
+ * struct member or a call for, at the records where it has it; and for all extensions of channels,
+ * animation samplers, lights and variants, which are not kept. It may return
+ * GLTF_NO_MEMORY. */
+GLTF_API gltf_status gltf_json(const gltf_file *file, unsigned int kind, size_t index, size_t part,
+                               const char *extension, size_t extension_size, char *text,
+                               size_t room, size_t *length) GLTF_CHECKED GLTF_NONNULL((9));
+
+enum {
+    GLTF_SCENE_NODES = 0,   /* 5.27.1: the root nodes of a scene */
+    GLTF_NODE_CHILDREN = 1, /* 5.25.2. No rule refuses a node that is below itself */
+    GLTF_SKIN_JOINTS = 2    /* 5.28.3: nodes */
+};
+
+/* Copies a list of indices of a record. */
+GLTF_API gltf_status gltf_list(const gltf_file *file, unsigned int what, size_t index, size_t *out,
+                               size_t room, size_t *count) GLTF_CHECKED GLTF_NONNULL((6));
+
+enum {
+    GLTF_ACCESSOR_MIN = 0, /* 5.1.8 */
+    GLTF_ACCESSOR_MAX = 1, /* 5.1.7 */
+    GLTF_MESH_WEIGHTS = 2, /* 5.23.2 */
+    GLTF_NODE_WEIGHTS = 3  /* 5.25.9: if there are none, those of the node's mesh apply */
+};
+
+/* Copies a list of numbers of a record. If it is absent, or no list of numbers, `*count` is 0. */
+GLTF_API gltf_status gltf_numbers(const gltf_file *file, unsigned int what, size_t index,
+                                  double *out, size_t room, size_t *count)
+    GLTF_CHECKED GLTF_NONNULL((6));
+
+/* ---- Buffers, buffer views, accessors (3.6, 5.1, 5.10, 5.11) --------------------------------- */
+
+typedef struct gltf_buffer {
+    const unsigned char *bytes; /* NULL if the buffer waits */
+    size_t size;                /* the number of bytes there: at least byte_length, a multiple of 4,
+                                   filled up with zeros; 0 if the buffer waits */
+    size_t byte_length;         /* its byteLength */
+    unsigned int waits;         /* 1 if the buffer waits for gltf_give, else 0 */
+    unsigned int reserved_word;
+    size_t reserved[2];
+} gltf_buffer;
+
+GLTF_API gltf_status gltf_buffer_info(const gltf_file *file, size_t index, gltf_buffer *out)
+    GLTF_CHECKED GLTF_NONNULL((3));
+
+typedef struct gltf_buffer_view {
+    size_t buffer;
+    size_t byte_offset;
+    size_t byte_length;
+    size_t byte_stride;  /* 0 if it is absent */
+    unsigned int target; /* 34962 for vertices, 34963 for indices, 0 if it is absent */
+    unsigned int reserved_word;
+    size_t reserved[2];
+} gltf_buffer_view;
+
+GLTF_API gltf_status gltf_buffer_view_info(const gltf_file *file, size_t index,
+                                           gltf_buffer_view *out) GLTF_CHECKED GLTF_NONNULL((3));
+
+/* The types of components (3.6.2.2). The lowest byte of a number comes first. */
+enum { GLTF_I8 = 5120, GLTF_U8 = 5121, GLTF_I16 = 5122, GLTF_U16 = 5123, GLTF_U32 = 5125,
+       GLTF_F32 = 5126 };
+
+/* An accessor whose items can be used where they are has `data` != NULL: item i is at `data` + i *
+ * `stride`, for every i below `count`. This is so if the accessor has a buffer view, all items are
+ * inside it, it is inside its buffer, no item is overridden by `sparse`, and the items have no
+ * padding inside (3.6.2.4). Otherwise copy them with gltf_accessor_read. glTF wants files to align
+ * items to their components, but no rule here refuses a file that does not. */
 typedef struct gltf_accessor {
-    size_t count;                /* items, as the file says it: of an accessor that cannot be read,
-                                    and of a sparse one without a view, any number, also one of
-                                    which count * item_size is no size_t */
-    size_t item_size;            /* bytes of an item, 1 to 64: its components, with no padding */
+    size_t count;                /* the number of items, as the file says: check it before you
+                                    allocate memory for an accessor whose `data` is NULL */
+    size_t item_size;            /* bytes of one item without padding, 1 to 64 */
     unsigned int component_type; /* GLTF_I8 .. GLTF_F32 */
-    unsigned int components;     /* of an item: 1, 2, 3, 4, 9 or 16 */
-    unsigned int normalized;     /* 1 where whole numbers mean fractions, else 0 */
-    unsigned int sparse;         /* 1 where items are overridden, else 0 */
+    unsigned int components;     /* of one item: 1, 2, 3 or 4; of a matrix 4, 9 or 16, column by
+                                    column */
+    unsigned int is_matrix;      /* 1 or 0 */
+    unsigned int normalized;     /* 1 or 0 */
+    size_t sparse;               /* the number of items that are overridden */
+    size_t view;                 /* a buffer view, or GLTF_NONE */
+    size_t byte_offset;          /* in that view */
+    size_t stride;               /* bytes from one item to the next in that view; item_size if there
+                                    is none */
+    const unsigned char *data;   /* the first item, or NULL */
+    size_t reserved[4];
 } gltf_accessor;
 
-/* How the vertices of a primitive are joined, by the numbers of glTF 2.0, section 5.24.4. */
-enum {
-    GLTF_POINTS = 0,
-    GLTF_LINES = 1,
-    GLTF_LINE_LOOP = 2,
-    GLTF_LINE_STRIP = 3,
-    GLTF_TRIANGLES = 4,
-    GLTF_TRIANGLE_STRIP = 5,
-    GLTF_TRIANGLE_FAN = 6
-};
+GLTF_API gltf_status gltf_accessor_info(const gltf_file *file, size_t index, gltf_accessor *out)
+    GLTF_CHECKED GLTF_NONNULL((3));
 
-/* What a primitive of a mesh is (glTF 2.0, section 5.24). */
+/* Copies all items to `out` without gaps, count * item_size bytes, with the sparse overrides
+ * applied (3.6.2). Bytes of `out` after them are unchanged. Returns GLTF_UNREADABLE if the accessor
+ * has neither a view nor a sparse part, or if its items, sparse indices or sparse values have a
+ * count of 0, are not inside their view, or have a view that is not inside its buffer or a
+ * byteStride less than their size; else GLTF_NO_ROOM if the items are more than `room` bytes. A
+ * buffer that waits has no bytes. */
+GLTF_API gltf_status gltf_accessor_read(const gltf_file *file, size_t index, void *out, size_t room)
+    GLTF_CHECKED GLTF_NONNULL((3));
+
+/* Copies the components of all items as `unsigned int`, count * components of them: for indices and
+ * joints. `room` is how many fit. Returns GLTF_OTHER_TYPE if they are not GLTF_U8, GLTF_U16 or
+ * GLTF_U32; else the same as gltf_accessor_read. */
+GLTF_API gltf_status gltf_accessor_read_u32(const gltf_file *file, size_t index, unsigned int *out,
+                                            size_t room) GLTF_CHECKED GLTF_NONNULL((3));
+
+/* ---- Meshes (3.7.2, 5.23, 5.24) -------------------------------------------------------------- */
+
+typedef struct gltf_mesh {
+    size_t primitives;  /* their number: 0 to primitives - 1 are their positions */
+    size_t weights;     /* the number of weights: gltf_numbers(.., GLTF_MESH_WEIGHTS, ..) */
+    size_t reserved[2];
+} gltf_mesh;
+
+GLTF_API gltf_status gltf_mesh_info(const gltf_file *file, size_t index, gltf_mesh *out)
+    GLTF_CHECKED GLTF_NONNULL((3));
+
+enum { GLTF_POINTS = 0, GLTF_LINES = 1, GLTF_LINE_LOOP = 2, GLTF_LINE_STRIP = 3,
+       GLTF_TRIANGLES = 4, GLTF_TRIANGLE_STRIP = 5, GLTF_TRIANGLE_FAN = 6 };
+
 typedef struct gltf_primitive {
-    unsigned int has_indices;  /* 1 where an accessor has the indices of the vertices, else 0 */
-    unsigned int has_material; /* 1 where a material is named, else 0 */
-    unsigned int mode;         /* GLTF_POINTS .. GLTF_TRIANGLE_FAN */
-    size_t indices;            /* that accessor, or 0 */
-    size_t material;           /* that material, or 0 */
+    unsigned int mode; /* GLTF_POINTS .. GLTF_TRIANGLE_FAN */
+    unsigned int reserved_word;
+    size_t indices;    /* an accessor, or GLTF_NONE */
+    size_t material;   /* a material, or GLTF_NONE, which gltf_material_info accepts */
+    size_t attributes; /* their number */
+    size_t targets;    /* the number of morph targets */
+    size_t reserved[2];
 } gltf_primitive;
 
-/* What the attributes of a primitive mean (glTF 2.0, section 3.7.2.1). The last four have a set:
- * the n of TEXCOORD_n. */
+/* Fills in primitive number `primitive` of a mesh. */
+GLTF_API gltf_status gltf_primitive_info(const gltf_file *file, size_t mesh, size_t primitive,
+                                         gltf_primitive *out) GLTF_CHECKED GLTF_NONNULL((4));
+
 enum {
     GLTF_POSITION = 0,
     GLTF_NORMAL = 1,
     GLTF_TANGENT = 2,
-    GLTF_COLOR = 3,
+    GLTF_COLOR = 3,    /* these four have a set: COLOR_0, COLOR_1 .. */
     GLTF_TEXCOORD = 4,
     GLTF_JOINTS = 5,
-    GLTF_WEIGHTS = 6
+    GLTF_WEIGHTS = 6,
+    GLTF_CUSTOM = 7    /* an attribute whose name begins with `_` */
 };
 
-/* What a node is (glTF 2.0, section 5.25). */
-typedef struct gltf_node {
-    unsigned int has_mesh;   /* 1 where a mesh is named, else 0 */
-    unsigned int has_skin;   /* 1 where a skin is named, else 0 */
-    unsigned int has_camera; /* 1 where a camera is named, else 0 */
-    size_t mesh;             /* that mesh, or 0 */
-    size_t skin;             /* that skin, or 0 */
-    size_t camera;           /* that camera, or 0 */
-    size_t children;         /* how many children it has: gltf_node_child gives them */
-} gltf_node;
+typedef struct gltf_attribute {
+    unsigned int meaning; /* GLTF_POSITION .. GLTF_CUSTOM */
+    unsigned int set;     /* the n of TEXCOORD_n; 0 if there is none */
+    size_t accessor;
+    size_t reserved[2];
+} gltf_attribute;
 
-/* The members of a node that are lists of numbers. Of one that is absent no number is given: it
- * then means what follows `else` here. */
+/* Fills in attribute number `position` of a primitive if `target` is GLTF_NONE, else of its morph
+ * target number `target`. They are ordered by their meaning, not as in the file. A morph target has
+ * only POSITION, NORMAL and TANGENT here. */
+GLTF_API gltf_status gltf_attribute_info(const gltf_file *file, size_t mesh, size_t primitive,
+                                         size_t target, size_t position, gltf_attribute *out)
+    GLTF_CHECKED GLTF_NONNULL((6));
+
+/* Copies the name of that attribute, as `TEXCOORD_0` or `_TEMPERATURE`. It may return
+ * GLTF_NO_MEMORY. */
+GLTF_API gltf_status gltf_attribute_name(const gltf_file *file, size_t mesh, size_t primitive,
+                                         size_t target, size_t position, char *text, size_t room,
+                                         size_t *length) GLTF_CHECKED GLTF_NONNULL((8));
+
+/* Finds the accessor of the attribute with this meaning and set. `set` is not looked at for
+ * POSITION, NORMAL and TANGENT. Returns GLTF_NO_SUCH_INDEX if there is no such attribute, and for
+ * GLTF_CUSTOM. */
+GLTF_API gltf_status gltf_attribute_find(const gltf_file *file, size_t mesh, size_t primitive,
+                                         size_t target, unsigned int meaning, unsigned int set,
+                                         size_t *accessor) GLTF_CHECKED GLTF_NONNULL((7));
+
+/* Finds the material of a primitive in a variant (KHR_materials_variants). Returns
+ * GLTF_NO_SUCH_INDEX if the primitive has none for it: its own material applies then. No rule
+ * checks this index: gltf_material_info returns GLTF_NO_SUCH_INDEX if there is no such material. */
+GLTF_API gltf_status gltf_variant_material(const gltf_file *file, size_t mesh, size_t primitive,
+                                           size_t variant, size_t *material)
+    GLTF_CHECKED GLTF_NONNULL((5));
+
+/* ---- Materials, textures, images (3.8, 3.9, 5.18 to 5.22, 5.26, 5.29, 5.30) ------------------ */
+
+/* A texture in a material. */
+typedef struct gltf_texture_use {
+    size_t texture;             /* a texture, or GLTF_NONE: the other members have their defaults */
+    unsigned int tex_coord;     /* the set of texture coordinates; that of KHR_texture_transform if
+                                   it has one */
+    unsigned int has_transform; /* 1 if there is a KHR_texture_transform, else 0 */
+    double scale;               /* the scale of a normal texture, the strength of an occlusion
+                                   texture, and 1 of others */
+    double offset[2];           /* of KHR_texture_transform */
+    double rotation;            /* of KHR_texture_transform, in radians */
+    double size[2];             /* the `scale` of KHR_texture_transform */
+} gltf_texture_use;
+
+/* Bits of gltf_material.has: the extensions that the material has, and pbrMetallicRoughness. */
 enum {
-    GLTF_MATRIX = 0,      /* its place: 16 numbers, column by column; else the next three members */
-    GLTF_TRANSLATION = 1, /* x, y, z in metres; else 0, 0, 0 */
-    GLTF_ROTATION = 2,    /* a unit quaternion x, y, z, w; else 0, 0, 0, 1 */
-    GLTF_SCALE = 3,       /* along x, y, z; else 1, 1, 1 */
-    GLTF_NODE_WEIGHTS = 4 /* of the morph targets of its mesh; else those of the mesh */
+    GLTF_UNLIT = 1,
+    GLTF_SPECULAR_GLOSSINESS = 2,
+    GLTF_TRANSMISSION = 4,
+    GLTF_IOR = 8,
+    GLTF_EMISSIVE_STRENGTH = 16,
+    GLTF_VOLUME = 32,
+    GLTF_SPECULAR = 64,
+    GLTF_METALLIC_ROUGHNESS = 128
 };
+enum { GLTF_OPAQUE = 0, GLTF_MASK = 1, GLTF_BLEND = 2 };
 
-/* Where the bytes of an image are (glTF 2.0, section 3.8.3). No rule says that they lie in the
- * buffer: compare them with gltf_buffer_size before room is made for them. */
+/* Other extensions of materials (clearcoat, sheen, iridescence ..) come from gltf_json. */
+typedef struct gltf_material {
+    unsigned int alpha_mode;   /* GLTF_OPAQUE .. GLTF_BLEND */
+    unsigned int double_sided; /* 1 or 0 */
+    unsigned int has;          /* GLTF_UNLIT | .. */
+    unsigned int reserved_word;
+    double alpha_cutoff;
+    double base_color_factor[4];
+    double metallic_factor;
+    double roughness_factor;
+    double emissive_factor[3];
+    gltf_texture_use base_color;
+    gltf_texture_use metallic_roughness;
+    gltf_texture_use normal;
+    gltf_texture_use occlusion;
+    gltf_texture_use emissive;
+    /* KHR_materials_pbrSpecularGlossiness */
+    double diffuse_factor[4];
+    double specular_glossiness_factor[3]; /* its specularFactor */
+    double glossiness_factor;
+    gltf_texture_use diffuse;
+    gltf_texture_use specular_glossiness;
+    /* KHR_materials_transmission, KHR_materials_ior, KHR_materials_emissive_strength */
+    double transmission_factor;
+    double ior;
+    double emissive_strength;
+    gltf_texture_use transmission;
+    /* KHR_materials_volume. An absent attenuationDistance is DBL_MAX */
+    double thickness_factor;
+    double attenuation_distance;
+    double attenuation_color[3];
+    gltf_texture_use thickness;
+    /* KHR_materials_specular */
+    double specular_factor;
+    double specular_color_factor[3];
+    gltf_texture_use specular;
+    gltf_texture_use specular_color;
+    size_t reserved[8];
+} gltf_material;
+
+/* Fills in a material. The index GLTF_NONE is the default material (3.9.6). */
+GLTF_API gltf_status gltf_material_info(const gltf_file *file, size_t index, gltf_material *out)
+    GLTF_CHECKED GLTF_NONNULL((3));
+
+/* The filters and wrapping modes of this struct and the next are the numbers of glTF (5.26): 9728
+ * to 9987, and 33071, 33648 and 10497. */
+typedef struct gltf_sampler {
+    unsigned int mag_filter; /* 0 if it is absent */
+    unsigned int min_filter; /* 0 if it is absent */
+    unsigned int wrap_s;
+    unsigned int wrap_t;
+    size_t reserved[2];
+} gltf_sampler;
+
+GLTF_API gltf_status gltf_sampler_info(const gltf_file *file, size_t index, gltf_sampler *out)
+    GLTF_CHECKED GLTF_NONNULL((3));
+
+typedef struct gltf_texture {
+    size_t image;            /* an image, or GLTF_NONE */
+    size_t sampler;          /* a sampler, or GLTF_NONE: the next four are the defaults */
+    unsigned int mag_filter; /* as in gltf_sampler */
+    unsigned int min_filter;
+    unsigned int wrap_s;
+    unsigned int wrap_t;
+    size_t reserved[2];
+} gltf_texture;
+
+GLTF_API gltf_status gltf_texture_info(const gltf_file *file, size_t index, gltf_texture *out)
+    GLTF_CHECKED GLTF_NONNULL((3));
+
+/* An image is either in a buffer view, or at the URI that gltf_text(.., GLTF_IMAGE_URI, ..) copies.
+ * Images are not decoded. */
 typedef struct gltf_image {
-    unsigned int has_view; /* 1 where they are in a buffer, else 0: then gltf_image_uri says it */
-    size_t buffer;         /* that buffer, or 0 */
-    size_t offset;         /* the place of the first byte in it, or 0 */
-    size_t size;           /* how many bytes they are, or 0 */
+    size_t view;                /* a buffer view, or GLTF_NONE */
+    const unsigned char *bytes; /* its bytes; NULL if there is no view, or the view is not inside
+                                   its buffer, or the buffer waits */
+    size_t size;                /* the byteLength of the view, or 0 */
+    size_t reserved[2];
 } gltf_image;
 
-/* Opens a file from its `size` bytes: a GLB container where they begin with `glTF`, else JSON text
- * (glTF 2.0, sections 2.8, 3.6.1 and 4.4). Buffers are in the BIN chunk and in data URIs; no
- * other file is read. What is needed is copied: the bytes may be freed then. What `file` held
- * before is dropped.
- *
- * GLTF_SUCCESS exactly where container, text, records, rules and the buffers hold, and there was
- * memory: then `file` holds that document and those buffers, and no others are in the bytes. The
- * rules are that indices are in range, codes are known, that which is required is there, and no
- * extension is required that is not known; not what the format says of alignment, strides, bounds
- * and units, and not that nodes make up trees. Else `file` is closed, and the status is that of the
- * first of these layers that does not hold; then the bytes are not accepted at any other time
- * either. Or it is GLTF_NO_MEMORY, which says nothing of the bytes.
- *
- * `message` gets the text of the error, cut to `message_size` - 1 bytes, with a zero byte after
- * it, or an empty text; with a size of 0 nothing is written. Where there was no memory for the text
- * it says just that, and the status is what it would have been. Two things are tested and not
- * proved: which text it is where the file is no JSON (GLTF_BAD_JSON) or a payload no base64
- * (GLTF_BAD_BASE64), and that there was no memory where the message says so. */
-gltf_status gltf_open(const void *bytes, size_t size, gltf_file *file, char *message,
-                      size_t message_size);
+GLTF_API gltf_status gltf_image_info(const gltf_file *file, size_t index, gltf_image *out)
+    GLTF_CHECKED GLTF_NONNULL((3));
 
-/* Gives back all that a file took, and leaves it closed. */
-void gltf_close(gltf_file *file);
+/* ---- Scenes, nodes, skins (3.5, 3.7.3, 5.25, 5.27, 5.28) ------------------------------------- */
 
-/* How many records of a kind (GLTF_BUFFERS ..) there are; 0 of a closed file or another kind. */
-size_t gltf_count(gltf_file *file, unsigned int kind);
+/* The scene to show at first (5.17.12). Returns GLTF_NO_SUCH_INDEX if the file names none. */
+GLTF_API gltf_status gltf_default_scene(const gltf_file *file, size_t *scene)
+    GLTF_CHECKED GLTF_NONNULL((2));
 
-/* What accessor `index` is. GLTF_SUCCESS, GLTF_CLOSED or GLTF_NO_SUCH_INDEX. */
-gltf_status gltf_accessor_info(gltf_file *file, size_t index, gltf_accessor *out);
+typedef struct gltf_scene {
+    size_t nodes; /* the number of root nodes: gltf_list(.., GLTF_SCENE_NODES, ..) */
+    size_t reserved[2];
+} gltf_scene;
 
-/* Writes the items of accessor `index` to the front of `out`, one after the other, count *
- * item_size bytes: those of its view, or zeros, with sparse values in place of some (glTF 2.0,
- * section 3.6.2). What follows them in `out` stays.
- *
- * GLTF_CLOSED where the file is closed, else GLTF_NO_SUCH_INDEX where there is no such accessor,
- * else GLTF_UNREADABLE where it has neither a view nor sparse values, or where one of its parts,
- * items, stored indices or sparse values, has a count of 0, a view that does not lie in its buffer
- * or does not hold the part, or a byteStride above 0 and below the part's item size; else
- * GLTF_NO_ROOM where the items are more than `out_size` bytes, else GLTF_SUCCESS; each exactly
- * there. */
-gltf_status gltf_accessor_read(gltf_file *file, size_t index, void *out, size_t out_size);
+GLTF_API gltf_status gltf_scene_info(const gltf_file *file, size_t index, gltf_scene *out)
+    GLTF_CHECKED GLTF_NONNULL((3));
 
-/* How many bytes buffer `index` has: a multiple of 4, at least as many as it declares, filled up
- * with zeros. GLTF_SUCCESS, GLTF_CLOSED or GLTF_NO_SUCH_INDEX. */
-gltf_status gltf_buffer_size(gltf_file *file, size_t index, size_t *out);
+/* Bits of gltf_node.has: the members that the file has. */
+enum { GLTF_HAS_MATRIX = 1, GLTF_HAS_TRANSLATION = 2, GLTF_HAS_ROTATION = 4, GLTF_HAS_SCALE = 8 };
 
-/* Fills `out` with the `out_size` bytes of buffer `index` from `offset` on. GLTF_SUCCESS,
- * GLTF_CLOSED, GLTF_NO_SUCH_INDEX, or GLTF_OUT_OF_RANGE where the buffer has not so many. */
-gltf_status gltf_buffer_read(gltf_file *file, size_t index, size_t offset, void *out,
-                             size_t out_size);
+typedef struct gltf_node {
+    size_t mesh;             /* or GLTF_NONE, as the next three */
+    size_t skin;
+    size_t camera;
+    size_t light;            /* of KHR_lights_punctual */
+    size_t children;         /* their number: gltf_list(.., GLTF_NODE_CHILDREN, ..) */
+    size_t weights;          /* their number: gltf_numbers(.., GLTF_NODE_WEIGHTS, ..) */
+    unsigned int has;        /* GLTF_HAS_MATRIX | ..; a matrix that the file has applies in place of
+                                the three other members */
+    unsigned int reserved_word;
+    double matrix[16];       /* column by column */
+    double translation[3];
+    double rotation[4];      /* a unit quaternion: x, y, z, w */
+    double scale[3];
+    size_t reserved[4];
+} gltf_node;
 
-/* How many primitives mesh `mesh` has. GLTF_SUCCESS, GLTF_CLOSED or GLTF_NO_SUCH_INDEX. */
-gltf_status gltf_primitive_count(gltf_file *file, size_t mesh, size_t *out);
+GLTF_API gltf_status gltf_node_info(const gltf_file *file, size_t index, gltf_node *out)
+    GLTF_CHECKED GLTF_NONNULL((3));
 
-/* What primitive `primitive` of mesh `mesh` is. GLTF_SUCCESS, GLTF_CLOSED, or GLTF_NO_SUCH_INDEX
- * where there is no such mesh, or no such primitive in it. */
-gltf_status gltf_primitive_info(gltf_file *file, size_t mesh, size_t primitive,
-                                gltf_primitive *out);
+typedef struct gltf_skin {
+    size_t joints;                /* their number: gltf_list(.., GLTF_SKIN_JOINTS, ..) */
+    size_t skeleton;              /* a node, or GLTF_NONE */
+    size_t inverse_bind_matrices; /* an accessor, or GLTF_NONE: all are the unit matrix */
+    size_t reserved[2];
+} gltf_skin;
 
-/* The index of the accessor of an attribute of a primitive, by its meaning (GLTF_POSITION ..) and
- * the number of its set, which is looked at from GLTF_COLOR on (glTF 2.0, section 3.7.2.1).
- * GLTF_SUCCESS, GLTF_CLOSED, or GLTF_NO_SUCH_INDEX where there is no such mesh, primitive or
- * meaning, or the primitive has no such attribute. */
-gltf_status gltf_attribute(gltf_file *file, size_t mesh, size_t primitive, unsigned int meaning,
-                           unsigned int set, size_t *out);
+GLTF_API gltf_status gltf_skin_info(const gltf_file *file, size_t index, gltf_skin *out)
+    GLTF_CHECKED GLTF_NONNULL((3));
 
-/* What node `index` is. GLTF_SUCCESS, GLTF_CLOSED or GLTF_NO_SUCH_INDEX. */
-gltf_status gltf_node_info(gltf_file *file, size_t index, gltf_node *out);
+/* ---- Animations (3.11, 5.5 to 5.8) ----------------------------------------------------------- */
 
-/* The node that is child number `position` of node `node`. No rule says that nodes make up trees:
- * a node may be below itself. GLTF_SUCCESS, GLTF_CLOSED, or GLTF_NO_SUCH_INDEX where there is no
- * such node, or it has not so many children. */
-gltf_status gltf_node_child(gltf_file *file, size_t node, size_t position, size_t *out);
+typedef struct gltf_animation {
+    size_t channels; /* their number */
+    size_t samplers; /* their number */
+    size_t reserved[2];
+} gltf_animation;
 
-/* Number `position` of a member (GLTF_MATRIX ..) of node `node`, as the nearest double (glTF 2.0,
- * section 3.5.3). No rule says how many numbers a member has. GLTF_SUCCESS, GLTF_CLOSED, or
- * GLTF_NO_SUCH_INDEX where there is no such node, the node has no such member, or there is no
- * number at that position. */
-gltf_status gltf_node_number(gltf_file *file, size_t node, unsigned int member, size_t position,
-                             double *out);
+GLTF_API gltf_status gltf_animation_info(const gltf_file *file, size_t index, gltf_animation *out)
+    GLTF_CHECKED GLTF_NONNULL((3));
 
-/* The node that is root number `position` of scene `scene` (glTF 2.0, section 5.27). GLTF_SUCCESS,
- * GLTF_CLOSED, or GLTF_NO_SUCH_INDEX where there is no such scene, or it has not so many. */
-gltf_status gltf_scene_node(gltf_file *file, size_t scene, size_t position, size_t *out);
+enum { GLTF_PATH_TRANSLATION = 0, GLTF_PATH_ROTATION = 1, GLTF_PATH_SCALE = 2,
+       GLTF_PATH_WEIGHTS = 3 };
+enum { GLTF_LINEAR = 0, GLTF_STEP = 1, GLTF_CUBIC_SPLINE = 2 };
 
-/* Where the bytes of image `index` are. GLTF_SUCCESS, GLTF_CLOSED or GLTF_NO_SUCH_INDEX. */
-gltf_status gltf_image_info(gltf_file *file, size_t index, gltf_image *out);
+/* A channel of an animation, and its sampler. */
+typedef struct gltf_channel {
+    size_t node;                /* a node, or GLTF_NONE: ignore the channel (5.7.1) */
+    unsigned int path;          /* GLTF_PATH_TRANSLATION .. GLTF_PATH_WEIGHTS */
+    unsigned int interpolation; /* GLTF_LINEAR .. GLTF_CUBIC_SPLINE */
+    size_t sampler;             /* its position in the animation */
+    size_t input;               /* an accessor: times in seconds */
+    size_t output;              /* an accessor: values, three for each time of a
+                                   GLTF_CUBIC_SPLINE */
+    size_t reserved[2];
+} gltf_channel;
 
-/* THE CALLS THAT GIVE A TEXT write it, in UTF-8, to the front of `text`, cut to `text_size` - 1
- * bytes, with a zero byte after it; with a size of 0 they write none of it. `*length` is given the
- * bytes of the whole text, without that zero, so the text was cut where `*length` >= `text_size`. A
- * cut may split a character, and a text may hold zero bytes. GLTF_SUCCESS, GLTF_CLOSED, or
- * GLTF_NO_SUCH_INDEX where there is no such record, or it has no such text. */
+/* Fills in channel number `channel` of an animation. */
+GLTF_API gltf_status gltf_channel_info(const gltf_file *file, size_t animation, size_t channel,
+                                       gltf_channel *out) GLTF_CHECKED GLTF_NONNULL((4));
 
-/* The URI of image `index` (glTF 2.0, section 5.18.1), as it is in the document. */
-gltf_status gltf_image_uri(gltf_file *file, size_t index, char *text, size_t text_size,
-                           size_t *length);
+/* ---- Cameras and lights (5.12 to 5.14; KHR_lights_punctual) ---------------------------------- */
 
-/* The media type of image `index` (glTF 2.0, section 5.18.2), as `image/png`. */
-gltf_status gltf_image_mime_type(gltf_file *file, size_t index, char *text, size_t text_size,
-                                 size_t *length);
+typedef struct gltf_camera {
+    unsigned int orthographic; /* 1: xmag and ymag apply; 0: yfov and aspect_ratio apply. The others
+                                  are 0 */
+    unsigned int reserved_word;
+    double znear;
+    double zfar;         /* 0 if it is absent: the projection is infinite */
+    double xmag;
+    double ymag;
+    double yfov;         /* in radians */
+    double aspect_ratio; /* 0 if it is absent: that of the window */
+    size_t reserved[2];
+} gltf_camera;
 
-/* The name of record `index` of a kind (GLTF_BUFFERS ..). */
-gltf_status gltf_name(gltf_file *file, unsigned int kind, size_t index, char *text,
-                      size_t text_size, size_t *length);
+GLTF_API gltf_status gltf_camera_info(const gltf_file *file, size_t index, gltf_camera *out)
+    GLTF_CHECKED GLTF_NONNULL((3));
+
+enum { GLTF_DIRECTIONAL = 0, GLTF_POINT = 1, GLTF_SPOT = 2 };
+
+typedef struct gltf_light {
+    unsigned int type; /* GLTF_DIRECTIONAL .. GLTF_SPOT */
+    unsigned int reserved_word;
+    double color[3];
+    double intensity;
+    double range;            /* 0 if it is absent: infinite */
+    double inner_cone_angle; /* in radians */
+    double outer_cone_angle;
+    size_t reserved[2];
+} gltf_light;
+
+GLTF_API gltf_status gltf_light_info(const gltf_file *file, size_t index, gltf_light *out)
+    GLTF_CHECKED GLTF_NONNULL((3));
 
 #ifdef __cplusplus
 }

@@ -63,7 +63,7 @@ CRATES = {
         "users options bytes nothing".split(),
         ("two files/square.gltf", "two files/square data.bin"),
     ),
-    "gltf_extension_cases": ("extensions quantized".split(), ()),
+    "gltf_extension_cases": ("extensions quantized mended instances".split(), ()),
 }
 BYTES = r'"([^"]*)"|(\d+)\.(?!\S)|([0-9A-Fa-f]{2})×(\d+)|([0-9A-Fa-f]+)|\S+'
 # Lines at the margin, and lines below them that are not.

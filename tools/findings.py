@@ -4,6 +4,7 @@ is found in it, as (code, pointer), by hand from the standard: for each code one
 the rule and one that just does not. What nothing names, UNUSED_OBJECT, is left out of the rows.
 `make test` calls it after `rt ci`; arguments are another program to run. The last line is
 `N passed, M failed`."""
+import base64
 import json
 import pathlib
 import subprocess
@@ -74,11 +75,15 @@ ROWS = [
 ]
 
 
+ZEROS = "data:;base64," + base64.b64encode(bytes(64)).decode()
+
+
 def in_view(color, offset=0, **view):
     """Colors in a view."""
     placed = accessor("VEC3", color, normalized=True, bufferView=0, byteOffset=offset)
     return attributes(COLOR_0=placed) | {
-        "buffers": [{"byteLength": 64}], "bufferViews": [{"buffer": 0, "byteLength": 64} | view]}
+        "buffers": [{"byteLength": 64, "uri": ZEROS}],
+        "bufferViews": [{"buffer": 0, "byteLength": 64} | view]}
 
 
 UNALIGNED = [("MESH_PRIMITIVE_ACCESSOR_UNALIGNED", f"{ATTRIBUTES}/COLOR_0")]
@@ -176,7 +181,7 @@ def animated(path, output, times=2, interpolation="LINEAR", targets=2, mesh=True
     sampler = {"input": 3, "output": 4, "interpolation": interpolation}
     return made | {
         "accessors": made["accessors"] + [time, output],
-        "nodes": [{"mesh": 0} if mesh else {}],
+        "nodes": [{"mesh": 0} if mesh else {"extras": "no mesh"}],
         "animations": [{"channels": [channel], "samplers": [sampler]}],
     }
 
@@ -202,6 +207,104 @@ ROWS += [
     (animated("weights", accessor("VEC2", count=4)), OUTPUT_FORMAT),
     (animated("weights", accessor("SCALAR", count=2), targets=0), NO_MORPHS + OUTPUT_COUNT),
     (animated("weights", accessor("SCALAR", count=2), mesh=False), NO_MORPHS + OUTPUT_COUNT),
+]
+
+
+def nodes(*nodes, **members):
+    return {"nodes": [*nodes], **members}
+
+
+ROOTED = {"extras": "a root"}
+CHILD = [("SCENE_NON_ROOT_NODE", "/scenes/0/nodes/1")]
+# The nodes of scenes are roots (3.5.1).
+ROWS += [
+    (nodes(ROOTED, ROOTED, scenes=[{"nodes": [0, 1]}]), []),
+    (nodes({"children": [1]}, ROOTED, scenes=[{"nodes": [0, 1]}]), CHILD),
+    (nodes({"children": [1]}, ROOTED, scenes=[{"nodes": [0]}]), []),
+    (nodes({"children": [2]}, ROOTED, scenes=[{"nodes": [0, 2]}]),
+     [("UNRESOLVED_REFERENCE", "/nodes/0/children/0"), ("UNRESOLVED_REFERENCE", "/scenes/0/nodes/1")]),
+]
+
+EMPTY = [("NODE_EMPTY", "/nodes/0")]
+# Empty nodes (5.25).
+ROWS += [
+    (nodes({}), EMPTY),
+    (nodes({"name": "a", "translation": [0, 0, 0]}), EMPTY),
+    (nodes({"children": [1]}, ROOTED), []),
+    (nodes({"extras": 0}), []),
+    (nodes({"extensions": {"EXT_mine": {}}}, extensionsUsed=["EXT_mine"]),
+     [("UNSUPPORTED_EXTENSION", "/extensionsUsed/0")]),
+    (nodes({}, skins=[{"joints": [0]}]), []),
+    (nodes({}, ROOTED, skins=[{"joints": [1]}]), EMPTY),
+    (nodes({"camera": 0}, cameras=[{"type": "perspective", "perspective": {"yfov": 1, "znear": 1}}]),
+     []),
+]
+
+
+def twice(place):
+    return [("DUPLICATE_ELEMENTS", place)]
+
+
+# Lists that name a node twice (5.25, 5.27 and 5.28). A list of children breaks the tree, too.
+ROWS += [
+    (nodes(ROOTED, ROOTED, scenes=[{"nodes": [0, 1, 0]}]), twice("/scenes/0/nodes/2")),
+    (nodes(ROOTED, ROOTED, scenes=[{"nodes": [0, 1]}, {"nodes": [1, 0]}]), []),
+    (nodes(ROOTED, ROOTED, scenes=[{"nodes": [0, 0]}, {"nodes": [1, 0, 1]}]),
+     twice("/scenes/0/nodes/1") + twice("/scenes/1/nodes/2")),
+    (nodes({}, {}, skins=[{"joints": [0, 1]}, {"joints": [1, 1, 1]}]),
+     twice("/skins/1/joints/1") + twice("/skins/1/joints/2")),
+    (nodes({"children": [1, 1]}, ROOTED),
+     twice("/nodes/0/children/1") + [("NODE_PARENT_OVERRIDE", "/nodes/0/children/1")]),
+]
+
+
+def targets(*targets):
+    """An animation with these channels, of nodes 0 and 1."""
+    moved = animated("translation", accessor("VEC3", count=2))
+    channels = [{"sampler": 0, "target": {"node": node, "path": path}} for node, path in targets]
+    samplers = moved["animations"][0]["samplers"]
+    return moved | {"nodes": [{"mesh": 0}, {"mesh": 0}],
+                    "animations": [{"channels": channels, "samplers": samplers}]}
+
+
+def again(channel):
+    return [("ANIMATION_DUPLICATE_TARGETS", f"/animations/0/channels/{channel}/target")]
+
+
+# Targets of one animation (5.5).
+ROWS += [
+    (targets((0, "translation"), (0, "scale"), (1, "translation"), (1, "scale")), []),
+    (targets((0, "translation"), (0, "translation")), again(1)),
+    (targets((0, "scale"), (1, "scale"), (0, "scale"), (1, "scale")), again(2) + again(3)),
+    (targets((1, "translation"), (0, "scale"), (1, "translation"), (1, "translation")),
+     again(2) + again(3)),
+    (targets((2, "translation"), (2, "translation")),
+     [("UNRESOLVED_REFERENCE", f"/animations/0/channels/{i}/target/node") for i in range(2)]),
+]
+
+
+def version(text, **members):
+    return {"asset": {"version": text, **members}}
+
+
+FORM = [("PATTERN_MISMATCH", "/asset/version")]
+MAJOR = [("UNKNOWN_ASSET_MAJOR_VERSION", "/asset/version")]
+LEAST_FORM = [("PATTERN_MISMATCH", "/asset/minVersion")]
+LEAST = [("ASSET_MIN_VERSION_GREATER_THAN_VERSION", "/asset/minVersion")]
+HUGE = "9" * 30
+# Versions (3.2 and 5.9).
+ROWS += [
+    *((version(text), []) for text in ("2.0", "2.1", "02.00", f"2.{HUGE}")),
+    *((version(text), FORM) for text in ("", "2", "2.", ".0", "2.0.0", "v2.0", "2.0 ", "2,0", "2.x")),
+    *((version(text), MAJOR) for text in ("1.0", "3.0", "20.0", "22.0", "0.2", "00.0", f"{HUGE}.0")),
+    *((version("2.0", minVersion=text), []) for text in ("2.0", "1.9", "02.0", "2.00", "0.1")),
+    *((version("2.0", minVersion=text), LEAST) for text in ("2.1", "3.0", "2.01", f"2.{HUGE}", "10.0")),
+    (version("2.10", minVersion="2.9"), []),
+    (version("2.9", minVersion="2.10"), LEAST),
+    (version("2.19", minVersion="2.21"), LEAST),
+    (version("2.0", minVersion="2"), LEAST_FORM),
+    (version("2", minVersion="3.0"), FORM),
+    (version("1.0", minVersion="1.1"), MAJOR + LEAST),
 ]
 
 

@@ -29,6 +29,8 @@ PARTS = (
     ["python3", "tools/programs.py"],
     ["python3", "tools/findings.py"],
     ["python3", "tools/c.py", "after-ci"],
+    ["python3", "tools/python.py"],
+    ["python3", "tools/fuzz.py", "--regressions"],
 )
 # The most memory that a check was seen to take, and some more.
 MEMORY_OF_A_CHECK = 4 << 30

@@ -1,9 +1,11 @@
 #!/usr/bin/env python3
 """Installs what is built of the present sources: the proved programs, which `make prove` builds,
 and the library for C, which `make c` builds: `make install PREFIX=..`. It reports what is missing.
+With the word `uninstall` it removes what it installed to the same folders.
 
-GLTF_PREFIX is the folder, relative to the one that make was called in, GLTF_FROM. DESTDIR is put
-in front of it."""
+GLTF_PREFIX is the folder, relative to the one that make was called in, GLTF_FROM. LIBDIR,
+INCLUDEDIR and MANDIR are folders of the library, by default in that folder. DESTDIR is put in front
+of all."""
 import os
 import pathlib
 import shutil
@@ -11,7 +13,7 @@ import sys
 
 sys.dont_write_bytecode = True
 
-import c
+import c_install
 import crates
 
 
@@ -25,18 +27,16 @@ def install_program(program, folder):
     print(folder / program)
 
 
-def main():
+def install(prefix, destination):
     programs = [program for program in crates.PROGRAMS if crates.is_fresh(program)]
-    has_library = crates.is_built_of(c.LIBRARY, "gltf_c")
+    has_library = c_install.is_built()
     if not programs and not has_library:
         sys.exit("make install: nothing is built of these sources: make prove proves and builds "
                  "the programs, and make c the library for C")
-    prefix = os.path.join(os.environ.get("GLTF_FROM", ""), os.environ["GLTF_PREFIX"])
-    place = pathlib.Path(os.environ.get("DESTDIR", "") + os.path.abspath(prefix))
     for program in programs:
-        install_program(program, place / "bin")
+        install_program(program, pathlib.Path(f"{destination}{prefix}/bin"))
     if has_library:
-        c.install(place)
+        c_install.install(prefix, os.environ, destination)
     for program in crates.PROGRAMS:
         if program not in programs:
             print(f"{program} is not built of these sources: make prove proves and builds it")
@@ -44,7 +44,28 @@ def main():
         print("the library for C is not built of these sources: make c proves and builds it")
 
 
+def uninstall(prefix, destination):
+    for program in crates.PROGRAMS:
+        file = pathlib.Path(f"{destination}{prefix}/bin/{program}")
+        if file.exists():
+            file.unlink()
+            print(file)
+    c_install.uninstall(prefix, os.environ, destination)
+
+
+def main():
+    where = os.environ.get("GLTF_FROM", "")
+    prefix = os.path.abspath(os.path.join(where, os.environ["GLTF_PREFIX"]))
+    destination = os.environ.get("DESTDIR", "")
+    if destination:
+        destination = os.path.abspath(os.path.join(where, destination))
+    if "uninstall" in sys.argv[1:]:
+        uninstall(prefix, destination)
+    else:
+        install(prefix, destination)
+
+
 try:
     main()
 except OSError as error:
-    sys.exit(f"make install: {error.filename}: {error.strerror}")
+    sys.exit(f"make {' '.join(sys.argv[1:]) or 'install'}: {error.filename}: {error.strerror}")

@@ -2,6 +2,7 @@
 """Runs the proved programs `gltf_show`, `gltf_repack` and `gltf_convert` on files that it makes. A
 row is a call: its words, its status, and what it writes; and after the last two what is in the folder.
 `make test` calls it after `rt ci`. The last line is `N passed, M failed`."""
+import base64
 import json
 import os
 import pathlib
@@ -81,6 +82,8 @@ WHOLE = container(chunk(b"JSON", b"{}  "), chunk(b"BIN\0", bytes([1, 2, 3, 4, 5,
 UNKNOWN = container(chunk(b"JSON", b"{}  "), chunk(b"XYZ\0", b"\xAA\xBB"), chunk(b"BIN\0", b"1234"))
 # The numbers 1 and 2, of two bytes each.
 NUMBERS = [(4, "data:;base64,AQACAA==")]
+# Twelve bytes that are 0.
+TWELVE = [(12, "data:;base64,AAAAAAAAAAAAAAAA")]
 # The numbers 1, 0, 2 and 0 of one byte each; the index 1, and the 9 that it has in place of the 0.
 REPLACED = [(6, "data:;base64,AQACAAEJ")]
 SPARSE = {
@@ -92,6 +95,25 @@ SPARSE = {
 
 def with_numbers(*accessors, **members):
     return document(bufferViews=[view(0, 4)], accessors=[*accessors], **members)
+
+
+def drawn(vertices, *indices, mode=4):
+    """A primitive with so many positions, which are 0, and these indices, of one byte each."""
+    data = bytes(12 * vertices) + bytes(indices)
+    uri = "data:;base64," + base64.b64encode(data).decode()
+    positions = {"bufferView": 0, "componentType": 5126, "count": vertices, "type": "VEC3",
+                 "min": [0, 0, 0], "max": [0, 0, 0]}
+    numbers = {"bufferView": 1, "componentType": 5121, "count": len(indices), "type": "SCALAR"}
+    primitive = {"attributes": {"POSITION": 0}, "indices": 1, "mode": mode}
+    return document(
+        buffers=buffers((len(data), uri)),
+        bufferViews=[view(0, 12 * vertices), view(12 * vertices, len(indices))],
+        accessors=[positions, numbers],
+        meshes=[{"name": "tri", "primitives": [primitive]}],
+        nodes=[{"mesh": 0}, {"mesh": 0}],
+        scenes=[{"nodes": [0, 1]}],
+        scene=0,
+    )
 
 
 def shown(room):
@@ -118,6 +140,8 @@ def shown(room):
         "more.gltf": more,
         "outside.gltf": outside,
         "models/outside.gltf": outside,
+        "models/far.gltf": document(buffers=buffers((4, "near.bin"))),
+        "models/near.bin": b"near",
         "models/b c.bin": struct.pack("<2H", 3, 4),
         "b c.bin": struct.pack("<2H", 1, 2),
         "short.gltf": document(buffers=buffers((5, f"file://{room}/abc"))),
@@ -129,16 +153,34 @@ def shown(room):
         "twice.gltf": document(nodes=[{"children": [2]}, {"children": [2]}, {}]),
         "once.gltf": document(nodes=[{"children": [1]}, {}]),
         "past.gltf": document(
-            buffers=[{"byteLength": 12}],
+            buffers=buffers(*TWELVE),
             bufferViews=[{"buffer": 0, "byteLength": 12, "byteOffset": 1}],
             accessors=[{"bufferView": 0, "byteOffset": 2, "componentType": 5126, "count": 1,
                         "type": "VEC3"}],
         ),
         "fits.gltf": document(
-            buffers=[{"byteLength": 12}],
+            buffers=buffers(*TWELVE),
             bufferViews=[{"buffer": 0, "byteLength": 12}],
             accessors=[{"bufferView": 0, "componentType": 5126, "count": 1, "type": "VEC3"}],
         ),
+        "blobless.gltf": document(buffers=[{"byteLength": 4}]),
+        "payload.gltf": document(buffers=buffers((4, "data:;base64,****"))),
+        "kind.gltf": document(nodes=[{"children": [True]}]),
+        "list.gltf": document(nodes={}),
+        "text.gltf": b'{"asset":',
+        "tiny.glb": b"glTF\2\0\0\0\14\0\0",
+        "short.glb": b"glTF\2\0\0\0\13\0\0\0",
+        "headless.glb": b"glTF\2\0\0\0\20\0\0\0\4\0\0\0",
+        "first.glb": container(chunk(b"BIN\0", b"1234")),
+        "strange.glb": container(chunk(b"XYZ\0", b"1234")),
+        "second.glb": container(chunk(b"JSON", b"{}  "), chunk(b"JSON", b"{}  ")),
+        "big.glb": container(chunk(b"JSON", b"{}  "), struct.pack("<I4s", 8, b"BIN\0")),
+        "indices.gltf": drawn(3, 0, 1, 2),
+        "above.gltf": drawn(3, 0, 1, 3),
+        "restart.gltf": drawn(3, 0, 1, 255),
+        "thin.gltf": drawn(3, 2, 1, 2),
+        "strip.gltf": drawn(3, 2, 1, 2, mode=5),
+        "named.gltf": document(materials=[{"name": "a\tb</script>"}]),
     }
     for name in ("missing", "folder", "locked", LONG):
         files[f"names {name[:9]}.gltf"] = document(buffers=buffers((1, name)))
@@ -146,7 +188,7 @@ def shown(room):
 
 
 USAGE = ("usage: gltf_show chunks PATH | check PATH | indices PATH MESH PRIMITIVE | "
-         "inspect PATH.. [--json]\n")
+         "inspect PATH.. [--json [--pretty]] [--no-files] | inspect PATH --html [--no-files]\n")
 FIRST = "this is a glTF 1.0 file; glTF 2.0 is supported\n"
 DANGLING = ("invalid glTF: nodes[0].mesh: Index out of bounds; "
             "nodes[0].skin: Index out of bounds;\n")
@@ -223,21 +265,60 @@ SENTENCES = {
         "The offset and that of the view together are not a multiple of the size of a component.",
     "ACCESSOR_TOO_LONG": "The items do not fit into the view.",
     "BUFFER_VIEW_TOO_LONG": "The view does not fit into its buffer.",
+    "IO_ERROR": "A file cannot be read.",
+    "INVALID_URI": "The URI cannot be decoded.",
+    "BUFFER_MISSING_GLB_DATA":
+        "The buffer has no uri, and the file has no binary chunk for it.",
+    "BUFFER_BYTE_LENGTH_MISMATCH": "The buffer has fewer bytes than its byteLength.",
+    "GLB_INVALID_VERSION": "The version of the container is not 2.",
+    "GLB_LENGTH_TOO_SMALL": "The length in the header is less than that of the header.",
+    "GLB_LENGTH_MISMATCH": "The length in the header is not that of the file.",
+    "GLB_UNEXPECTED_END_OF_HEADER": "The file ends within the header.",
+    "GLB_UNEXPECTED_END_OF_CHUNK_HEADER": "The file ends within the header of a chunk.",
+    "GLB_CHUNK_TOO_BIG": "The chunk is longer than what is left of the file.",
+    "GLB_UNEXPECTED_FIRST_CHUNK": "The first chunk is not the JSON chunk.",
+    "GLB_DUPLICATE_CHUNK": "There is a chunk of this type already.",
+    "INVALID_JSON": "The text is not JSON.",
+    "UNDEFINED_PROPERTY": "A member is absent that has to be there.",
+    "TYPE_MISMATCH": "The value is not of the type that the standard gives this member.",
+    "ARRAY_TYPE_MISMATCH":
+        "The element is not of the type that the standard gives those of this list.",
+    "ACCESSOR_INDEX_OOB": "An index is at or above the number of vertices.",
+    "ACCESSOR_INDEX_PRIMITIVE_RESTART":
+        "An index is the greatest of its type, which would restart the primitive.",
+    "ACCESSOR_INDEX_TRIANGLE_DEGENERATE": "A triangle names a vertex twice.",
     "NODE_PARENT_OVERRIDE": "The node is a child already.",
+    "NODE_EMPTY": "The node is empty, and no skin has it as a joint.",
     "UNUSED_OBJECT": "No member of the document names this object.",
 }
 
 
-def told(name, *found, infos=0):
-    """The report of a file: what is found as (code, pointer), of which the last are infos."""
+PARTS = ["SCENES", "MESHES", "MATERIALS", "IMAGES", "ANIMATIONS", "BUFFERS"]
+
+
+def tables(**parts):
+    """The tables of a file that is loaded; each with its rows, none where it is not given."""
+    return "\n" + "".join(parts.get(part, f"{part}  none\n") for part in PARTS)
+
+
+def told(name, *found, infos=0, refused=None, holds=None):
+    """The report of a file: what is found as (code, pointer), of which the last are infos; why it
+    holds no document; and the tables, where it is loaded."""
     errors = len(found) - infos
     words = ["error"] * errors + ["info"] * infos
-    lines = [f"{word} {code} {pointer} {SENTENCES[code]}\n"
+    lines = [f"{word} {code} {pointer or '-'} {SENTENCES[code]}\n"
              for word, (code, pointer) in zip(words, found)]
-    return f"{name}\n{''.join(lines)}{errors} errors, 0 warnings, {infos} infos, 0 hints\n"
+    counts = f"FINDINGS  errors: {errors}, warnings: 0, infos: {infos}, hints: 0\n"
+    cause = f"refused: {refused}\n" if refused else ""
+    return f"{name}\n{counts}{''.join(lines)}{cause}{holds or ''}"
 
 
-def told_json(name, *found, infos=0):
+INFO = {"animationCount": 0, "drawCallCount": 0, "hasDefaultScene": False,
+        "hasMorphTargets": False, "hasSkins": False, "hasTextures": False, "materialCount": 0,
+        "totalVertexCount": 0, "version": "2.0"}
+
+
+def told_json(name, *found, infos=0, info=None):
     """The same as a line of JSON."""
     errors = len(found) - infos
     grades = [0] * errors + [2] * infos
@@ -245,7 +326,8 @@ def told_json(name, *found, infos=0):
                 for grade, (code, pointer) in zip(grades, found)]
     issues = {"messages": messages, "numErrors": errors, "numHints": 0, "numInfos": infos,
               "numWarnings": 0, "truncated": False}
-    whole = {"issues": issues, "uri": name, "validatorVersion": "gltf_inspect 1"}
+    whole = {**({"info": info} if info else {}), "issues": issues, "uri": name,
+             "validatorVersion": "gltf_inspect 1"}
     return json.dumps(whole, separators=(",", ":")) + "\n"
 
 
@@ -255,29 +337,108 @@ def unused(*pointers):
 
 LOST = [("UNRESOLVED_REFERENCE", "/nodes/0/mesh"), ("UNRESOLVED_REFERENCE", "/nodes/0/skin"),
         *unused("/nodes/0")]
-TWICE = [("NODE_PARENT_OVERRIDE", "/nodes/1/children/0"), *unused("/nodes/0", "/nodes/1")]
+EMPTY = "NODE_EMPTY"
+TWICE = [("NODE_PARENT_OVERRIDE", "/nodes/1/children/0"), *unused("/nodes/0", "/nodes/1"),
+         (EMPTY, "/nodes/2")]
 # Eleven bytes for an item of twelve, at an offset that is no multiple of four.
 PAST = [("ACCESSOR_OFFSET_ALIGNMENT", "/accessors/0/byteOffset"),
         ("ACCESSOR_TOTAL_OFFSET_ALIGNMENT", "/accessors/0/byteOffset"),
         ("ACCESSOR_TOO_LONG", "/accessors/0/byteOffset"),
         ("BUFFER_VIEW_TOO_LONG", "/bufferViews/0/byteLength"),
         *unused("/accessors/0")]
+TWELVE_TABLE = "BUFFERS\n# name storage  size uri\n0 -    data-uri 12   -\n"
+TWELVE_TABLES = tables(BUFFERS=TWELVE_TABLE)
+NAMED = "MATERIALS\n# name              instances alphaMode doubleSided\n" \
+    "0 a\\u0009b</script> 0         OPAQUE    false\n"
+INDICES = "/meshes/0/primitives/0/indices"
+
+
+def drawn_tables(mode):
+    wide = "mode     " if mode == "TRIANGLES" else "mode          "
+    return tables(
+        SCENES="SCENES\n# name roots\n0 -    2\n",
+        MESHES=f"MESHES\n# name {wide} primitives vertices indices attributes instances\n"
+               f"0 tri  {mode} 1          3        3       POSITION   2\n",
+        BUFFERS="BUFFERS\n# name storage  size uri\n0 -    data-uri 39   -\n",
+    )
+
+
+def single(name, code, pointer, refused):
+    """A file that holds no document, for one reason."""
+    return (["inspect", name], 1, told(name, (code, pointer), refused=refused), "")
+
+
+def of_indices(name, *found, infos=0, mode="TRIANGLES"):
+    text = told(name, *found, infos=infos, holds=drawn_tables(mode))
+    return (["inspect", name], 1 if len(found) > infos else 0, text, "")
+
+
+CUT, ENDED = "could not completely read the object", "failed to fill whole buffer"
+# A buffer in the folder of its file.
+FAR = "BUFFERS\n# name storage  size uri\n0 -    external 4    near.bin\n"
 
 SHOWS += [
-    (["inspect", "empty.gltf"], 0, told("empty.gltf"), ""),
+    (["inspect", "empty.gltf"], 0, told("empty.gltf", holds=tables()), ""),
     (["inspect", "dangling.gltf"], 1, told("dangling.gltf", *LOST, infos=1), ""),
-    (["inspect", "twice.gltf"], 1, told("twice.gltf", *TWICE, infos=2), ""),
-    (["inspect", "once.gltf"], 0, told("once.gltf", *unused("/nodes/0"), infos=1), ""),
-    (["inspect", "past.gltf"], 1, told("past.gltf", *PAST, infos=1), ""),
-    (["inspect", "fits.gltf"], 0, told("fits.gltf", *unused("/accessors/0"), infos=1), ""),
-    (["inspect", "--json", "past.gltf"], 1, told_json("past.gltf", *PAST, infos=1), ""),
+    (["inspect", "twice.gltf"], 1, told("twice.gltf", *TWICE, infos=3, holds=tables()), ""),
+    (["inspect", "once.gltf"], 0,
+     told("once.gltf", *unused("/nodes/0"), (EMPTY, "/nodes/1"), infos=2, holds=tables()), ""),
+    (["inspect", "past.gltf"], 1, told("past.gltf", *PAST, infos=1, holds=TWELVE_TABLES), ""),
+    (["inspect", "fits.gltf"], 0,
+     told("fits.gltf", *unused("/accessors/0"), infos=1, holds=TWELVE_TABLES), ""),
+    (["inspect", "named.gltf"], 0,
+     told("named.gltf", *unused("/materials/0"), infos=1, holds=tables(MATERIALS=NAMED)), ""),
+    (["inspect", "--json", "past.gltf"], 1, told_json("past.gltf", *PAST, infos=1, info=INFO), ""),
     (["inspect", "twice.gltf", "empty.gltf", "--json"], 1,
-     told_json("twice.gltf", *TWICE, infos=2) + told_json("empty.gltf"), ""),
-    (["inspect", "missing", "empty.gltf"], 2, told("empty.gltf"), Failed("missing")),
-    (["inspect", "box.glb", "empty.gltf"], 1, told("empty.gltf"),
-     "box.glb: asset: missing member\n"),
+     told_json("twice.gltf", *TWICE, infos=3, info=INFO) + told_json("empty.gltf", info=INFO), ""),
+    (["inspect", "missing", "empty.gltf"], 2, told("empty.gltf", holds=tables()),
+     Failed("missing")),
+    (["inspect", "box.glb", "empty.gltf"], 1,
+     told("box.glb", ("UNDEFINED_PROPERTY", "/asset"), refused="asset: missing member")
+     + told("empty.gltf", holds=tables()), ""),
+    single("old.glb", "GLB_INVALID_VERSION", "", "unsupported version"),
+    single("cut.glb", "GLB_LENGTH_MISMATCH", "", CUT),
+    single("tiny.glb", "GLB_UNEXPECTED_END_OF_HEADER", "", ENDED),
+    single("short.glb", "GLB_LENGTH_TOO_SMALL", "", CUT),
+    single("headless.glb", "GLB_UNEXPECTED_END_OF_CHUNK_HEADER", "", ENDED),
+    single("first.glb", "GLB_UNEXPECTED_FIRST_CHUNK", "", r"was not expecting BIN\0 chunk"),
+    single("strange.glb", "GLB_UNEXPECTED_FIRST_CHUNK", "", "unknown chunk type"),
+    single("second.glb", "GLB_DUPLICATE_CHUNK", "", "was not expecting JSON chunk"),
+    single("big.glb", "GLB_CHUNK_TOO_BIG", "", r"BIN\0 chunk length exceeds that of slice"),
+    single("text.gltf", "INVALID_JSON", "", "EOF while parsing at line 1 column 9"),
+    single("list.gltf", "TYPE_MISMATCH", "/nodes", "nodes: wrong kind"),
+    single("kind.gltf", "ARRAY_TYPE_MISMATCH", "/nodes/0/children/0",
+           "nodes[0].children[0]: wrong kind"),
+    (["inspect", "short.gltf"], 1,
+     told("short.gltf", ("BUFFER_BYTE_LENGTH_MISMATCH", "/buffers/0"), *unused("/buffers/0"),
+          infos=1), ""),
+    (["inspect", "blobless.gltf"], 1,
+     told("blobless.gltf", ("BUFFER_MISSING_GLB_DATA", "/buffers/0"), *unused("/buffers/0"),
+          infos=1), ""),
+    (["inspect", "payload.gltf"], 1,
+     told("payload.gltf", ("INVALID_URI", "/buffers/0/uri"), *unused("/buffers/0"), infos=1), ""),
+    (["inspect", "two.gltf"], 1,
+     told("two.gltf", ("IO_ERROR", "/buffers/1/uri"), *unused("/buffers/0", "/buffers/1"),
+          infos=2), ""),
+    (["inspect", "two.gltf", "--no-files"], 1,
+     told("two.gltf", ("IO_ERROR", "/buffers/0/uri"), ("IO_ERROR", "/buffers/1/uri"),
+          *unused("/buffers/0", "/buffers/1"), infos=2), ""),
+    (["inspect", "models/far.gltf"], 0,
+     told("models/far.gltf", *unused("/buffers/0"), infos=1, holds=tables(BUFFERS=FAR)), ""),
+    (["inspect", "--json", "empty.gltf", "models/far.gltf"], 0,
+     told_json("empty.gltf", info=INFO)
+     + told_json("models/far.gltf", *unused("/buffers/0"), infos=1, info=INFO), ""),
+    of_indices("indices.gltf"),
+    of_indices("above.gltf", ("ACCESSOR_INDEX_OOB", INDICES)),
+    of_indices("restart.gltf", ("ACCESSOR_INDEX_PRIMITIVE_RESTART", INDICES)),
+    of_indices("thin.gltf", ("ACCESSOR_INDEX_TRIANGLE_DEGENERATE", INDICES), infos=1),
+    of_indices("strip.gltf", mode="TRIANGLE_STRIP"),
     (["inspect"], 2, "", USAGE),
     (["inspect", "--json"], 2, "", USAGE),
+    (["inspect", "--jason", "empty.gltf"], 2, "", f"--jason: no such option\n{USAGE}"),
+    (["inspect", "--html", "a", "b"], 2, "", f"--html: one file at a time\n{USAGE}"),
+    (["inspect", "--html", "--json", "a"], 2, "", f"--html: not with --json or --pretty\n{USAGE}"),
+    (["inspect", "--pretty", "a"], 2, "", f"--pretty: only with --json\n{USAGE}"),
 ]
 
 # What an output takes, and one byte more, before it fails.
@@ -426,7 +587,22 @@ def takes_no_line(program, room):
     return report(program.name, ["in.gltf", "out.glb"], good, ran)
 
 
-# A file of two buffers beside it, of which one is no multiple of four bytes long.
+def data(media, contents):
+    """A data: URI of these bytes."""
+    return f"data:{media};base64,{base64.b64encode(contents).decode()}"
+
+
+# Files that begin as images of the four known types do, in the order of their types.
+TYPES = ["image/png", "image/jpeg", "image/webp", "image/ktx2"]
+PICTURES = [
+    b"\x89PNG\r\n\x1a\n12345",
+    b"\xff\xd8\xff12",
+    b"RIFF\4\0\0\0WEBP",
+    b"\xabKTX 20\xbb\r\n\x1a\n1",
+]
+NO_TYPE = "images[1]: neither a mimeType nor bytes of PNG, JPEG, WebP or KTX2\n"
+# A file of two buffers and two images beside it, of which one buffer is no multiple of four bytes
+# long. A third image is a data: URI, and one is in a view.
 TWO = {
     "asset": {"version": "2.0", "extras": [1.5, "\u00e9\n", None, 9007199254740993]},
     "buffers": [{"byteLength": 3, "uri": "a%20b.bin"}, {"byteLength": 5, "uri": "c.bin"}],
@@ -437,23 +613,64 @@ TWO = {
             "buffer": 0, "byteLength": 3, "byteStride": 1, "count": 3, "mode": "INDICES"}}},
     ],
     "accessors": [{"bufferView": 1, "componentType": 5121, "count": 4, "type": "SCALAR"}],
-    "images": [{"uri": "picture.png"}],
+    "images": [
+        {"uri": "p%20q.png", "name": "\u00e9", "extras": {"b": [1, None], "a": 1e3}},
+        {"bufferView": 2, "mimeType": "image/x-own"},
+        {"uri": data("image/jpeg", PICTURES[1])},
+        {"uri": "own", "mimeType": "image/x-own", "extensions": {"STUDIO": {"uri": "stays"}}},
+    ],
     "unknown": {"b": 1e3, "a": []},
 }
-# The same with one buffer. Each of the two is filled up to a multiple of eight, so the second begins
-# at byte 8, and both have 16 bytes.
+VIEWS = [
+    {"buffer": 0, "byteLength": 2, "byteOffset": 1, "name": "first"},
+    {"buffer": 0, "byteLength": 4, "byteOffset": 9, "STUDIO": {"buffer": 1}},
+    {"buffer": 0, "byteLength": 5, "byteOffset": 8, "extensions": {"EXT_meshopt_compression": {
+        "buffer": 0, "byteLength": 3, "byteOffset": 0, "byteStride": 1, "count": 3,
+        "mode": "INDICES"}}},
+]
+# The same with one buffer, where images are kept. Each of the two is filled up to a multiple of
+# eight, so the second begins at byte 8, and both have 16 bytes.
+KEPT = TWO | {"buffers": [{"byteLength": 16}], "bufferViews": VIEWS}
+# And where they are taken in: behind the buffers stand 13 bytes, which are filled up to 16, then 5,
+# which are filled up to 8, and then 8.
 ONE = TWO | {
-    "buffers": [{"byteLength": 16}],
-    "bufferViews": [
-        {"buffer": 0, "byteLength": 2, "byteOffset": 1, "name": "first"},
-        {"buffer": 0, "byteLength": 4, "byteOffset": 9, "STUDIO": {"buffer": 1}},
-        {"buffer": 0, "byteLength": 5, "byteOffset": 8, "extensions": {"EXT_meshopt_compression": {
-            "buffer": 0, "byteLength": 3, "byteOffset": 0, "byteStride": 1, "count": 3,
-            "mode": "INDICES"}}},
+    "buffers": [{"byteLength": 48}],
+    "bufferViews": VIEWS + [
+        {"buffer": 0, "byteLength": 13, "byteOffset": 16},
+        {"buffer": 0, "byteLength": 5, "byteOffset": 32},
+        {"buffer": 0, "byteLength": 8, "byteOffset": 40},
+    ],
+    "images": [
+        {"bufferView": 3, "mimeType": "image/png", "name": "\u00e9",
+         "extras": {"b": [1, None], "a": 1e3}},
+        {"bufferView": 2, "mimeType": "image/x-own"},
+        {"bufferView": 4, "mimeType": "image/jpeg"},
+        {"bufferView": 5, "mimeType": "image/x-own", "extensions": {"STUDIO": {"uri": "stays"}}},
     ],
 }
-JOINED = bytes([1, 2, 3, 0, 0, 0, 0, 0, 4, 5, 6, 7, 8])
-CONVERT_USAGE = Begins("usage: gltf_convert IN OUT.glb\n")
+JOINED = bytes([1, 2, 3, 0, 0, 0, 0, 0, 4, 5, 6, 7, 8, 0, 0, 0])
+TAKEN = JOINED + PICTURES[0] + bytes(3) + PICTURES[1] + bytes(3) + b"12345678"
+# Images alone: what a URI names goes before what the bytes are, and their own type between the two.
+KINDS = {
+    "asset": {"version": "2.0"},
+    "images": [{"uri": data("", picture)} for picture in PICTURES]
+    + [{"uri": data(media, b"1")} for media in TYPES]
+    + [{"uri": data("image/png", PICTURES[1]), "mimeType": "image/x-own"}]
+    + [{"uri": data("text/plain", PICTURES[1]), "mimeType": "image/x-own"}],
+}
+FOUND = [*TYPES, *TYPES, "image/png", "image/x-own"]
+LONGS = [13, 5, 12, 13, 1, 1, 1, 1, 5, 5]
+STARTS = [0, 16, 24, 40, 56, 64, 72, 80, 88, 96]
+OWN_KINDS = {
+    "asset": {"version": "2.0"},
+    "buffers": [{"byteLength": 104}],
+    "bufferViews": [
+        {"buffer": 0, "byteLength": n, "byteOffset": at} for n, at in zip(LONGS, STARTS)
+    ],
+    "images": [{"bufferView": i, "mimeType": media} for i, media in enumerate(FOUND)],
+}
+ALL_KINDS = [*PICTURES, *[b"1"] * 4, PICTURES[1], PICTURES[1]]
+CONVERT_USAGE = Begins("usage: gltf_convert IN OUT.glb [--keep-images]\n")
 ENDING = "out.gltf: has to end in .glb: JSON with files beside it is not written\n"
 # The words, the status and the error of calls that write nothing.
 NOT_CONVERTED = [
@@ -465,45 +682,78 @@ NOT_CONVERTED = [
     (["two.gltf", "folder"], 2, "folder: " + ENDING.partition(": ")[2]),
     (["two.gltf"], 2, CONVERT_USAGE),
     (["two.gltf", "out.glb", "out.glb"], 2, CONVERT_USAGE),
+    (["two.gltf", "out.glb", "--keep"], 2, CONVERT_USAGE),
+    (["--keep-images", "two.gltf", "out.glb"], 2, CONVERT_USAGE),
+    (["two.gltf", "out.glb", "--keep-images", "--keep-images"], 2, CONVERT_USAGE),
+    (["lost.gltf", "out.glb"], 1, Failed("lost.png")),
+    (["odd.gltf", "out.glb"], 1, NO_TYPE),
+    (["scheme.gltf", "out.glb"], 1, Begins("images[0].uri: ")),
+    (["payload.gltf", "out.glb"], 1, Begins("images[0].uri: ")),
+]
+# Files with one image or two, which are refused unless images are kept.
+IMAGES = {
+    "lost.gltf": [{"uri": "lost.png"}],
+    "odd.gltf": [{"uri": "p%20q.png"}, {"uri": data("image/x-odd", b"odd")}],
+    "scheme.gltf": [{"uri": "http://example.org/p.png"}],
+    "payload.gltf": [{"uri": "data:image/png;base64,?"}],
+}
+# The words, the JSON value and the bytes of calls that write `out.glb`.
+CONVERTED = [
+    (["two.gltf"], [], ONE, TAKEN),
+    (["two.gltf"], ["--keep-images"], KEPT, JOINED),
+    (["kinds.gltf"], [], OWN_KINDS, b"".join(p + bytes(-len(p) % 8) for p in ALL_KINDS)),
+    (["kinds.gltf"], ["--keep-images"], KINDS, b""),
+    *[([name], ["--keep-images"], {"asset": {"version": "2.0"}, "images": images}, b"")
+      for name, images in IMAGES.items()],
 ]
 
 
 def make_converted(room):
     """The folder that `gltf_convert` is called in."""
-    beyond = TWO | {"bufferViews": [{"buffer": 0, "byteLength": 5}], "accessors": []}
+    beyond = TWO | {"bufferViews": [{"buffer": 0, "byteLength": 5}], "accessors": [], "images": []}
     lacks = TWO | {"buffers": [TWO["buffers"][0], {"byteLength": 5, "uri": "no.bin"}]}
     make(room, {
         "two.gltf": json.dumps(TWO).encode(),
+        "kinds.gltf": json.dumps(KINDS).encode(),
         "beyond.gltf": json.dumps(beyond).encode(),
         "lacks.gltf": json.dumps(lacks).encode(),
         "dangling.gltf": document(nodes=[{"mesh": 3, "skin": 0}]),
         "a b.bin": JOINED[:3],
-        "c.bin": JOINED[8:],
+        "c.bin": JOINED[8:13],
+        "p q.png": PICTURES[0],
+        "own": b"12345678",
+        **{name: document(images=images) for name, images in IMAGES.items()},
     })
 
 
-def converts(convert, show, room):
-    """Whether a file of two buffers becomes one container with the edited value and the joined
-    bytes, which is accepted alone, and is converted to itself."""
+def converts(convert, show, room, source, flags, value, buffer):
+    """Whether a file becomes one container with this JSON value and these bytes. Where no image is
+    kept, it is accepted alone, in an empty folder, and is converted to itself."""
+    words = [*source, "out.glb", *flags]
     how = {"cwd": room, "capture_output": True, "text": True, "preexec_fn": started()}
-    ran = subprocess.run([convert, "two.gltf", "out.glb"], **how)
-    made = (room / "out.glb").read_bytes()
+    ran = subprocess.run([convert, *words], **how)
+    made = (room / "out.glb").read_bytes() if (room / "out.glb").exists() else bytes(20)
+    (room / "out.glb").unlink(missing_ok=True)
     length = int.from_bytes(made[12:16], "little")
     rest = made[20 + length :]
     good = (ran.returncode, ran.stdout, ran.stderr) == (0, f"out.glb: {len(made)} bytes\n", "")
     good = good and made[:12] == b"glTF" + struct.pack("<2I", 2, len(made))
-    good = good and made[16:20] == b"JSON" and json.loads(made[20 : 20 + length]) == ONE
-    good = good and rest == struct.pack("<I", 16) + b"BIN\0" + JOINED + bytes(3)
-    alone = room / "alone"
-    alone.mkdir()
-    (alone / "out.glb").write_bytes(made)
-    how["cwd"] = alone
-    checked = subprocess.run([show, "check", "out.glb"], **how)
-    good = good and checked.stdout == "ok buffers=1 accessors=1 meshes=0 nodes=0\n"
-    alone.chmod(0o777)
-    again = subprocess.run([convert, "out.glb", "again.glb"], **how)
-    good = good and again.returncode == 0 and (alone / "again.glb").read_bytes() == made
-    return report(convert.name, ["two.gltf", "out.glb"], good, (ran, checked, again))
+    good = good and made[16:20] == b"JSON" and json.loads(made[20 : 20 + length]) == value
+    good = good and rest == (chunk(b"BIN\0", buffer) if buffer else b"")
+    if flags or not good:
+        return report(convert.name, words, good, ran)
+    with tempfile.TemporaryDirectory() as name:
+        alone = pathlib.Path(name)
+        (alone / "out.glb").write_bytes(made)
+        alone.chmod(0o777)
+        how["cwd"] = alone
+        checked = subprocess.run([show, "check", "out.glb"], **how)
+        counts = [len(value.get(member, [])) for member in ("buffers", "accessors")]
+        line = f"ok buffers={counts[0]} accessors={counts[1]} meshes=0 nodes=0\n"
+        again = subprocess.run([convert, "out.glb", "again.glb"], **how)
+        good = checked.stdout == line and again.returncode == 0
+        good = good and (alone / "again.glb").read_bytes() == made
+    return report(convert.name, words, good, (ran, checked, again))
 
 
 def refuses(program, room, words, status, error):
@@ -535,7 +785,7 @@ def main():
         convert, room = copy_of("gltf_convert", place), place / "converted"
         make_converted(room)
         good += [refuses(convert, room, *row) for row in NOT_CONVERTED]
-        good.append(converts(convert, show, room))
+        good += [converts(convert, show, room, *row) for row in CONVERTED]
         good += [takes_text_alone(program, room) for program in (show, repack, convert)]
     print(f"{sum(good)} passed, {len(good) - sum(good)} failed")
     return 0 if all(good) else 1

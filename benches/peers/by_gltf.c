@@ -2,28 +2,30 @@
 #include "loader.h"
 
 #include "gltf.h"
+#include <stdio.h>
 #include <stdlib.h>
 
 void *loader_open(const unsigned char *bytes, size_t size, char *why, size_t why_size)
 {
-    gltf_file *file = calloc(1, sizeof *file);
-    if (file != NULL && gltf_open(bytes, size, file, why, why_size) == GLTF_SUCCESS)
-        return file;
-    free(file);
-    return NULL;
+    gltf_file *file;
+    gltf_fault fault;
+    if (gltf_open(bytes, size, NULL, &file, &fault) != GLTF_SUCCESS)
+        snprintf(why, why_size, "%s: %s", fault.path, fault.text);
+    return file;
 }
 
 void loader_counts(void *file, size_t counts[COUNTS])
 {
     static const unsigned int kinds[] = { GLTF_ACCESSORS, GLTF_MESHES, GLTF_NODES, GLTF_MATERIALS,
                                           GLTF_TEXTURES, GLTF_ANIMATIONS, GLTF_BUFFERS };
-    size_t k, size;
+    gltf_buffer buffer;
+    size_t k;
     for (k = 0; k < BYTES; k++)
         counts[k] = gltf_count(file, kinds[k]);
     counts[BYTES] = 0;
     for (k = 0; k < counts[BUFFERS]; k++)
-        if (gltf_buffer_size(file, k, &size) == GLTF_SUCCESS)
-            counts[BYTES] += size;
+        if (gltf_buffer_info(file, k, &buffer) == GLTF_SUCCESS)
+            counts[BYTES] += buffer.size;
 }
 
 long long loader_items(void *file)
@@ -48,5 +50,4 @@ long long loader_items(void *file)
 void loader_close(void *file)
 {
     gltf_close(file);
-    free(file);
 }

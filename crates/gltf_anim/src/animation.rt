@@ -16,6 +16,7 @@ use gltf_handles::inner::Inner;
 use gltf_handles::list::List;
 use gltf_handles::member::{meaning, unknown_extensions};
 pub use gltf_json::animation::{Interpolation, Property};
+use gltf_json::boxed::lent;
 use gltf_json::{Map, Value, animation, kinds};
 use gltf_rules::{Records, Valid, element};
 use gltf_scene::scene::Node;
@@ -97,7 +98,7 @@ impl<'a, D: Records> Animation<'a, D> {
     pub fn extras(&self) -> Option<&'a Value>
         ensures { option_copied result ≡ (animation_handle self.now).json.extras }
     {
-        self.inner.json.extras.as_ref()
+        lent(&self.inner.json.extras)
     }
 }
 
@@ -179,7 +180,7 @@ impl<'a, D: Records> Channel<'a, D> {
     pub fn extras(&self) -> Option<&'a Value>
         ensures { option_copied result ≡ (channel_handle self.now).json.extras }
     {
-        self.json.extras.as_ref()
+        lent(&self.json.extras)
     }
 }
 
@@ -235,7 +236,7 @@ impl<'a, D: Records> Target<'a, D> {
     pub fn extras(&self) -> Option<&'a Value>
         ensures { option_copied result ≡ (target_handle self.now).json.extras }
     {
-        self.json.extras.as_ref()
+        lent(&self.json.extras)
     }
 }
 
@@ -328,6 +329,6 @@ impl<'a, D: Records> Sampler<'a, D> {
     pub fn extras(&self) -> Option<&'a Value>
         ensures { option_copied result ≡ (sampler_handle self.now).json.extras }
     {
-        self.json.extras.as_ref()
+        lent(&self.json.extras)
     }
 }

@@ -1,12 +1,15 @@
 -- What a bundle is imported as: the law `one_buffer`. `the_parts` are what its container holds,
 -- `the_value` is its JSON value, and `the_buffers` are its buffers.
 use Rattle.std.proofs.Common.{◌≡◌, ℕ, suc, ◌-◌, ◌%◌, List, [], ◌∷◌, length}
-use Rattle.std.proofs.Common.{Option, Some, None, option_map, Ok, Result, false}
+use Rattle.std.proofs.Common.{Option, Some, None, option_map, Ok, Result, Bool, false, ◌+◌, ◌<◌}
+use Rattle.std.proofs.Common.{◌++◌, length-append, unwrap_or}
 use Rattle.std.proofs.Common.{nat_lt, get_or, map, codes, refl, sym, ap, subst, ◌∙◌, arith, ◌⊎◌, inl, inr}
 use Rattle.std.proofs.Common.{⊎_elim}
-use Rattle.std.specs.Prelude.{MatchOption, IsSome, option_and_then, string_bytes}
+use Rattle.std.proofs.lemmas.List.Elements.{All-nil, All-cons}
+use Rattle.std.specs.Prelude.{MatchOption, IsSome, option_and_then, string_bytes, All}
 use Rattle.serde_json.specs.Data.{Data, null, boolean, number, string, array, object, item}
 use Rattle.serde_json.specs.Data.{Items, no_items}
+use Rattle.serde_json.specs.Events.{items_len}
 use Rattle.serde_json.specs.Find.{get, as_array, as_object}
 use Rattle.gltf_json_record.specs.Items.{AllRead}
 use Rattle.gltf_json_record.specs.Member.{unless_null}
@@ -26,12 +29,19 @@ use Rattle.gltf_pack.specs.Laws.{SpacesBehind}
 use Rattle.gltf.specs.Import.{AreParts, Accepts}
 use Rattle.gltf_edit.specs.Bundled.{bundled, views_after, with_some, one_buffer}
 use Rattle.gltf_edit.specs.BundledLaws.{get_with, get_with_some_other, object_with_some, differ}
+use Rattle.gltf_edit.specs.BundledLaws.{bundled_other}
+use Rattle.gltf_edit.specs.Embedded.{embedded, with_items, buffers_of, count_at}
+use Rattle.gltf_edit.specs.EmbeddedLaws.{longer, longer_list, longer_buffers, length_with}
+use Rattle.gltf_edit.specs.EmbeddedLaws.{object_embedded, embedded_images}
 use Rattle.gltf_edit.specs.Joined.{joined, spans_from}
 use Rattle.gltf_edit.specs.JoinedLaws.{joined_whole}
 use Rattle.gltf_edit.specs.declared.span.Span.{Span}
-use Rattle.gltf_moved.specs.Laws.{IsMoved, one_list}
-use Rattle.gltf_bundle.specs.Bundle.{IsBundle, blob_of}
+use Rattle.gltf_moved.specs.Laws.{IsMoved, one_list, moved_value}
+use Rattle.gltf_bundle.specs.Bundle.{IsBundle, IsSource, blob_of}
+use Rattle.gltf_bundle.specs.Images.{AreTaken}
 use Rattle.gltf_bundle.proofs.Parts.{one_parts, parts_written, one_value}
+use Rattle.gltf_bundle.proofs.Taken.{as_many_taken}
+use Rattle.gltf_bundle.proofs.Uris.{ReadsImages, no_uris, images_over}
 
 -- ---- the list of buffers
 
@@ -39,51 +49,80 @@ abbrev ReadsBuffers : Option Data → List Buffer → Type 0
 ReadsBuffers o bs = MatchOption (option_and_then unless_null o) (bs ≡ [])
     (λ e. MatchOption (as_array e) ⊥ (λ ds. AllRead buffer.is ds bs))
 
--- neither document has buffers; or the one has some, and the other one, which is so long
-record One (total : ℕ) (bs cs : List Buffer) : Type 0 where
-  first : Buffer
-  more : List Buffer
-  before : bs ≡ first ∷ more
+-- one buffer in place of some, which is so long
+record One (total n : ℕ) (cs : List Buffer) : Type 0 where
+  some : 0 < n
   one : Buffer
   after : cs ≡ one ∷ []
   uri : one.uri ≡ None
   long : one.byte_length ≡ total
 
-abbrev NoneOrOne : ℕ → List Buffer → List Buffer → Type 0
-NoneOrOne total bs cs = ((bs ≡ []) × (cs ≡ [])) ⊎ One total bs cs
+-- in place of none there is none
+abbrev NoneOrOne : ℕ → ℕ → List Buffer → Type 0
+NoneOrOne total n cs = ((n ≡ 0) × (cs ≡ [])) ⊎ One total n cs
 
 of_some : {m n : ℕ} → ◌≡◌ {A = Option ℕ} (Some m) (Some n) → m ≡ n
 of_some same = cc
 
-listed : (total : ℕ) (ds : Items) (bs cs : List Buffer) → ReadsBuffers (Some (array ds)) bs
-    → ReadsBuffers (Some (one_buffer total (array ds))) cs → NoneOrOne total bs cs
+listed : (total : ℕ) (ds : Items) (cs : List Buffer)
+    → ReadsBuffers (Some (one_buffer total (array ds))) cs → NoneOrOne total (items_len ds) cs
 unfolding buffer
-listed total no_items [] [] is after = inl (refl, refl)
-listed total no_items [] (c ∷ cs) is after = absurd after
-listed total no_items (b ∷ bs) cs is after = absurd is
-listed total (item d ds) [] cs is after = absurd is
-listed total (item d ds) (b ∷ bs) [] is after = absurd after
-listed total (item d ds) (b ∷ bs) (c ∷ c2 ∷ cs) is after = absurd after.1
-listed total (item d ds) (b ∷ bs) (c ∷ []) is after =
+listed total no_items [] after = inl (refl, refl)
+listed total no_items (c ∷ cs) after = absurd after
+listed total (item d ds) [] after = absurd after
+listed total (item d ds) (c ∷ c2 ∷ cs) after = absurd after.1
+listed total (item d ds) (c ∷ []) after =
     inr record {
-      first = b;
-      more = bs;
-      before = refl;
+      some = omega arith;
       one = c;
       after = refl;
       uri = after.0.1.1.0;
       long = sym (of_some after.0.1.0);
     }
 
-none_or_one : (total : ℕ) (o : Option Data) (bs cs : List Buffer) → ReadsBuffers o bs
-    → ReadsBuffers (option_map (one_buffer total) o) cs → NoneOrOne total bs cs
-none_or_one total None bs cs is after = inl (is, after)
-none_or_one total (Some null) bs cs is after = inl (is, after)
-none_or_one total (Some (boolean b)) bs cs is after = absurd is
-none_or_one total (Some (number n)) bs cs is after = absurd is
-none_or_one total (Some (string s)) bs cs is after = absurd is
-none_or_one total (Some (array ds)) bs cs is after = listed total ds bs cs is after
-none_or_one total (Some (object ms)) bs cs is after = absurd is
+as_many_read : (ds : Items) (bs : List Buffer) → AllRead buffer.is ds bs → items_len ds ≡ length bs
+as_many_read no_items [] is = refl
+as_many_read no_items (b ∷ bs) is = absurd is
+as_many_read (item d ds) [] is = absurd is
+as_many_read (item d ds) (b ∷ bs) is = ap suc (as_many_read ds bs is.1)
+
+-- a list that was absent
+made_or_none : (total : ℕ) (o : Option Data) (more : Items) (bs cs : List Buffer)
+    → option_and_then as_array o ≡ None → option_and_then unless_null (option_map (one_buffer total) o) ≡ None
+    → bs ≡ [] → ReadsBuffers (option_map (one_buffer total) (longer more o)) cs
+    → NoneOrOne total (length bs + items_len more) cs
+made_or_none total o no_items bs cs absent nothing none after =
+    inl (
+      ap (λ (xs : List Buffer). length xs + 0) none,
+      subst (λ o. MatchOption o (cs ≡ []) (λ e. MatchOption (as_array e) ⊥
+          (λ ds. AllRead buffer.is ds cs))) nothing after,
+    )
+made_or_none total o (item e es) bs cs absent nothing none after =
+    let whole : unwrap_or (option_and_then as_array o) no_items ≡ no_items =
+    ap (λ o. unwrap_or o no_items) absent in
+    let reads = subst (λ ds. ReadsBuffers (Some (one_buffer total (array
+    (with_items ds (item e es))))) cs) whole after in
+    subst (λ (n : ℕ). NoneOrOne total n cs)
+    (sym (ap (λ (xs : List Buffer). length xs + items_len (item e es)) none ∙ omega arith))
+    (listed total (item e es) cs reads)
+
+none_or_one : (total : ℕ) (o : Option Data) (more : Items) (bs cs : List Buffer)
+    → ReadsBuffers o bs → ReadsBuffers (option_map (one_buffer total) (longer more o)) cs
+    → NoneOrOne total (length bs + items_len more) cs
+none_or_one total None more bs cs is after = made_or_none total None more bs cs refl refl is after
+none_or_one total (Some null) more bs cs is after =
+    made_or_none total (Some null) more bs cs refl refl is after
+none_or_one total (Some (boolean b)) more bs cs is after = absurd is
+none_or_one total (Some (number n)) more bs cs is after = absurd is
+none_or_one total (Some (string s)) more bs cs is after = absurd is
+none_or_one total (Some (array ds)) more bs cs is after =
+    let reads = subst (λ o. ReadsBuffers (option_map (one_buffer total) o) cs)
+    (longer_list ds more) after in
+    let count = length_with ds more in
+    let read = as_many_read ds bs is in
+    subst (λ (n : ℕ). NoneOrOne total n cs) (count ∙ ap (λ (n : ℕ). n + items_len more) read)
+    (listed total (with_items ds more) cs reads)
+none_or_one total (Some (object ms)) more bs cs is after = absurd is
 
 changed_at : (total : ℕ) (d base : Data) (o : Option Data) → IsSome (as_object base)
     → get (codes "buffers") d ≡ o → get (codes "buffers") base ≡ get (codes "buffers") d
@@ -165,31 +204,40 @@ from_one one bytes cs blob others is_one is_blob whole no_uri long are =
 -- ---- what a bundle is imported as
 
 module _ (one : OneReading) (back : ReadsBack) (spaces : SpacesBehind) (names : Names)
-    (path answer : List ℕ) (is : IsBundle names path answer) (s : Root) (others : List (List ℕ))
-    (accepted : Accepts answer s others) where
-  the_parts : AreParts answer (padded 32 is.json) (option_map (padded 0) (blob_of is.buffers))
+    (path : List ℕ) (keep : Bool) (answer : List ℕ) (is : IsBundle names path keep answer) (s : Root)
+    (others : List (List ℕ)) (accepted : Accepts answer s others) where
+  abbrev all : List (List ℕ)
+  all = is.buffers ++ is.images
+
+  abbrev source : IsSource names path is.value is.root_ is.buffers
+  source = is.gathered.source
+
+  the_parts : AreParts answer (padded 32 is.json) (option_map (padded 0) (blob_of all))
   the_parts =
       subst (λ (t : List ℕ).
-      AreParts t (padded 32 is.json) (option_map (padded 0) (blob_of is.buffers)))
-      (sym is.written) (parts_written back is.json (blob_of is.buffers) is.fits)
+      AreParts t (padded 32 is.json) (option_map (padded 0) (blob_of all)))
+      (sym is.written) (parts_written back is.json (blob_of all) is.fits)
 
-  the_blob : accepted.blob ≡ option_map (padded 0) (blob_of is.buffers)
+  the_blob : accepted.blob ≡ option_map (padded 0) (blob_of all)
   the_blob =
       (one_parts one answer (padded 32 is.json) accepted.valid.document.text
-      (option_map (padded 0) (blob_of is.buffers)) accepted.blob the_parts
+      (option_map (padded 0) (blob_of all)) accepted.blob the_parts
       accepted.valid.document.parts).1
 
   the_text : accepted.valid.document.text ≡ padded 32 is.json
   the_text =
       (one_parts one answer (padded 32 is.json) accepted.valid.document.text
-      (option_map (padded 0) (blob_of is.buffers)) accepted.blob the_parts
+      (option_map (padded 0) (blob_of all)) accepted.blob the_parts
       accepted.valid.document.parts).0
 
   abbrev total : ℕ
-  total = length (joined is.buffers)
+  total = length (joined all)
+
+  abbrev between : Data
+  between = embedded is.pictures is.value
 
   abbrev edited : Data
-  edited = bundled (spans_from 0 is.buffers) total is.value
+  edited = moved_value all is.pictures is.value
 
   the_value : accepted.valid.document.value ≡ edited
   the_value =
@@ -200,53 +248,94 @@ module _ (one : OneReading) (back : ReadsBack) (spaces : SpacesBehind) (names : 
       one_value is.json is.json document.value edited refl
       ((spaces n is.json document.value).0 padded_reads) is.reads
 
-  after : root.is edited s
+  pub after : root.is edited s
   after = subst (λ (d : Data). root.is d s) the_value accepted.valid.document.records
 
-  pub is_moved : IsMoved is.buffers is.root_ s
+  pub own_count : length is.buffers ≡ length is.root_.buffers.items
+  own_count = source.data_.count ∙ length_of_map source_of is.root_.buffers.items
+
+  abbrev pub is_moved : IsMoved is.buffers is.images is.root_ s
   is_moved = record {
     value = is.value;
-    before = is.source.records;
+    pictures = is.pictures;
+    before = source.records;
+    rules = source.rules;
+    count = own_count;
     after = after;
     placed = is.placed;
     fits = is.short;
   }
 
-  the_list : NoneOrOne total is.root_.buffers.items s.buffers.items
+  abbrev count : ℕ
+  count = length is.root_.buffers.items + items_len (buffers_of is.pictures)
+
+  the_list : NoneOrOne total count s.buffers.items
   unfolding root
   the_list =
-      none_or_one total (get (codes "buffers") is.value) is.root_.buffers.items s.buffers.items
-      is.source.records.1.1.1.1.0
+      none_or_one total (get (codes "buffers") is.value) (buffers_of is.pictures)
+      is.root_.buffers.items s.buffers.items source.records.1.1.1.1.0
       (subst (λ o. ReadsBuffers o s.buffers.items)
-      (buffers_changed (spans_from 0 is.buffers) total is.value is.source.records.0)
+      (buffers_changed (spans_from 0 all) total between
+      (object_embedded is.pictures is.value source.records.0)
+      ∙ ap (option_map (one_buffer total))
+      (longer_buffers is.pictures is.value source.records.0))
       after.1.1.1.1.0)
 
-  as_many : length is.buffers ≡ length is.root_.buffers.items
-  as_many = is.source.data_.count ∙ length_of_map source_of is.root_.buffers.items
+  as_many : length all ≡ count
+  as_many =
+      let both = length-append is.buffers is.images in
+      let images =
+      as_many_taken names keep is.value is.pictures is.images is.gathered.taken in
+      omega (arith, own_count, both, images)
 
-  none_at : (bs cs : List Buffer) → bs ≡ [] → cs ≡ [] → length is.buffers ≡ length bs
-      → length others ≡ length (map source_of cs) → others ≡ one_list is.buffers
-  none_at bs cs none none_after count count_after =
-      let nothing : is.buffers ≡ [] =
-      empty is.buffers (count ∙ ap (λ (xs : List Buffer). length xs) none) in
-      empty others (count_after ∙ ap (λ (xs : List Buffer). length (map source_of xs)) none_after)
+  none_at : count ≡ 0 → s.buffers.items ≡ [] → length others ≡ length (map source_of s.buffers.items)
+      → others ≡ one_list all
+  none_at none none_after count_after =
+      let nothing : all ≡ [] = empty all (as_many ∙ none) in
+      empty others (count_after
+      ∙ ap (λ (xs : List Buffer). length (map source_of xs)) none_after)
       ∙ ap one_list (sym nothing)
 
-  one_at : (all : List (List ℕ)) (count : ℕ) → length all ≡ suc count
-      → (blob_of all ≡ Some (joined all)) × (joined all ∷ [] ≡ one_list all)
-  one_at [] count is = absurd (omega arith)
-  one_at (x ∷ xs) count is = (refl, refl)
+  one_at : (bytes : List (List ℕ)) → 0 < length bytes
+      → (blob_of bytes ≡ Some (joined bytes)) × (joined bytes ∷ [] ≡ one_list bytes)
+  one_at [] some = absurd (omega arith)
+  one_at (x ∷ xs) some = (refl, refl)
 
-  pub the_buffers : others ≡ one_list is.buffers
+  pub the_buffers : others ≡ one_list all
   the_buffers =
       ⊎_elim
-      (λ none.
-      none_at is.root_.buffers.items s.buffers.items none.0 none.1 as_many accepted.data_.count)
+      (λ none. none_at none.0 none.1 accepted.data_.count)
       (λ found.
-      let here = one_at is.buffers (length found.more)
-      (as_many ∙ ap (λ (xs : List Buffer). length xs) found.before) in
-      from_one found.one (joined is.buffers) s.buffers.items accepted.blob others found.after
-      (the_blob ∙ ap (option_map (padded 0)) here.0) (joined_whole is.buffers) found.uri
+      let some = found.some in
+      let here = one_at all (omega (arith, as_many, some)) in
+      from_one found.one (joined all) s.buffers.items accepted.blob others found.after
+      (the_blob ∙ ap (option_map (padded 0)) here.0) (joined_whole all) found.uri
       found.long accepted.data_
       ∙ here.1)
       the_list
+
+  -- ---- it names no other file
+
+  pub no_buffer_uri : All (λ b. b.uri ≡ None) s.buffers.items
+  no_buffer_uri =
+      ⊎_elim
+      (λ none. subst (All (λ (b : Buffer). b.uri ≡ None)) (sym none.1) (All-nil _))
+      (λ found.
+      subst (All (λ (b : Buffer). b.uri ≡ None)) (sym found.after)
+      (All-cons (λ (b : Buffer). b.uri ≡ None) found.one [] found.uri (All-nil _)))
+      the_list
+
+  pub no_image_uri : keep ≡ false → All (λ i. i.uri ≡ None) s.images.items
+  unfolding root
+  no_image_uri not_kept =
+      let taken = subst (λ (b : Bool). AreTaken names b is.value is.pictures is.images) not_kept
+      is.gathered.taken in
+      no_uris names (get (codes "images") is.value) is.pictures
+      (count_at (codes "bufferViews") is.value) is.images s.images.items taken
+      (subst (λ o. ReadsImages o s.images.items)
+      (bundled_other (spans_from 0 all) total between (codes "images")
+      (differ (codes "images") (codes "buffers") refl)
+      (differ (codes "images") (codes "bufferViews") refl)
+      ∙ embedded_images is.pictures is.value source.records.0
+      ∙ images_over names is.pictures is.value)
+      after.1.1.1.1.1.1.1.0)

@@ -1,5 +1,9 @@
 pub mod Joins
 pub mod Parts
+pub mod Asked
+pub mod Taken
+pub mod Uris
 pub mod Imported
+pub mod Shown
 pub mod Loaded
 pub mod Refused

@@ -1,5 +1,6 @@
 -- What was loaded, and what is made of it.
-use Rattle.std.proofs.Common.{◌≡◌, ℕ, ◌≤◌, ◌<◌, ◌^◌, List, length, Option, sym, ap, subst, ◌∙◌, arith}
+use Rattle.std.proofs.Common.{◌≡◌, ℕ, ◌≤◌, ◌<◌, ◌^◌, List, length, Option, Bool, sym, ap, subst, ◌∙◌, arith}
+use Rattle.std.proofs.Common.{◌++◌}
 use Rattle.serde_json.specs.Data.{Data, depth}
 use Rattle.serde_json.specs.Read.{max_depth}
 use Rattle.gltf_json.specs.Documents.{root}
@@ -14,9 +15,14 @@ use Rattle.gltf.specs.Import.{IsValidDocument}
 use Rattle.gltf.specs.Shown.{blob_bytes}
 use Rattle.gltf_edit.specs.Bundled.{bundled, ArePlaced}
 use Rattle.gltf_edit.specs.DepthLaws.{bundled_depth}
+use Rattle.gltf_edit.specs.Embedded.{embedded}
+use Rattle.gltf_edit.specs.EmbeddedLaws.{embedded_depth}
 use Rattle.gltf_edit.specs.Joined.{joined, spans_from}
+use Rattle.gltf_edit.specs.declared.picture.Picture.{Picture}
+use Rattle.gltf_moved.specs.Laws.{moved_value}
 use Rattle.gltf_bundle.specs.declared.bundling.Joined.{Joined}
-use Rattle.gltf_bundle.specs.Bundle.{IsValueOf, IsSource, IsJoined, IsContainerOf, IsBundle}
+use Rattle.gltf_bundle.specs.Bundle.{IsValueOf, IsSource, IsGathered, IsJoined, IsContainerOf}
+use Rattle.gltf_bundle.specs.Bundle.{IsBundle}
 use Rattle.gltf_bundle.proofs.Parts.{one_parts, one_value}
 
 pub loaded : OneReading → (names : Names) (path bytes : List ℕ) → Gives names (File path) bytes
@@ -44,25 +50,36 @@ loaded law names path bytes gives r blob valid value is buffers data_ =
       data_ = data_;
     }
 
-pub is_bundle : (names : Names) (path : List ℕ) (value : Data) (r : Root)
-    (buffers : List (List ℕ)) → IsSource names path value r buffers
-    → (all : Joined) → IsJoined buffers all → ArePlaced all.spans.items value
-    → (after : Data) → after ≡ bundled all.spans.items all.total value
+-- the container's value nests no deeper than the file's may
+pub moved_depth : (all : List (List ℕ)) (ps : List (Option Picture)) (value : Data)
+    → depth value ≤ max_depth → depth (moved_value all ps value) ≤ max_depth
+moved_depth all ps value nests =
+    bundled_depth (spans_from 0 all) (length (joined all)) (embedded ps value) max_depth (omega arith)
+    (embedded_depth ps value max_depth (omega arith) nests)
+
+pub is_bundle : (names : Names) (path : List ℕ) (keep : Bool) (value : Data) (r : Root)
+    (buffers images : List (List ℕ)) (ps : List (Option Picture))
+    → IsGathered names path keep value r buffers images ps
+    → (all : Joined) → IsJoined (buffers ++ images) all
+    → ArePlaced all.spans.items (embedded ps value)
+    → (after : Data) → after ≡ bundled all.spans.items all.total (embedded ps value)
     → (answer : List ℕ) → IsContainerOf after (blob_bytes all.blob) answer
-    → IsBundle names path answer
-is_bundle names path value r buffers source all is placed after edited answer container =
-    let total = length (joined buffers) in
-    let same : after ≡ bundled (spans_from 0 buffers) total value =
-    edited ∙ (λ i. bundled (is.spans i) (is.total i) value) in
+    → IsBundle names path keep answer
+is_bundle names path keep value r buffers images ps gathered all is placed after edited answer
+    container =
+    let same : after ≡ moved_value (buffers ++ images) ps value =
+    edited ∙ (λ i. bundled (is.spans i) (is.total i) (embedded ps value)) in
     let short : depth after ≤ max_depth =
     subst (λ (d : Data). depth d ≤ max_depth) (sym same)
-    (bundled_depth (spans_from 0 buffers) total value max_depth (omega arith) source.nests) in
+    (moved_depth (buffers ++ images) ps value gathered.source.nests) in
     record {
       value = value;
       root_ = r;
       buffers = buffers;
-      source = source;
-      placed = subst (λ spans. ArePlaced spans value) is.spans placed;
+      images = images;
+      pictures = ps;
+      gathered = gathered;
+      placed = subst (λ spans. ArePlaced spans (embedded ps value)) is.spans placed;
       short = is.fits;
       json = container.json;
       reads = subst (λ (d : Data). Reads container.json d) same (container.reads short);

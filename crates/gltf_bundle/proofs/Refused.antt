@@ -1,10 +1,9 @@
--- Why a file was not bundled: for the clauses `refused` of `load`, `join` and `bundle`.
+-- Why a file was not bundled: for the clauses `refused` of `load`, `gather`, `join` and `bundle`.
 use Rattle.std.proofs.Common.{◌≡◌, ℕ, zero, suc, ◌+◌, ◌≤◌, ◌<◌, List, [], ◌∷◌, ◌++◌}
 use Rattle.std.proofs.Common.{length, take, get_or, Option, subst, sym, ap, ◌∙◌, arith}
-use Rattle.std.proofs.Common.{inl, inr, length-append}
+use Rattle.std.proofs.Common.{inl, inr, length-append, Bool, false, codes}
 use Rattle.std.specs.declared.io.Error.{Error as IoError}
-use Rattle.serde_json.specs.Data.{Data, depth}
-use Rattle.serde_json.specs.Read.{max_depth}
+use Rattle.serde_json.specs.Data.{Data}
 use Rattle.gltf_glb.specs.declared.error.Error.{Error}
 use Rattle.gltf_glb.specs.declared.error.Error.TheVariants as error
 use Rattle.gltf_json.specs.declared.root.Root.{Root}
@@ -18,20 +17,24 @@ use Rattle.gltf.specs.Files.{FailsOrRefuses, RefusesFileAt}
 use Rattle.gltf.specs.Import.{IsValidDocument, RefusesDocument, RefusesImport}
 use Rattle.gltf.specs.Shown.{bytes_of_each, blob_bytes}
 use Rattle.gltf_edit.specs.Bundled.{bundled, ArePlaced}
-use Rattle.gltf_edit.specs.DepthLaws.{bundled_depth}
+use Rattle.gltf_edit.specs.Embedded.{embedded, items_at}
 use Rattle.gltf_edit.specs.Faults.{NamesStray, IsTooLong}
 use Rattle.gltf_edit.specs.Joined.{filled, joined, spans_from}
 use Rattle.gltf_edit.specs.JoinedLaws.{joined_last}
 use Rattle.gltf_edit.specs.declared.fault.Fault.{Fault}
 use Rattle.gltf_edit.specs.declared.fault.Fault.TheVariants as fault
-use Rattle.gltf_bundle.specs.Bundle.{IsSource, IsJoined, IsBundle, blob_of}
+use Rattle.gltf_edit.specs.declared.picture.Picture.{Picture}
+use Rattle.gltf_moved.specs.Laws.{moved_value}
+use Rattle.gltf_bundle.specs.Bundle.{IsSource, IsGathered, IsJoined, IsBundle, blob_of}
 use Rattle.gltf_bundle.specs.Causes.{of_fault}
-use Rattle.gltf_bundle.specs.Refusals.{RefusesSource, RefusesBundle, RefusesContainerOf}
-use Rattle.gltf_bundle.specs.Refusals.{HasNoContainer}
+use Rattle.gltf_bundle.specs.Images.{RefusesImages}
+use Rattle.gltf_bundle.specs.Refusals.{RefusesSource, RefusesFile, RefusesBundle}
+use Rattle.gltf_bundle.specs.Refusals.{RefusesContainerOf, HasNoContainer}
 use Rattle.gltf_bundle.specs.declared.bundling.Joined.{Joined}
 use Rattle.gltf_bundle.specs.declared.error.BundleError.{BundleError}
 use Rattle.gltf_bundle.specs.declared.error.BundleError.TheVariants as bundle
 use Rattle.gltf_bundle.proofs.Joins.{each_more}
+use Rattle.gltf_bundle.proofs.Loaded.{moved_depth}
 
 -- ---- the import
 
@@ -91,86 +94,145 @@ pub buffers_refused : (names : Names) (path bytes : List ℕ) (r : Root) (blob :
 buffers_refused names path bytes r blob old new e gives valid fails =
     behind names path bytes old new e gives (buffers_told names bytes r blob old new e valid fails)
 
--- ---- the steps after it
+-- ---- the images
 
-pub source_refused : (names : Names) (path : List ℕ) (old new : List Named) (e : BundleError)
-    → RefusesSource names path old new e → RefusesBundle names path old new e
-source_refused names path old new (bundle.Import e) told = told
-source_refused names path old new (bundle.View i) told = absurd told
-source_refused names path old new bundle.TooLong told = absurd told
-source_refused names path old new (bundle.Answer e) told = absurd told
+pub load_refused : (names : Names) (path : List ℕ) (keep : Bool) (old new : List Named)
+    (e : BundleError) → RefusesSource names path old new e → RefusesFile names path keep old new e
+load_refused names path keep old new (bundle.Import e) told = told
+load_refused names path keep old new (bundle.View i) told = absurd told
+load_refused names path keep old new (bundle.Image i e) told = absurd told
+load_refused names path keep old new (bundle.ImageType i) told = absurd told
+load_refused names path keep old new bundle.TooLong told = absurd told
+load_refused names path keep old new (bundle.Answer e) told = absurd told
 
-pub join_refused : (names : Names) (path : List ℕ) (old new : List Named) (value : Data)
-    (r : Root) (buffers : List (List ℕ)) (f : Fault) → IsSource names path value r buffers
-    → IsTooLong (length (joined buffers)) f → RefusesBundle names path old new (of_fault f)
-join_refused names path old new value r buffers (fault.Outside i) source told = absurd told
-join_refused names path old new value r buffers fault.TooLong source told =
-    record { value = value; root_ = r; buffers = buffers; source = source; long = told }
-join_refused names path old new value r buffers fault.Memory source told = tt
-
-pub edit_refused : (names : Names) (path : List ℕ) (old new : List Named) (value : Data)
-    (r : Root) (buffers : List (List ℕ)) (f : Fault) → IsSource names path value r buffers
-    → NamesStray (spans_from 0 buffers) value f → RefusesBundle names path old new (of_fault f)
-edit_refused names path old new value r buffers (fault.Outside i) source told =
-    record { value = value; root_ = r; buffers = buffers; source = source; stray = told }
-edit_refused names path old new value r buffers fault.TooLong source told = absurd told
-edit_refused names path old new value r buffers fault.Memory source told = tt
-
-pub edited_depth : (names : Names) (path : List ℕ) (value : Data) (r : Root)
-    (buffers : List (List ℕ)) → IsSource names path value r buffers
-    → depth (bundled (spans_from 0 buffers) (length (joined buffers)) value) ≤ max_depth
-edited_depth names path value r buffers source =
-    bundled_depth (spans_from 0 buffers) (length (joined buffers)) value max_depth (omega arith)
-    source.nests
-
-pub container_refused : (names : Names) (path : List ℕ) (old new : List Named) (value : Data)
-    (r : Root) (buffers : List (List ℕ)) (e : BundleError) → IsSource names path value r buffers
-    → ArePlaced (spans_from 0 buffers) value
-    → RefusesContainerOf (bundled (spans_from 0 buffers) (length (joined buffers)) value)
-    (blob_of buffers) e
-    → RefusesBundle names path old new e
-container_refused names path old new value r buffers (bundle.Import e) source placed told =
+pub images_refused : (names : Names) (path : List ℕ) (keep : Bool) (old new : List Named)
+    (value : Data) (r : Root) (buffers : List (List ℕ)) (e : BundleError)
+    → IsSource names path value r buffers → keep ≡ false
+    → RefusesImages names (items_at (codes "images") value) old new e
+    → RefusesFile names path keep old new e
+images_refused names path keep old new value r buffers (bundle.Import e) source not_kept told =
     subst (λ e. OutOfMemoryOr (RefusesFileAt names path old new) e) (sym told) tt
-container_refused names path old new value r buffers (bundle.View i) source placed told =
+images_refused names path keep old new value r buffers (bundle.View i) source not_kept told =
     absurd told
-container_refused names path old new value r buffers bundle.TooLong source placed told =
-    absurd told
-container_refused names path old new value r buffers (bundle.Answer e) source placed told =
+images_refused names path keep old new value r buffers (bundle.Image i e) source not_kept told =
     record {
       value = value;
       root_ = r;
       buffers = buffers;
       source = source;
-      placed = placed;
-      json = told.0;
-      reads = told.1 (edited_depth names path value r buffers source);
-      fault = inl told.2;
+      not_kept = not_kept;
+      told = told;
     }
+images_refused names path keep old new value r buffers (bundle.ImageType i) source not_kept told =
+    record {
+      value = value;
+      root_ = r;
+      buffers = buffers;
+      source = source;
+      not_kept = not_kept;
+      told = told;
+    }
+images_refused names path keep old new value r buffers bundle.TooLong source not_kept told =
+    absurd told
+images_refused names path keep old new value r buffers (bundle.Answer e) source not_kept told =
+    absurd told
 
-pub answer_refused : (names : Names) (path : List ℕ) (old new : List Named) (value : Data)
-    (r : Root) (buffers : List (List ℕ)) → IsSource names path value r buffers
-    → (all : Joined) → IsJoined buffers all → ArePlaced all.spans.items value
-    → (after : Data) → after ≡ bundled all.spans.items all.total value
-    → (e : BundleError) → RefusesContainerOf after (blob_bytes all.blob) e
-    → RefusesBundle names path old new e
-answer_refused names path old new value r buffers source all is placed after edited e told =
-    let same : after ≡ bundled (spans_from 0 buffers) (length (joined buffers)) value =
-    edited ∙ (λ i. bundled (is.spans i) (is.total i) value) in
-    container_refused names path old new value r buffers e source
-    (subst (λ spans. ArePlaced spans value) is.spans placed)
-    (subst (λ (b : Option (List ℕ)).
-    RefusesContainerOf (bundled (spans_from 0 buffers) (length (joined buffers)) value) b e) is.blob
-    (subst (λ (d : Data). RefusesContainerOf d (blob_bytes all.blob) e) same told))
+-- ---- the steps after it
+
+pub file_refused : (names : Names) (path : List ℕ) (keep : Bool) (old new : List Named)
+    (e : BundleError) → RefusesFile names path keep old new e
+    → RefusesBundle names path keep old new e
+file_refused names path keep old new (bundle.Import e) told = told
+file_refused names path keep old new (bundle.View i) told = absurd told
+file_refused names path keep old new (bundle.Image i e) told = told
+file_refused names path keep old new (bundle.ImageType i) told = told
+file_refused names path keep old new bundle.TooLong told = absurd told
+file_refused names path keep old new (bundle.Answer e) told = absurd told
+
+module _ (names : Names) (path : List ℕ) (keep : Bool) (old new : List Named) (value : Data)
+    (r : Root) (buffers images : List (List ℕ)) (ps : List (Option Picture))
+    (gathered : IsGathered names path keep value r buffers images ps) where
+  abbrev whole : List (List ℕ)
+  whole = buffers ++ images
+
+  pub join_refused : (f : Fault) → IsTooLong (length (joined whole)) f
+      → RefusesBundle names path keep old new (of_fault f)
+  join_refused (fault.Outside i) told = absurd told
+  join_refused fault.TooLong told =
+      record {
+        value = value;
+        root_ = r;
+        buffers = buffers;
+        images = images;
+        pictures = ps;
+        gathered = gathered;
+        long = told;
+      }
+  join_refused fault.Memory told = tt
+
+  pub edit_refused : (f : Fault) → NamesStray (spans_from 0 whole) (embedded ps value) f
+      → RefusesBundle names path keep old new (of_fault f)
+  edit_refused (fault.Outside i) told =
+      record {
+        value = value;
+        root_ = r;
+        buffers = buffers;
+        images = images;
+        pictures = ps;
+        gathered = gathered;
+        stray = told;
+      }
+  edit_refused fault.TooLong told = absurd told
+  edit_refused fault.Memory told = tt
+
+  container_refused : (e : BundleError) → ArePlaced (spans_from 0 whole) (embedded ps value)
+      → RefusesContainerOf (moved_value whole ps value) (blob_of whole) e
+      → RefusesBundle names path keep old new e
+  container_refused (bundle.Import e) placed told =
+      subst (λ e. OutOfMemoryOr (RefusesFileAt names path old new) e) (sym told) tt
+  container_refused (bundle.View i) placed told = absurd told
+  container_refused (bundle.Image i e) placed told = absurd told
+  container_refused (bundle.ImageType i) placed told = absurd told
+  container_refused bundle.TooLong placed told = absurd told
+  container_refused (bundle.Answer e) placed told =
+      record {
+        value = value;
+        root_ = r;
+        buffers = buffers;
+        images = images;
+        pictures = ps;
+        gathered = gathered;
+        placed = placed;
+        json = told.0;
+        reads = told.1 (moved_depth whole ps value gathered.source.nests);
+        fault = inl told.2;
+      }
+
+  pub answer_refused : (all : Joined) → IsJoined whole all
+      → ArePlaced all.spans.items (embedded ps value) → (after : Data)
+      → after ≡ bundled all.spans.items all.total (embedded ps value)
+      → (e : BundleError) → RefusesContainerOf after (blob_bytes all.blob) e
+      → RefusesBundle names path keep old new e
+  answer_refused all is placed after edited e told =
+      let same : after ≡ moved_value whole ps value =
+      edited ∙ (λ i. bundled (is.spans i) (is.total i) (embedded ps value)) in
+      container_refused e
+      (subst (λ spans. ArePlaced spans (embedded ps value)) is.spans placed)
+      (subst (λ (b : Option (List ℕ)).
+      RefusesContainerOf (moved_value whole ps value) b e) is.blob
+      (subst (λ (d : Data). RefusesContainerOf d (blob_bytes all.blob) e) same told))
 
 -- the container was made, and the import refuses it
-pub import_refused : (names : Names) (path answer : List ℕ) (e : Error)
-    → IsBundle names path answer → OutOfMemoryOr (RefusesImport answer) e
-    → HasNoContainer names path e
-import_refused names path answer e is told = record {
+pub import_refused : (names : Names) (path : List ℕ) (keep : Bool) (answer : List ℕ) (e : Error)
+    → IsBundle names path keep answer → OutOfMemoryOr (RefusesImport answer) e
+    → HasNoContainer names path keep e
+import_refused names path keep answer e is told = record {
   value = is.value;
   root_ = is.root_;
   buffers = is.buffers;
-  source = is.source;
+  images = is.images;
+  pictures = is.pictures;
+  gathered = is.gathered;
   placed = is.placed;
   json = is.json;
   reads = is.reads;

@@ -1,10 +1,14 @@
 -- Which bytes a file is bundled to (glTF 2.0, sections 3.6.1 and 4.4).
-use Rattle.std.specs.Prelude.{◌≡◌, ◌<◌, ◌≤◌, ◌^◌, ℕ, List, [], ◌∷◌, length, Option, Some, None}
+use Rattle.std.specs.Prelude.{◌≡◌, ◌<◌, ◌≤◌, ◌^◌, ℕ, List, [], ◌∷◌, ◌++◌, length, Option, Some, None}
+use Rattle.std.specs.Prelude.{Bool}
 use Rattle.serde_json.specs.Data.{Data, depth}
 use Rattle.serde_json.specs.Read.{max_depth}
 use Rattle.serde_json.specs.View.{view}
-use Rattle.gltf_edit.specs.Bundled.{bundled, ArePlaced}
+use Rattle.gltf_edit.specs.Bundled.{ArePlaced}
+use Rattle.gltf_edit.specs.Embedded.{embedded}
 use Rattle.gltf_edit.specs.Joined.{joined, spans_from}
+use Rattle.gltf_edit.specs.declared.picture.Picture.{Picture}
+use Rattle.gltf_moved.specs.Laws.{moved_value}
 use Rattle.gltf_json.specs.Documents.{root}
 use Rattle.gltf_json.specs.Reading.{Reads}
 use Rattle.gltf_json.specs.declared.root.Root.{Root}
@@ -17,6 +21,8 @@ use Rattle.gltf.specs.Import.{AreParts, Accepts}
 use Rattle.gltf.specs.Shown.{blob_bytes, bytes_of_each}
 use Rattle.gltf_bundle.specs.declared.bundling.Joined.{Joined}
 use Rattle.gltf_bundle.specs.declared.loading.Loaded.{Loaded}
+use Rattle.gltf_bundle.specs.declared.loading.Gathered.{Gathered}
+use Rattle.gltf_bundle.specs.Images.{AreTaken}
 
 -- the value of the JSON text of a file
 pub record IsValueOf (bytes : List ℕ) (value : Data) : Type 0 where
@@ -45,6 +51,19 @@ abbrev pub IsLoaded : Names → List ℕ → Loaded → Type 0
 IsLoaded names path loaded =
     (r : Root) × IsSource names path (view loaded.value) r (bytes_of_each loaded.buffers.items)
 
+-- and its images are taken in, unless they are kept as they are
+pub record IsGathered (names : Names) (path : List ℕ) (keep : Bool) (value : Data) (r : Root)
+    (buffers images : List (List ℕ)) (pictures : List (Option Picture)) : Type 0 where
+  pub source : IsSource names path value r buffers
+  pub taken : AreTaken names keep value pictures images
+
+-- that is what was gathered
+abbrev pub AreGathered : Names → List ℕ → Bool → Gathered → Type 0
+AreGathered names path keep all =
+    (r : Root) × (buffers : List (List ℕ)) × (images : List (List ℕ))
+    × IsGathered names path keep (view all.value) r buffers images all.pictures.items
+    × (bytes_of_each all.buffers.items ≡ buffers ++ images)
+
 -- the binary buffer of a container: there is none without buffers
 abbrev pub blob_of : List (List ℕ) → Option (List ℕ)
 blob_of [] = None
@@ -65,18 +84,21 @@ pub record IsContainerOf (value : Data) (blob : Option (List ℕ)) (answer : Lis
   pub written : answer ≡ container_bytes json blob
 
 -- the answer is the canonical container of the edited value of the file at the path, and of the
--- bytes of its buffers in one, where each view lies in its buffer
-pub record IsBundle (names : Names) (path answer : List ℕ) : Type 0 where
+-- bytes of its buffers and of the images that are taken in as one, where each view lies in its
+-- buffer
+pub record IsBundle (names : Names) (path : List ℕ) (keep : Bool) (answer : List ℕ) : Type 0 where
   pub value : Data
   pub root_ : Root
   pub buffers : List (List ℕ)
-  pub source : IsSource names path value root_ buffers
-  pub placed : ArePlaced (spans_from 0 buffers) value
-  pub short : length (joined buffers) < 2 ^ 32
+  pub images : List (List ℕ)
+  pub pictures : List (Option Picture)
+  pub gathered : IsGathered names path keep value root_ buffers images pictures
+  pub placed : ArePlaced (spans_from 0 (buffers ++ images)) (embedded pictures value)
+  pub short : length (joined (buffers ++ images)) < 2 ^ 32
   pub json : List ℕ
-  pub reads : Reads json (bundled (spans_from 0 buffers) (length (joined buffers)) value)
-  pub fits : total_of json (blob_of buffers) < 2 ^ 32
-  pub written : answer ≡ container_bytes json (blob_of buffers)
+  pub reads : Reads json (moved_value (buffers ++ images) pictures value)
+  pub fits : total_of json (blob_of (buffers ++ images)) < 2 ^ 32
+  pub written : answer ≡ container_bytes json (blob_of (buffers ++ images))
 
 -- the bytes are accepted where no name can be asked for
 abbrev pub IsAccepted : List ℕ → Type 0

@@ -1,4 +1,6 @@
 pub mod Causes
+pub mod Media
+pub mod Images
 pub mod Bundle
 pub mod Laws
 pub mod Refusals

@@ -1,11 +1,15 @@
 -- What the errors of a bundle say.
-use Rattle.std.specs.Prelude.{◌≡◌, ◌≤◌, ◌^◌, ◌⊎◌, ℕ, List, length, Option}
+use Rattle.std.specs.Prelude.{◌≡◌, ◌≤◌, ◌^◌, ◌⊎◌, ◌++◌, ℕ, List, length, Option, Bool, false}
+use Rattle.std.specs.Prelude.{codes}
 use Rattle.serde_json.specs.Data.{Data, depth}
 use Rattle.serde_json.specs.Read.{max_depth}
-use Rattle.gltf_edit.specs.Bundled.{bundled, ArePlaced}
+use Rattle.gltf_edit.specs.Bundled.{ArePlaced}
+use Rattle.gltf_edit.specs.Embedded.{embedded, items_at}
 use Rattle.gltf_edit.specs.Faults.{NamesStray}
 use Rattle.gltf_edit.specs.Joined.{joined, spans_from}
 use Rattle.gltf_edit.specs.declared.fault.Fault.TheVariants.{Outside}
+use Rattle.gltf_edit.specs.declared.picture.Picture.{Picture}
+use Rattle.gltf_moved.specs.Laws.{moved_value}
 use Rattle.gltf_json.specs.Reading.{Reads}
 use Rattle.gltf_json.specs.declared.root.Root.{Root}
 use Rattle.gltf_glb.specs.Written.{container_bytes, total_of}
@@ -16,7 +20,8 @@ use Rattle.gltf_buffers.specs.Names.{Names}
 use Rattle.gltf.specs.Errors.{OutOfMemoryOr}
 use Rattle.gltf.specs.Files.{RefusesFileAt}
 use Rattle.gltf.specs.Import.{RefusesImport}
-use Rattle.gltf_bundle.specs.Bundle.{IsSource, blob_of}
+use Rattle.gltf_bundle.specs.Bundle.{IsSource, IsGathered, blob_of}
+use Rattle.gltf_bundle.specs.Images.{RefusesImages}
 use Rattle.gltf_bundle.specs.declared.error.BundleError.{BundleError}
 use Rattle.gltf_bundle.specs.declared.error.BundleError.TheVariants as bundle
 
@@ -26,42 +31,73 @@ RefusesSource names path old new (bundle.Import e) =
     OutOfMemoryOr (RefusesFileAt names path old new) e
 RefusesSource names path old new _ = ⊥
 
--- the file is accepted, and view i is the first that does not lie in its buffer
-pub record HasStray (names : Names) (path : List ℕ) (i : ℕ) : Type 0 where
+-- the file is accepted, and its images are not kept and are refused so
+pub record HasBadImage (names : Names) (path : List ℕ) (keep : Bool) (old new : List Named)
+    (e : BundleError) : Type 0 where
   pub value : Data
   pub root_ : Root
   pub buffers : List (List ℕ)
   pub source : IsSource names path value root_ buffers
-  pub stray : NamesStray (spans_from 0 buffers) value (Outside i)
+  pub not_kept : keep ≡ false
+  pub told : RefusesImages names (items_at (codes "images") value) old new e
 
--- the file is accepted, and its buffers are too long for one
-pub record HasTooMuch (names : Names) (path : List ℕ) : Type 0 where
-  pub value : Data
-  pub root_ : Root
-  pub buffers : List (List ℕ)
-  pub source : IsSource names path value root_ buffers
-  pub long : 2 ^ 32 ≤ length (joined buffers)
+-- the error of the import, or of the images, or out of memory
+abbrev pub RefusesFile : Names → List ℕ → Bool → List Named → List Named → BundleError → Type 0
+RefusesFile names path keep old new (bundle.Import e) =
+    OutOfMemoryOr (RefusesFileAt names path old new) e
+RefusesFile names path keep old new (bundle.Image i e) =
+    HasBadImage names path keep old new (bundle.Image i e)
+RefusesFile names path keep old new (bundle.ImageType i) =
+    HasBadImage names path keep old new (bundle.ImageType i)
+RefusesFile names path keep old new _ = ⊥
 
--- the file is accepted, each view lies in its buffer, and the container would be too long, or is
--- refused with this error; out of memory says nothing of it
-pub record HasNoContainer (names : Names) (path : List ℕ) (e : Error) : Type 0 where
+-- the file is accepted, its images are taken in, and view i is the first that does not lie in its
+-- buffer
+pub record HasStray (names : Names) (path : List ℕ) (keep : Bool) (i : ℕ) : Type 0 where
   pub value : Data
   pub root_ : Root
   pub buffers : List (List ℕ)
-  pub source : IsSource names path value root_ buffers
-  pub placed : ArePlaced (spans_from 0 buffers) value
+  pub images : List (List ℕ)
+  pub pictures : List (Option Picture)
+  pub gathered : IsGathered names path keep value root_ buffers images pictures
+  pub stray : NamesStray (spans_from 0 (buffers ++ images)) (embedded pictures value) (Outside i)
+
+-- the file is accepted, its images are taken in, and all is too long for one buffer
+pub record HasTooMuch (names : Names) (path : List ℕ) (keep : Bool) : Type 0 where
+  pub value : Data
+  pub root_ : Root
+  pub buffers : List (List ℕ)
+  pub images : List (List ℕ)
+  pub pictures : List (Option Picture)
+  pub gathered : IsGathered names path keep value root_ buffers images pictures
+  pub long : 2 ^ 32 ≤ length (joined (buffers ++ images))
+
+-- the file is accepted, its images are taken in, each view lies in its buffer, and the container
+-- would be too long, or is refused with this error; out of memory says nothing of it
+pub record HasNoContainer (names : Names) (path : List ℕ) (keep : Bool) (e : Error) : Type 0 where
+  pub value : Data
+  pub root_ : Root
+  pub buffers : List (List ℕ)
+  pub images : List (List ℕ)
+  pub pictures : List (Option Picture)
+  pub gathered : IsGathered names path keep value root_ buffers images pictures
+  pub placed : ArePlaced (spans_from 0 (buffers ++ images)) (embedded pictures value)
   pub json : List ℕ
-  pub reads : Reads json (bundled (spans_from 0 buffers) (length (joined buffers)) value)
-  pub fault : (2 ^ 32 ≤ total_of json (blob_of buffers))
-      ⊎ OutOfMemoryOr (RefusesImport (container_bytes json (blob_of buffers))) e
+  pub reads : Reads json (moved_value (buffers ++ images) pictures value)
+  pub fault : (2 ^ 32 ≤ total_of json (blob_of (buffers ++ images)))
+      ⊎ OutOfMemoryOr (RefusesImport (container_bytes json (blob_of (buffers ++ images)))) e
 
 -- the error is that of the import, or names the one other condition that does not hold
-abbrev pub RefusesBundle : Names → List ℕ → List Named → List Named → BundleError → Type 0
-RefusesBundle names path old new (bundle.Import e) =
+abbrev pub RefusesBundle : Names → List ℕ → Bool → List Named → List Named → BundleError → Type 0
+RefusesBundle names path keep old new (bundle.Import e) =
     OutOfMemoryOr (RefusesFileAt names path old new) e
-RefusesBundle names path old new (bundle.View i) = HasStray names path i
-RefusesBundle names path old new bundle.TooLong = HasTooMuch names path
-RefusesBundle names path old new (bundle.Answer e) = HasNoContainer names path e
+RefusesBundle names path keep old new (bundle.View i) = HasStray names path keep i
+RefusesBundle names path keep old new (bundle.Image i e) =
+    HasBadImage names path keep old new (bundle.Image i e)
+RefusesBundle names path keep old new (bundle.ImageType i) =
+    HasBadImage names path keep old new (bundle.ImageType i)
+RefusesBundle names path keep old new bundle.TooLong = HasTooMuch names path keep
+RefusesBundle names path keep old new (bundle.Answer e) = HasNoContainer names path keep e
 
 -- out of memory, or the container of some text of the value and of the blob would be too long
 abbrev pub RefusesContainerOf : Data → Option (List ℕ) → BundleError → Type 0

@@ -1,62 +1,97 @@
-//! One container out of a file and the files that its buffers name.
-ghost use Rattle.std.specs.Prelude.{◌≡◌, IfOk, IfErr, if◌then◌else◌, length};
+//! One container out of a file and the files that its buffers and images name.
+ghost use Rattle.std.specs.Prelude.{◌≡◌, IfOk, IfErr, OnOk, if◌then◌else◌, length};
 ghost use Rattle.gltf_buffers.specs.Names.{names_of};
 ghost use Rattle.gltf_bundle.specs.Bundle.{IsBundle, IsJoined, IsAccepted, IsContainerOf};
 ghost use Rattle.gltf_bundle.specs.Refusals.{RefusesBundle, RefusesContainerOf};
-ghost use Rattle.gltf_edit.specs.Faults.{IsTooLong};
+ghost use Rattle.gltf_edit.specs.Bundled.{bundled, ArePlaced};
+ghost use Rattle.gltf_edit.specs.Embedded.{embedded};
+ghost use Rattle.gltf_edit.specs.Faults.{IsTooLong, NamesStray};
 ghost use Rattle.gltf_edit.specs.Joined.{joined};
 ghost use Rattle.gltf_glb.specs.Glb.{items_of};
 ghost use Rattle.gltf.specs.Shown.{blob_bytes, bytes_of_each};
 ghost use Rattle.serde_json.specs.View.{view};
 
 use crate::error::BundleError;
-use crate::loading::{Loaded, load};
+use crate::loading::{Gathered, gather};
+use crate::options::BundleOptions;
 use gltf::buffer::Data;
 use gltf::{NamedBytes, import_slice};
-use gltf_edit::{Fault, Span, append, bundled};
+use gltf_edit::{Fault, Picture, Span, append, bundled, embedded};
 use gltf_glb::binary::Header;
 use gltf_glb::{Error, Glb};
 use serde_json::Value;
 use std::alloc::Global;
 use std::borrow::CowSlice;
 
-/// The file at a path as one GLB container (glTF 2.0, section 4.4), where files are asked of a
-/// source as [`gltf::import_from`] asks them.
+/// The file at a path as one GLB container (glTF 2.0, section 4.4) that needs no other file, where
+/// files are asked of a source as [`gltf::import_from`] asks them.
 ///
-/// The one buffer of the container has the bytes of all buffers, as they are imported, one after
-/// the other, each from a multiple of eight bytes on. Each view has its bytes there, and so has
-/// what `EXT_meshopt_compression` says of it. All other members keep their values; the names and
-/// extras of the buffers go with these. A chunk of unknown type and a blob that no buffer takes
-/// are dropped. An extension that is not known here and names buffers itself cannot be seen: its
-/// indices stay as they are.
+/// Each image with a URI is taken in: its bytes are those that its URI leads to, as that of a buffer
+/// does, and the source is asked once for each image. It goes into a buffer and a view of its own,
+/// behind those of the file, and names that view with its media type, in place of its URI. The media
+/// type is that which a `data:` URI names, where it is PNG, JPEG, WebP or KTX2; else the image's
+/// member `mimeType`; else the one of these four whose files begin as its bytes do. With
+/// [`BundleOptions::keep_images`] images are not touched: those with URIs keep them.
+///
+/// The one buffer of the container has the bytes of all buffers, as they are imported, and of these
+/// images, one after the other, each from a multiple of eight bytes on. Each view has its bytes
+/// there, and so has what `EXT_meshopt_compression` says of it. All other members keep their
+/// values; the names and extras of the buffers go with these. A chunk of unknown type and a blob
+/// that no buffer takes are dropped. An extension that is not known here and names buffers or files
+/// itself cannot be seen: what it says stays as it is.
 ///
 /// Returns [`BundleError::Import`] with the error of the import, or where there is not enough
-/// memory. Each other error is of a file that is imported: [`BundleError::View`] with the first
-/// view that does not lie in the bytes of its buffer; [`BundleError::TooLong`] where the one buffer,
-/// and [`BundleError::Answer`] where the container would have more than 4294967295 bytes. The
-/// container is imported before it is returned: [`BundleError::Answer`] also says that it is
-/// refused, which is not expected of any file.
+/// memory. Each other error is of a file that is imported: [`BundleError::Image`] with the first
+/// image whose URI leads to no bytes, and why, or [`BundleError::ImageType`] where these have no
+/// media type; [`BundleError::View`] with the first view that does not lie in the bytes of its
+/// buffer; [`BundleError::TooLong`] where the one buffer, and [`BundleError::Answer`] where the
+/// container would have more than 4294967295 bytes. The container is imported before it is
+/// returned: [`BundleError::Answer`] also says that it is refused, which is not expected of any
+/// file.
 pub fn bundle<S: NamedBytes>(
     alloc: Global,
     source: &mut S,
     path: &str,
+    options: &BundleOptions,
 ) -> Result<Vec<u8>, BundleError>
     ensures bundle { IfOk result (λ answer. IsBundle (names_of (S.bytes_by_name source.old))
-        path.now answer.items) }
+        path.now options.now.keep_images answer.items) }
     ensures accepted { IfOk result (λ answer. IsAccepted answer.items) }
     ensures refused { IfErr result (RefusesBundle (names_of (S.bytes_by_name source.old)) path.now
-        (S.failures source.old) (S.failures source.new)) }
+        options.now.keep_images (S.failures source.old) (S.failures source.new)) }
 {
-    let Loaded { value, buffers } = load(alloc, source, path)?;
+    let Gathered {
+        value,
+        pictures,
+        buffers,
+    } = gather(alloc, source, path, options.keep_images)?;
     let joined = join(alloc, &buffers)?;
     drop(buffers);
-    let value = bundled(alloc, value, &joined.spans, joined.total)?;
+    let value = edited(alloc, value, &pictures, &joined)?;
     let answer = container_of(alloc, &value, joined.blob)?;
     match import_slice(alloc, &answer) {
         Ok(_) => Ok(answer),
         Err(Error::Memory) => Err(BundleError::Import(Error::Memory)),
         Err(error) => Err(BundleError::Answer(error)),
     }
+}
+
+/// The value of the container: the images in buffers of their own, and all buffers in one.
+fn edited(
+    alloc: Global,
+    value: Value,
+    pictures: &[Option<Picture>],
+    all: &Joined,
+) -> Result<Value, Fault>
+    ensures value { IfOk result (λ v. view v
+        ≡ bundled all.now.spans.items all.now.total (embedded pictures.now (view value))) }
+    ensures placed { OnOk result (ArePlaced all.now.spans.items
+        (embedded pictures.now (view value))) }
+    ensures refused { IfErr result (NamesStray all.now.spans.items
+        (embedded pictures.now (view value))) }
+{
+    let value = embedded(alloc, value, pictures)?;
+    bundled(alloc, value, &all.spans, all.total)
 }
 
 /// The bytes of all buffers in one, where there are buffers, and where they stand there.

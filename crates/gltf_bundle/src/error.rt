@@ -6,7 +6,7 @@ ghost use Rattle.gltf_glb.specs.declared.error.Error.TheVariants.{Memory};
 
 use gltf_edit::Fault;
 use gltf_glb::Error;
-use std::alloc::AllocError;
+use std::alloc::{AllocError, AllocFailed};
 use std::fmt;
 
 /// Why a file was not bundled.
@@ -18,6 +18,16 @@ pub enum BundleError {
     /// The view at this index, or what `EXT_meshopt_compression` says of it, does not lie in its
     /// buffer: over the one buffer it would read the bytes of another.
     View(usize),
+    /// The URI of an image leads to no bytes: the error that a buffer with this URI would have.
+    Image {
+        /// The image's index.
+        image: usize,
+        /// What is wrong with its URI.
+        cause: Error,
+    },
+    /// The image at this index has a URI, which leads to bytes of no known media type, and it has no
+    /// member `mimeType`.
+    ImageType(usize),
     /// The one buffer would have more than 4294967295 bytes.
     TooLong,
     /// The container would be too long, or not be accepted.
@@ -28,6 +38,14 @@ impl From<AllocError> for BundleError {
     ghost from_gives = { λ _ e. e ≡ Import Memory };
 
     fn from(_cause: AllocError) -> BundleError {
+        BundleError::Import(Error::Memory)
+    }
+}
+
+impl<T: Drop> From<AllocFailed<T>> for BundleError {
+    ghost from_gives = { λ _ e. e ≡ Import Memory };
+
+    fn from(_cause: AllocFailed<T>) -> BundleError {
         BundleError::Import(Error::Memory)
     }
 }
@@ -49,7 +67,12 @@ impl fmt::Display for BundleError {
         match self {
             BundleError::Import(error) => write!(f, "{error}"),
             BundleError::View(view) => write!(f, "bufferViews[{view}]: not within its buffer"),
-            BundleError::TooLong => write!(f, "more than 4294967295 bytes of buffers"),
+            BundleError::Image { image, cause } => write!(f, "images[{image}].uri: {cause}"),
+            BundleError::ImageType(image) => write!(
+                f,
+                "images[{image}]: neither a mimeType nor bytes of PNG, JPEG, WebP or KTX2"
+            ),
+            BundleError::TooLong => write!(f, "more than 4294967295 bytes of buffers and images"),
             BundleError::Answer(error) => write!(f, "the container: {error}"),
         }
     }

@@ -1,15 +1,25 @@
 //! Laws of bundles. Each is a statement over definitions, proved as the contract of a function that
 //! does nothing.
-ghost use Rattle.gltf_bundle.specs.Laws.{HasOneBuffer, KeepsItems};
+ghost use Rattle.gltf_bundle.specs.Laws.{HasOneBuffer, NeedsNoFile, KeepsItems, ShowsImages};
 
 use gltf_glb::laws::{one_reading, reads_back};
 use gltf_items::Item;
 use gltf_pack::laws::spaces_behind;
 
 /// Whatever document and buffers a bundle is imported as, the document is that of the file whose
-/// buffers became one, and its buffer is all buffers.
+/// images went into buffers of their own and whose buffers became one, and its buffer is all
+/// buffers.
 pub fn one_buffer()
     ensures { HasOneBuffer }
+{
+    one_reading();
+    reads_back();
+    spaces_behind();
+}
+
+/// No buffer of a bundle has a URI, and no image has one, unless images are kept.
+pub fn needs_no_file()
+    ensures { NeedsNoFile }
 {
     one_reading();
     reads_back();
@@ -22,4 +32,15 @@ pub fn items_are_kept<T: Item>()
 {
     one_buffer();
     gltf_moved::laws::items_are_kept::<T>();
+}
+
+/// Each image of the file that has a URI is, in a bundle where images are not kept, in a view of the
+/// bytes that the URI leads to.
+pub fn images_are_shown()
+    ensures { ShowsImages }
+{
+    one_reading();
+    reads_back();
+    spaces_behind();
+    gltf_moved::laws::images_are_shown();
 }

@@ -1,10 +1,14 @@
-//! Any file of glTF 2.0 with the bytes of its buffers as one GLB container.
+//! Any file of glTF 2.0 with the bytes of its buffers and images as one GLB container.
 #![tactic(auto)]
 
 mod bundling;
 mod error;
+mod images;
 pub mod laws;
 mod loading;
+mod media;
+mod options;
 
 pub use bundling::bundle;
 pub use error::BundleError;
+pub use options::BundleOptions;

@@ -1,8 +1,8 @@
 //! The value of a file's JSON, and the bytes of its buffers.
-ghost use Rattle.std.specs.Prelude.{◌≡◌, IfOk, IfErr};
+ghost use Rattle.std.specs.Prelude.{◌≡◌, IfOk, IfErr, OnOk};
 ghost use Rattle.std.specs.Cow.{cow_slice_items};
-ghost use Rattle.gltf_bundle.specs.Bundle.{IsLoaded, IsValueOf};
-ghost use Rattle.gltf_bundle.specs.Refusals.{RefusesSource};
+ghost use Rattle.gltf_bundle.specs.Bundle.{IsLoaded, IsValueOf, AreGathered};
+ghost use Rattle.gltf_bundle.specs.Refusals.{RefusesSource, RefusesFile};
 ghost use Rattle.gltf_bundle.specs.declared.error.BundleError.TheVariants.{Import};
 ghost use Rattle.gltf_glb.specs.declared.error.Error.TheVariants.{Memory};
 ghost use Rattle.gltf.specs.Import.{AreParts};
@@ -11,9 +11,11 @@ ghost use Rattle.gltf_buffers.specs.Names.{names_of};
 ghost use Rattle.serde_json.specs.View.{view};
 
 use crate::error::BundleError;
+use crate::images::pictures_of;
 use gltf::buffer::Data;
 use gltf::{Gltf, Name, NamedBytes, import_buffers_from};
 use gltf_buffers::Ask;
+use gltf_edit::Picture;
 use gltf_glb::binary::Header;
 use gltf_glb::laws::one_reading;
 use gltf_glb::{Error, Glb};
@@ -39,6 +41,9 @@ pub(crate) fn load<S: NamedBytes>(
     ensures loaded { IfOk result (IsLoaded (names_of (S.bytes_by_name source.old)) path.now) }
     ensures refused { IfErr result (RefusesSource (names_of (S.bytes_by_name source.old)) path.now
         (S.failures source.old) (S.failures source.new)) }
+    ensures fine { OnOk result (S.failures source.new ≡ S.failures source.old) }
+    ensures kept { OnOk result (names_of (S.bytes_by_name source.new)
+        ≡ names_of (S.bytes_by_name source.old)) }
 {
     // A law that the proof stands on; the call does nothing.
     one_reading();
@@ -58,6 +63,40 @@ pub(crate) fn load<S: NamedBytes>(
         Err(error) => return Err(BundleError::Import(error)),
     };
     Ok(Loaded { value, buffers })
+}
+
+/// What is put into a container: the value of a file's JSON, a picture for each image that is taken
+/// in, by index, and the bytes of its buffers, with those of these images behind.
+#[derive(Drop)]
+pub(crate) struct Gathered {
+    /// The value.
+    pub(crate) value: Value,
+    /// The pictures.
+    pub(crate) pictures: Vec<Option<Picture>>,
+    /// The bytes.
+    pub(crate) buffers: Vec<Data>,
+}
+
+/// Imports the file at the path, and takes in its images, unless they are kept as they are.
+pub(crate) fn gather<S: NamedBytes>(
+    alloc: Global,
+    source: &mut S,
+    path: &str,
+    keep: bool,
+) -> Result<Gathered, BundleError>
+    ensures gathered { IfOk result (AreGathered (names_of (S.bytes_by_name source.old)) path.now
+        keep) }
+    ensures refused { IfErr result (RefusesFile (names_of (S.bytes_by_name source.old)) path.now
+        keep (S.failures source.old) (S.failures source.new)) }
+{
+    let Loaded { value, buffers } = load(alloc, source, path)?;
+    let mut buffers = buffers;
+    let pictures = pictures_of(alloc, source, &value, keep, &mut buffers)?;
+    Ok(Gathered {
+        value,
+        pictures,
+        buffers,
+    })
 }
 
 /// The value of the JSON text of a file.

@@ -1,282 +1,96 @@
-//! The loader as a library for C: one export for each call of `gltf_calls`, with its contract.
-//! `c/gltf.h` says how each function is called, and the call of that name in `gltf_calls::calls`
-//! what it answers and when.
+//! The loader as a library for C: one export for each call of `gltf_c_calls`, with its contract.
+//! `c/gltf_shim.c` has the functions of `c/gltf.h` over these, which take the file behind a pointer
+//! as it is there; the call of that name in `gltf_c_calls` says what it returns and when.
 //!
 //! No function here asks anything of its arguments: what a caller has to keep is what C cannot say
 //! in a type, and stands in the header.
 #![tactic(auto)]
 
 ghost use Rattle.std.specs.Prelude.{◌≡◌, None};
-ghost use Rattle.gltf_calls.specs.Calls.{IsOpened, HasCount, Gives, GivesText, ReadsItems};
-ghost use Rattle.gltf_calls.specs.Calls.{CopiesBuffer};
-ghost use Rattle.gltf_calls.specs.Images.{shown_image_of, uri_of, mime_type_of};
-ghost use Rattle.gltf_calls.specs.Info.{accessor_of};
-ghost use Rattle.gltf_calls.specs.Names.{name_of};
-ghost use Rattle.gltf_calls.specs.Nodes.{shown_node_of, child_of, scene_node_of, number_of};
-ghost use Rattle.gltf_calls.specs.Primitives.{primitive_count_of, shown_primitive_of};
-ghost use Rattle.gltf_calls.specs.Primitives.{attribute_accessor_of};
-ghost use Rattle.gltf_calls.specs.Read.{buffer_size_of};
+ghost use Rattle.gltf_c_bytes.specs.Info.{buffer_of, accessor_of, image_of};
+ghost use Rattle.gltf_c_bytes.specs.Lists.{numbers_of};
+ghost use Rattle.gltf_c_bytes.specs.Places.{buffer_place, view_place, accessor_place};
+ghost use Rattle.gltf_c_look.specs.Cameras.{camera_of};
+ghost use Rattle.gltf_c_look.specs.Lights.{light_of};
+ghost use Rattle.gltf_c_look.specs.Materials.{material_of};
+ghost use Rattle.gltf_c_look.specs.Texts.{text_of};
+ghost use Rattle.gltf_c_look.specs.Textures.{texture_of, sampler_of};
+ghost use Rattle.gltf_c_look.specs.Views.{view_of};
+ghost use Rattle.gltf_c_scene.specs.Animations.{shown_animation_of, shown_channel_of};
+ghost use Rattle.gltf_c_scene.specs.Attributes.{shown_attribute_of, found_attribute_of};
+ghost use Rattle.gltf_c_scene.specs.Attributes.{attribute_name_of};
+ghost use Rattle.gltf_c_scene.specs.Meshes.{shown_mesh_of, shown_primitive_of};
+ghost use Rattle.gltf_c_scene.specs.Meshes.{variant_material_of};
+ghost use Rattle.gltf_c_scene.specs.Names.{name_of};
+ghost use Rattle.gltf_c_scene.specs.Nodes.{shown_node_of, shown_scene_of};
+ghost use Rattle.gltf_c_scene.specs.Skins.{shown_skin_of, node_list_of};
+ghost use Rattle.gltf_c_calls.specs.Calls.{HasCount, Gives, shown, default_scene};
+ghost use Rattle.gltf_c_calls.specs.Calls.{GivesText, GivesTextOr, GivesList};
+ghost use Rattle.gltf_c_calls.specs.Calls.{ReadsItems, ReadsJson};
+ghost use Rattle.gltf_c_calls.specs.Opened.{IsOpened};
+ghost use Rattle.gltf_c_calls.specs.Waiting.{IsGivenBytes};
 
-use gltf_calls::calls;
-use gltf_calls::handle::GltfFile;
-use gltf_calls::images::GltfImage;
-use gltf_calls::info::GltfAccessor;
-use gltf_calls::nodes::GltfNode;
-use gltf_calls::primitives::GltfPrimitive;
+use gltf_c_bytes::info::{GltfAccessor, GltfBuffer, GltfImage};
+use gltf_c_bytes::place::GltfBytes;
+use gltf_c_calls::handle::GltfFile;
+use gltf_c_calls::{bytes, look, open, room, scene};
+use gltf_c_fault::fault::GltfFault;
+use gltf_c_look::camera::GltfCamera;
+use gltf_c_look::light::GltfLight;
+use gltf_c_look::material::GltfMaterial;
+use gltf_c_look::texture::{GltfSampler, GltfTexture};
+use gltf_c_look::view::GltfBufferView;
+use gltf_c_scene::animation::{GltfAnimation, GltfChannel};
+use gltf_c_scene::attribute::GltfAttribute;
+use gltf_c_scene::mesh::{GltfMesh, GltfPrimitive};
+use gltf_c_scene::node::{GltfNode, GltfScene};
+use gltf_c_scene::skin::GltfSkin;
 use std::alloc::Global;
 
-/// Opens a file from its bytes: a GLB container where they begin with `glTF`, else JSON text (glTF
-/// 2.0, sections 2.8, 3.6.1 and 4.4).
+/// Opens a file from its bytes, with the names of extensions that the caller handles, each with a
+/// zero byte after it. With an odd number in `flags` buffers of other files wait for their bytes.
 #[unsafe(no_mangle)]
-pub extern "C" fn gltf_open(
+pub extern "C" fn core_open(
     alloc: Global,
     bytes: &[u8],
+    names: &[u8],
+    flags: u32,
     file: &mut GltfFile,
-    message: &mut [u8],
+    fault: &mut GltfFault,
 ) -> u32
-    ensures { IsOpened bytes.now result file.new.value message.old message.new }
+    ensures { IsOpened flags names.now bytes.now result file.new.value fault.new }
 {
-    calls::open(alloc, bytes, file, message)
+    open::open(alloc, bytes, names, flags, file, fault)
+}
+
+/// Gives the bytes of the buffer at an index, which waits for them.
+#[unsafe(no_mangle)]
+pub extern "C" fn core_give(alloc: Global, file: &mut GltfFile, index: usize, bytes: &[u8]) -> u32
+    ensures { IsGivenBytes index bytes.now result file.old.value file.new.value }
+{
+    open::give(alloc, file, index, bytes)
 }
 
 /// Gives back all that a file took.
 #[unsafe(no_mangle)]
-pub extern "C" fn gltf_close(alloc: Global, file: &mut GltfFile)
+pub extern "C" fn core_close(alloc: Global, file: &mut GltfFile)
     ensures { file.new.value ≡ None }
 {
-    calls::close(alloc, file);
+    open::close(alloc, file);
 }
 
 /// How many records of a kind there are; 0 in a closed file, and for a number that is no kind.
 #[unsafe(no_mangle)]
-pub extern "C" fn gltf_count(alloc: Global, file: &mut GltfFile, kind: u32) -> usize
+pub extern "C" fn core_count(alloc: Global, file: &mut GltfFile, kind: u32) -> usize
     ensures same { file.new.value ≡ file.old.value }
     ensures count { HasCount file.old.value kind result }
 {
-    calls::count(alloc, file, kind)
+    scene::count(alloc, file, kind)
 }
 
-/// What the accessor at an index is (glTF 2.0, section 5.1).
+/// The name of the record of a kind at an index.
 #[unsafe(no_mangle)]
-pub extern "C" fn gltf_accessor_info(
-    alloc: Global,
-    file: &mut GltfFile,
-    index: usize,
-    out: &mut GltfAccessor,
-) -> u32
-    ensures same { file.new.value ≡ file.old.value }
-    ensures described { Gives (accessor_of index) file.old.value result out.old out.new }
-{
-    calls::accessor_info(alloc, file, index, out)
-}
-
-/// The items of the accessor at an index as bytes, one after the other, with the sparse overrides
-/// (glTF 2.0, section 3.6.2), at the front of the room.
-#[unsafe(no_mangle)]
-pub extern "C" fn gltf_accessor_read(
-    alloc: Global,
-    file: &mut GltfFile,
-    index: usize,
-    out: &mut [u8],
-) -> u32
-    ensures same { file.new.value ≡ file.old.value }
-    ensures read { ReadsItems file.old.value index result out.old out.new }
-{
-    calls::accessor_read(alloc, file, index, out)
-}
-
-/// How many bytes the buffer at an index has, with the zeros after them.
-#[unsafe(no_mangle)]
-pub extern "C" fn gltf_buffer_size(
-    alloc: Global,
-    file: &mut GltfFile,
-    index: usize,
-    out: &mut usize,
-) -> u32
-    ensures same { file.new.value ≡ file.old.value }
-    ensures size { Gives (buffer_size_of index) file.old.value result out.old out.new }
-{
-    calls::buffer_size(alloc, file, index, out)
-}
-
-/// Fills the room with the bytes of the buffer at an index, from an offset on.
-#[unsafe(no_mangle)]
-pub extern "C" fn gltf_buffer_read(
-    alloc: Global,
-    file: &mut GltfFile,
-    index: usize,
-    offset: usize,
-    out: &mut [u8],
-) -> u32
-    ensures same { file.new.value ≡ file.old.value }
-    ensures copied { CopiesBuffer file.old.value index offset result out.old out.new }
-{
-    calls::buffer_read(alloc, file, index, offset, out)
-}
-
-/// How many primitives the mesh at an index has.
-#[unsafe(no_mangle)]
-pub extern "C" fn gltf_primitive_count(
-    alloc: Global,
-    file: &mut GltfFile,
-    mesh: usize,
-    out: &mut usize,
-) -> u32
-    ensures same { file.new.value ≡ file.old.value }
-    ensures count { Gives (primitive_count_of mesh) file.old.value result out.old out.new }
-{
-    calls::primitive_count(alloc, file, mesh, out)
-}
-
-/// What a primitive of a mesh is (glTF 2.0, section 5.24).
-#[unsafe(no_mangle)]
-pub extern "C" fn gltf_primitive_info(
-    alloc: Global,
-    file: &mut GltfFile,
-    mesh: usize,
-    primitive: usize,
-    out: &mut GltfPrimitive,
-) -> u32
-    ensures same { file.new.value ≡ file.old.value }
-    ensures described { Gives (shown_primitive_of mesh primitive)
-        file.old.value result out.old out.new }
-{
-    calls::primitive_info(alloc, file, mesh, primitive, out)
-}
-
-/// The index of the accessor of an attribute of a primitive, by the number of its meaning and that
-/// of its set (glTF 2.0, section 3.7.2.1).
-#[unsafe(no_mangle)]
-pub extern "C" fn gltf_attribute(
-    alloc: Global,
-    file: &mut GltfFile,
-    mesh: usize,
-    primitive: usize,
-    meaning: u32,
-    set: u32,
-    out: &mut usize,
-) -> u32
-    ensures same { file.new.value ≡ file.old.value }
-    ensures found { Gives (attribute_accessor_of mesh primitive meaning set)
-        file.old.value result out.old out.new }
-{
-    calls::attribute(alloc, file, mesh, primitive, meaning, set, out)
-}
-
-/// What the node at an index is (glTF 2.0, section 5.25).
-#[unsafe(no_mangle)]
-pub extern "C" fn gltf_node_info(
-    alloc: Global,
-    file: &mut GltfFile,
-    index: usize,
-    out: &mut GltfNode,
-) -> u32
-    ensures same { file.new.value ≡ file.old.value }
-    ensures described { Gives (shown_node_of index) file.old.value result out.old out.new }
-{
-    calls::node_info(alloc, file, index, out)
-}
-
-/// The index of the child of a node at a position among its children.
-#[unsafe(no_mangle)]
-pub extern "C" fn gltf_node_child(
-    alloc: Global,
-    file: &mut GltfFile,
-    node: usize,
-    position: usize,
-    out: &mut usize,
-) -> u32
-    ensures same { file.new.value ≡ file.old.value }
-    ensures found { Gives (child_of node position) file.old.value result out.old out.new }
-{
-    calls::node_child(alloc, file, node, position, out)
-}
-
-/// The number at a position of a member of a node, its matrix, translation, rotation, scale or
-/// weights (glTF 2.0, section 3.5.3), as the nearest double.
-#[unsafe(no_mangle)]
-pub extern "C" fn gltf_node_number(
-    alloc: Global,
-    file: &mut GltfFile,
-    node: usize,
-    member: u32,
-    position: usize,
-    out: &mut f64,
-) -> u32
-    ensures same { file.new.value ≡ file.old.value }
-    ensures found { Gives (number_of node member position)
-        file.old.value result out.old out.new }
-{
-    calls::node_number(alloc, file, node, member, position, out)
-}
-
-/// The index of the node of a scene at a position among its root nodes (glTF 2.0, section 5.27).
-#[unsafe(no_mangle)]
-pub extern "C" fn gltf_scene_node(
-    alloc: Global,
-    file: &mut GltfFile,
-    scene: usize,
-    position: usize,
-    out: &mut usize,
-) -> u32
-    ensures same { file.new.value ≡ file.old.value }
-    ensures found { Gives (scene_node_of scene position) file.old.value result out.old out.new }
-{
-    calls::scene_node(alloc, file, scene, position, out)
-}
-
-/// Where the bytes of the image at an index are (glTF 2.0, section 3.8.3): in which buffer, from
-/// which offset on, and how many, as the document says it.
-#[unsafe(no_mangle)]
-pub extern "C" fn gltf_image_info(
-    alloc: Global,
-    file: &mut GltfFile,
-    index: usize,
-    out: &mut GltfImage,
-) -> u32
-    ensures same { file.new.value ≡ file.old.value }
-    ensures described { Gives (shown_image_of index) file.old.value result out.old out.new }
-{
-    calls::image_info(alloc, file, index, out)
-}
-
-/// The URI of the image at an index (glTF 2.0, section 5.18.1): as much of it as there is room for
-/// before a zero byte, and the length of the whole.
-#[unsafe(no_mangle)]
-pub extern "C" fn gltf_image_uri(
-    alloc: Global,
-    file: &mut GltfFile,
-    index: usize,
-    text: &mut [u8],
-    length: &mut usize,
-) -> u32
-    ensures same { file.new.value ≡ file.old.value }
-    ensures text { GivesText (uri_of index) file.old.value result text.old text.new
-        length.old length.new }
-{
-    calls::image_uri(alloc, file, index, text, length)
-}
-
-/// The media type of the image at an index (glTF 2.0, section 5.18.2), as [`gltf_image_uri`] gives
-/// the URI.
-#[unsafe(no_mangle)]
-pub extern "C" fn gltf_image_mime_type(
-    alloc: Global,
-    file: &mut GltfFile,
-    index: usize,
-    text: &mut [u8],
-    length: &mut usize,
-) -> u32
-    ensures same { file.new.value ≡ file.old.value }
-    ensures text { GivesText (mime_type_of index) file.old.value result text.old text.new
-        length.old length.new }
-{
-    calls::image_mime_type(alloc, file, index, text, length)
-}
-
-/// The name of the record of a kind at an index, as [`gltf_image_uri`] gives a URI.
-#[unsafe(no_mangle)]
-pub extern "C" fn gltf_name(
+pub extern "C" fn core_name(
     alloc: Global,
     file: &mut GltfFile,
     kind: u32,
@@ -285,8 +99,455 @@ pub extern "C" fn gltf_name(
     length: &mut usize,
 ) -> u32
     ensures same { file.new.value ≡ file.old.value }
-    ensures text { GivesText (name_of kind index) file.old.value result text.old text.new
+    ensures text { GivesText (shown (name_of kind index)) file.old.value result text.old text.new
         length.old length.new }
 {
-    calls::name(alloc, file, kind, index, text, length)
+    room::name(alloc, file, kind, index, text, length)
+}
+
+/// Another text of the record at an index, by its number.
+#[unsafe(no_mangle)]
+pub extern "C" fn core_text(
+    alloc: Global,
+    file: &mut GltfFile,
+    what: u32,
+    index: usize,
+    text: &mut [u8],
+    length: &mut usize,
+) -> u32
+    ensures same { file.new.value ≡ file.old.value }
+    ensures text { GivesText (shown (text_of what index)) file.old.value result text.old text.new
+        length.old length.new }
+{
+    room::text(alloc, file, what, index, text, length)
+}
+
+/// The name of the attribute at a position of a primitive or of one of its morph targets.
+#[unsafe(no_mangle)]
+pub extern "C" fn core_attribute_name(
+    alloc: Global,
+    file: &mut GltfFile,
+    mesh: usize,
+    primitive: usize,
+    target: usize,
+    position: usize,
+    text: &mut [u8],
+    length: &mut usize,
+) -> u32
+    ensures same { file.new.value ≡ file.old.value }
+    ensures text { GivesTextOr (shown (attribute_name_of mesh primitive target position))
+        file.old.value result text.old text.new length.old length.new }
+{
+    room::attribute_name(alloc, file, mesh, primitive, target, position, text, length)
+}
+
+/// JSON text of what a record has besides: its `extras`, or an extension.
+#[unsafe(no_mangle)]
+pub extern "C" fn core_json(
+    alloc: Global,
+    file: &mut GltfFile,
+    kind: u32,
+    index: usize,
+    part: usize,
+    by_name: u32,
+    extension: &[u8],
+    text: &mut [u8],
+    length: &mut usize,
+) -> u32
+    ensures same { file.new.value ≡ file.old.value }
+    ensures json { ReadsJson kind index part by_name extension.now file.old.value result
+        text.old text.new length.old length.new }
+{
+    room::json(
+        alloc, file, kind, index, part, by_name, extension, text, length,
+    )
+}
+
+/// A list of nodes that the record at an index holds, by the number of the list.
+#[unsafe(no_mangle)]
+pub extern "C" fn core_list(
+    alloc: Global,
+    file: &mut GltfFile,
+    what: u32,
+    index: usize,
+    out: &mut [usize],
+    count: &mut usize,
+) -> u32
+    ensures same { file.new.value ≡ file.old.value }
+    ensures list { GivesList (shown (node_list_of what index)) file.old.value result
+        out.old out.new count.old count.new }
+{
+    room::list(alloc, file, what, index, out, count)
+}
+
+/// A list of numbers that the record at an index holds, by the number of the list.
+#[unsafe(no_mangle)]
+pub extern "C" fn core_numbers(
+    alloc: Global,
+    file: &mut GltfFile,
+    what: u32,
+    index: usize,
+    out: &mut [f64],
+    count: &mut usize,
+) -> u32
+    ensures same { file.new.value ≡ file.old.value }
+    ensures list { GivesList (numbers_of what index) file.old.value result
+        out.old out.new count.old count.new }
+{
+    room::numbers(alloc, file, what, index, out, count)
+}
+
+/// The items of the accessor at an index, one after the other.
+#[unsafe(no_mangle)]
+pub extern "C" fn core_accessor_read(
+    alloc: Global,
+    file: &mut GltfFile,
+    index: usize,
+    out: &mut [u8],
+) -> u32
+    ensures same { file.new.value ≡ file.old.value }
+    ensures read { ReadsItems index file.old.value result out.old out.new }
+{
+    room::accessor_read(alloc, file, index, out)
+}
+
+/// What the buffer at an index is (glTF 2.0, section 5.10).
+#[unsafe(no_mangle)]
+pub extern "C" fn core_buffer_info(
+    alloc: Global,
+    file: &mut GltfFile,
+    index: usize,
+    out: &mut GltfBuffer,
+) -> u32
+    ensures same { file.new.value ≡ file.old.value }
+    ensures given { Gives (buffer_of index) file.old.value result out.old out.new }
+{
+    bytes::buffer_info(alloc, file, index, out)
+}
+
+/// What the view at an index is (section 5.11).
+#[unsafe(no_mangle)]
+pub extern "C" fn core_buffer_view_info(
+    alloc: Global,
+    file: &mut GltfFile,
+    index: usize,
+    out: &mut GltfBufferView,
+) -> u32
+    ensures same { file.new.value ≡ file.old.value }
+    ensures given { Gives (shown (view_of index)) file.old.value result out.old out.new }
+{
+    bytes::buffer_view_info(alloc, file, index, out)
+}
+
+/// What the accessor at an index is (section 5.1).
+#[unsafe(no_mangle)]
+pub extern "C" fn core_accessor_info(
+    alloc: Global,
+    file: &mut GltfFile,
+    index: usize,
+    out: &mut GltfAccessor,
+) -> u32
+    ensures same { file.new.value ≡ file.old.value }
+    ensures given { Gives (accessor_of index) file.old.value result out.old out.new }
+{
+    bytes::accessor_info(alloc, file, index, out)
+}
+
+/// Where the bytes of the image at an index are (section 5.18).
+#[unsafe(no_mangle)]
+pub extern "C" fn core_image_info(
+    alloc: Global,
+    file: &mut GltfFile,
+    index: usize,
+    out: &mut GltfImage,
+) -> u32
+    ensures same { file.new.value ≡ file.old.value }
+    ensures given { Gives (image_of index) file.old.value result out.old out.new }
+{
+    bytes::image_info(alloc, file, index, out)
+}
+
+/// What the mesh at an index is (section 5.23).
+#[unsafe(no_mangle)]
+pub extern "C" fn core_mesh_info(
+    alloc: Global,
+    file: &mut GltfFile,
+    index: usize,
+    out: &mut GltfMesh,
+) -> u32
+    ensures same { file.new.value ≡ file.old.value }
+    ensures given { Gives (shown (shown_mesh_of index)) file.old.value result out.old out.new }
+{
+    scene::mesh_info(alloc, file, index, out)
+}
+
+/// What a primitive of a mesh is (section 5.24).
+#[unsafe(no_mangle)]
+pub extern "C" fn core_primitive_info(
+    alloc: Global,
+    file: &mut GltfFile,
+    mesh: usize,
+    primitive: usize,
+    out: &mut GltfPrimitive,
+) -> u32
+    ensures same { file.new.value ≡ file.old.value }
+    ensures given { Gives (shown (shown_primitive_of mesh primitive))
+        file.old.value result out.old out.new }
+{
+    scene::primitive_info(alloc, file, mesh, primitive, out)
+}
+
+/// The attribute at a position among those of a primitive; or, where `target` is not the greatest
+/// number, among those of that morph target (section 3.7.2).
+#[unsafe(no_mangle)]
+pub extern "C" fn core_attribute_info(
+    alloc: Global,
+    file: &mut GltfFile,
+    mesh: usize,
+    primitive: usize,
+    target: usize,
+    position: usize,
+    out: &mut GltfAttribute,
+) -> u32
+    ensures same { file.new.value ≡ file.old.value }
+    ensures given { Gives (shown (shown_attribute_of mesh primitive target position))
+        file.old.value result out.old out.new }
+{
+    scene::attribute_info(alloc, file, mesh, primitive, target, position, out)
+}
+
+/// What the material at an index is (section 5.19); at the greatest number, that of a primitive
+/// that names none (section 3.9.6).
+#[unsafe(no_mangle)]
+pub extern "C" fn core_material_info(
+    alloc: Global,
+    file: &mut GltfFile,
+    index: usize,
+    out: &mut GltfMaterial,
+) -> u32
+    ensures same { file.new.value ≡ file.old.value }
+    ensures given { Gives (shown (material_of index)) file.old.value result out.old out.new }
+{
+    look::material_info(alloc, file, index, out)
+}
+
+/// What the texture at an index is, and how it is sampled (section 5.29).
+#[unsafe(no_mangle)]
+pub extern "C" fn core_texture_info(
+    alloc: Global,
+    file: &mut GltfFile,
+    index: usize,
+    out: &mut GltfTexture,
+) -> u32
+    ensures same { file.new.value ≡ file.old.value }
+    ensures given { Gives (shown (texture_of index)) file.old.value result out.old out.new }
+{
+    look::texture_info(alloc, file, index, out)
+}
+
+/// What the sampler at an index is (section 5.26).
+#[unsafe(no_mangle)]
+pub extern "C" fn core_sampler_info(
+    alloc: Global,
+    file: &mut GltfFile,
+    index: usize,
+    out: &mut GltfSampler,
+) -> u32
+    ensures same { file.new.value ≡ file.old.value }
+    ensures given { Gives (shown (sampler_of index)) file.old.value result out.old out.new }
+{
+    look::sampler_info(alloc, file, index, out)
+}
+
+/// What the scene at an index is (section 5.27).
+#[unsafe(no_mangle)]
+pub extern "C" fn core_scene_info(
+    alloc: Global,
+    file: &mut GltfFile,
+    index: usize,
+    out: &mut GltfScene,
+) -> u32
+    ensures same { file.new.value ≡ file.old.value }
+    ensures given { Gives (shown (shown_scene_of index)) file.old.value result out.old out.new }
+{
+    scene::scene_info(alloc, file, index, out)
+}
+
+/// What the node at an index is (section 5.25).
+#[unsafe(no_mangle)]
+pub extern "C" fn core_node_info(
+    alloc: Global,
+    file: &mut GltfFile,
+    index: usize,
+    out: &mut GltfNode,
+) -> u32
+    ensures same { file.new.value ≡ file.old.value }
+    ensures given { Gives (shown (shown_node_of index)) file.old.value result out.old out.new }
+{
+    scene::node_info(alloc, file, index, out)
+}
+
+/// What the skin at an index is (section 5.28).
+#[unsafe(no_mangle)]
+pub extern "C" fn core_skin_info(
+    alloc: Global,
+    file: &mut GltfFile,
+    index: usize,
+    out: &mut GltfSkin,
+) -> u32
+    ensures same { file.new.value ≡ file.old.value }
+    ensures given { Gives (shown (shown_skin_of index)) file.old.value result out.old out.new }
+{
+    scene::skin_info(alloc, file, index, out)
+}
+
+/// What the animation at an index is (section 5.5).
+#[unsafe(no_mangle)]
+pub extern "C" fn core_animation_info(
+    alloc: Global,
+    file: &mut GltfFile,
+    index: usize,
+    out: &mut GltfAnimation,
+) -> u32
+    ensures same { file.new.value ≡ file.old.value }
+    ensures given { Gives (shown (shown_animation_of index)) file.old.value result out.old out.new }
+{
+    scene::animation_info(alloc, file, index, out)
+}
+
+/// What a channel of an animation is, with its sampler (sections 5.6 to 5.8).
+#[unsafe(no_mangle)]
+pub extern "C" fn core_channel_info(
+    alloc: Global,
+    file: &mut GltfFile,
+    animation: usize,
+    channel: usize,
+    out: &mut GltfChannel,
+) -> u32
+    ensures same { file.new.value ≡ file.old.value }
+    ensures given { Gives (shown (shown_channel_of animation channel))
+        file.old.value result out.old out.new }
+{
+    scene::channel_info(alloc, file, animation, channel, out)
+}
+
+/// What the camera at an index is (section 5.12).
+#[unsafe(no_mangle)]
+pub extern "C" fn core_camera_info(
+    alloc: Global,
+    file: &mut GltfFile,
+    index: usize,
+    out: &mut GltfCamera,
+) -> u32
+    ensures same { file.new.value ≡ file.old.value }
+    ensures given { Gives (shown (camera_of index)) file.old.value result out.old out.new }
+{
+    look::camera_info(alloc, file, index, out)
+}
+
+/// What the light at an index is (`KHR_lights_punctual`).
+#[unsafe(no_mangle)]
+pub extern "C" fn core_light_info(
+    alloc: Global,
+    file: &mut GltfFile,
+    index: usize,
+    out: &mut GltfLight,
+) -> u32
+    ensures same { file.new.value ≡ file.old.value }
+    ensures given { Gives (shown (light_of index)) file.old.value result out.old out.new }
+{
+    look::light_info(alloc, file, index, out)
+}
+
+/// The scene to show, where the document names one (section 3.5.1).
+#[unsafe(no_mangle)]
+pub extern "C" fn core_default_scene(alloc: Global, file: &mut GltfFile, out: &mut usize) -> u32
+    ensures same { file.new.value ≡ file.old.value }
+    ensures given { Gives (shown default_scene) file.old.value result out.old out.new }
+{
+    scene::default_scene(alloc, file, out)
+}
+
+/// The material of a primitive under a variant, where a mapping names one
+/// (`KHR_materials_variants`).
+#[unsafe(no_mangle)]
+pub extern "C" fn core_variant_material(
+    alloc: Global,
+    file: &mut GltfFile,
+    mesh: usize,
+    primitive: usize,
+    variant: usize,
+    out: &mut usize,
+) -> u32
+    ensures same { file.new.value ≡ file.old.value }
+    ensures given { Gives (shown (variant_material_of mesh primitive variant))
+        file.old.value result out.old out.new }
+{
+    scene::variant_material(alloc, file, mesh, primitive, variant, out)
+}
+
+/// The accessor of an attribute, by the number of what it means and that of its set (section
+/// 3.7.2.1).
+#[unsafe(no_mangle)]
+pub extern "C" fn core_attribute_find(
+    alloc: Global,
+    file: &mut GltfFile,
+    mesh: usize,
+    primitive: usize,
+    target: usize,
+    meaning: u32,
+    set: u32,
+    out: &mut usize,
+) -> u32
+    ensures same { file.new.value ≡ file.old.value }
+    ensures given { Gives (shown (found_attribute_of mesh primitive target meaning set))
+        file.old.value result out.old out.new }
+{
+    scene::attribute_find(alloc, file, mesh, primitive, target, meaning, set, out)
+}
+
+/// Where the bytes of the buffer at an index lie. `NoSuchIndex` also where it waits for
+/// them.
+#[unsafe(no_mangle)]
+pub extern "C" fn core_buffer_bytes(
+    alloc: Global,
+    file: &mut GltfFile,
+    index: usize,
+    out: &mut GltfBytes,
+) -> u32
+    ensures same { file.new.value ≡ file.old.value }
+    ensures given { Gives (buffer_place index) file.old.value result out.old out.new }
+{
+    bytes::buffer_bytes(alloc, file, index, out)
+}
+
+/// Where the bytes of the view at an index lie. `NoSuchIndex` also where it does not lie in
+/// the bytes of its buffer.
+#[unsafe(no_mangle)]
+pub extern "C" fn core_view_bytes(
+    alloc: Global,
+    file: &mut GltfFile,
+    index: usize,
+    out: &mut GltfBytes,
+) -> u32
+    ensures same { file.new.value ≡ file.old.value }
+    ensures given { Gives (view_place index) file.old.value result out.old out.new }
+{
+    bytes::view_bytes(alloc, file, index, out)
+}
+
+/// Where the items of the accessor at an index lie, from the first one to the end of the last one.
+/// `NoSuchIndex` also where they have no view that holds them and lies in its buffer,
+/// where one is overridden, and where one has padding inside.
+#[unsafe(no_mangle)]
+pub extern "C" fn core_accessor_bytes(
+    alloc: Global,
+    file: &mut GltfFile,
+    index: usize,
+    out: &mut GltfBytes,
+) -> u32
+    ensures same { file.new.value ≡ file.old.value }
+    ensures given { Gives (accessor_place index) file.old.value result out.old out.new }
+{
+    bytes::accessor_bytes(alloc, file, index, out)
 }

@@ -5,8 +5,8 @@ ghost use Rattle.gltf_handles.specs.Members.{unknown_extensions};
 ghost use Rattle.gltf_c_look.specs.Json.{place_of, extras_of, extension_of, others_at, extras_at};
 
 use gltf_c_scene::kind::{Kind, lights};
+use gltf_json::boxed::{Boxed, lent};
 use gltf_json::{Map, Root, Value};
-use gltf_json_record::boxed::lent;
 use gltf_json_record::extensions::Others;
 
 /// Where a record is: among all of a kind, or among the parts of another record.
@@ -46,27 +46,9 @@ pub fn extras(root: &Root, kind: u32, index: usize, part: usize) -> Option<&Valu
 {
     match Place::of(kind)? {
         Place::Record(kind) => extras_at(root, kind, index),
-        Place::Primitive => root
-            .meshes
-            .get(index)?
-            .primitives
-            .get(part)?
-            .extras
-            .as_ref(),
-        Place::Channel => root
-            .animations
-            .get(index)?
-            .channels
-            .get(part)?
-            .extras
-            .as_ref(),
-        Place::AnimationSampler => root
-            .animations
-            .get(index)?
-            .samplers
-            .get(part)?
-            .extras
-            .as_ref(),
+        Place::Primitive => lent(&root.meshes.get(index)?.primitives.get(part)?.extras),
+        Place::Channel => lent(&root.animations.get(index)?.channels.get(part)?.extras),
+        Place::AnimationSampler => lent(&root.animations.get(index)?.samplers.get(part)?.extras),
     }
 }
 
@@ -75,23 +57,23 @@ fn extras_at(root: &Root, kind: Kind, index: usize) -> Option<&Value>
     ensures { option_copied result ≡ extras_at kind index root.now }
 {
     match kind {
-        Kind::Buffers => root.buffers.get(index)?.extras.as_ref(),
-        Kind::BufferViews => root.buffer_views.get(index)?.extras.as_ref(),
-        Kind::Accessors => root.accessors.get(index)?.extras.as_ref(),
-        Kind::Meshes => root.meshes.get(index)?.extras.as_ref(),
-        Kind::Nodes => root.nodes.get(index)?.extras.as_ref(),
-        Kind::Materials => root.materials.get(index)?.extras.as_ref(),
-        Kind::Scenes => root.scenes.get(index)?.extras.as_ref(),
-        Kind::Skins => root.skins.get(index)?.extras.as_ref(),
-        Kind::Animations => root.animations.get(index)?.extras.as_ref(),
-        Kind::Images => root.images.get(index)?.extras.as_ref(),
-        Kind::Textures => root.textures.get(index)?.extras.as_ref(),
-        Kind::Samplers => root.samplers.get(index)?.extras.as_ref(),
-        Kind::Cameras => root.cameras.get(index)?.extras.as_ref(),
-        Kind::Lights => lights(root).get(index)?.extras.as_ref(),
+        Kind::Buffers => lent(&root.buffers.get(index)?.extras),
+        Kind::BufferViews => lent(&root.buffer_views.get(index)?.extras),
+        Kind::Accessors => lent(&root.accessors.get(index)?.extras),
+        Kind::Meshes => lent(&root.meshes.get(index)?.extras),
+        Kind::Nodes => lent(&root.nodes.get(index)?.extras),
+        Kind::Materials => lent(&root.materials.get(index)?.extras),
+        Kind::Scenes => lent(&root.scenes.get(index)?.extras),
+        Kind::Skins => lent(&root.skins.get(index)?.extras),
+        Kind::Animations => lent(&root.animations.get(index)?.extras),
+        Kind::Images => lent(&root.images.get(index)?.extras),
+        Kind::Textures => lent(&root.textures.get(index)?.extras),
+        Kind::Samplers => lent(&root.samplers.get(index)?.extras),
+        Kind::Cameras => lent(&root.cameras.get(index)?.extras),
+        Kind::Lights => lent(&lights(root).get(index)?.extras),
         Kind::Variants | Kind::ExtensionsUsed | Kind::ExtensionsRequired => None,
-        Kind::Asset if index == 0 => root.asset.extras.as_ref(),
-        Kind::Root if index == 0 => root.extras.as_ref(),
+        Kind::Asset if index == 0 => lent(&root.asset.extras),
+        Kind::Root if index == 0 => lent(&root.extras),
         Kind::Asset | Kind::Root => None,
     }
 }
@@ -111,7 +93,7 @@ pub fn extension<'a>(
         Place::Record(kind) => others_at(root, kind, index)?,
         Place::Primitive => {
             let primitive = root.meshes.get(index)?.primitives.get(part)?;
-            &primitive.extensions.as_ref()?.others
+            &lent(&primitive.extensions)?.others
         }
         Place::Channel | Place::AnimationSampler => return None,
     };
@@ -127,7 +109,7 @@ fn others_at(root: &Root, kind: Kind, index: usize) -> Option<&Map<String, Value
         Kind::BufferViews => others(&root.buffer_views.get(index)?.extensions),
         Kind::Accessors => others(&root.accessors.get(index)?.extensions),
         Kind::Meshes => others(&root.meshes.get(index)?.extensions),
-        Kind::Nodes => Some(&root.nodes.get(index)?.extensions.as_ref()?.others),
+        Kind::Nodes => Some(&lent(&root.nodes.get(index)?.extensions)?.others),
         Kind::Materials => Some(&lent(&root.materials.get(index)?.extensions)?.others),
         Kind::Scenes => others(&root.scenes.get(index)?.extensions),
         Kind::Skins => others(&root.skins.get(index)?.extensions),
@@ -144,8 +126,8 @@ fn others_at(root: &Root, kind: Kind, index: usize) -> Option<&Map<String, Value
 }
 
 /// The extensions of a record that knows none.
-fn others(extensions: &Option<Others>) -> Option<&Map<String, Value>>
+fn others(extensions: &Option<Boxed<Others>>) -> Option<&Map<String, Value>>
     ensures { option_copied result ≡ unknown_extensions extensions.now }
 {
-    Some(&extensions.as_ref()?.others)
+    Some(&lent(extensions)?.others)
 }

@@ -12,9 +12,9 @@ use crate::number::number_else;
 use crate::uses::{GltfTextureUse, info_use, normal_use, occlusion_use};
 use gltf_c_scene::numbers::{NONE, numbers_else, one_or_zero};
 use gltf_json::Root;
+use gltf_json::boxed::lent;
 use gltf_json::material::{AlphaMode, Material, PbrMetallicRoughness};
 use gltf_json_material::extensions::material as extended;
-use gltf_json_record::boxed::lent;
 use gltf_json_record::validation::Checked;
 use gltf_numbers::defaults::{
     ALPHA_CUTOFF, ATTENUATION_COLOR, BASE_COLOR_FACTOR, DIFFUSE_FACTOR, EMISSIVE_FACTOR,

@@ -10,10 +10,10 @@ ghost use Rattle.gltf_c_look.specs.Uses.{whole_member, whole_32};
 use crate::number::{NO_SCALE, number_else};
 use gltf_c_scene::numbers::{NONE, numbers_else};
 use gltf_json::Value;
+use gltf_json::boxed::{Boxed, lent};
 use gltf_json::material::{NormalTexture, OcclusionTexture};
 use gltf_json::texture::Info;
 use gltf_json_material::extensions::texture::TextureTransform;
-use gltf_json_record::boxed::lent;
 use gltf_json_record::extensions::Others;
 use gltf_numbers::defaults::{
     NORMAL_SCALE, OCCLUSION_STRENGTH, TEXTURE_OFFSET, TEXTURE_ROTATION, TEXTURE_SCALE,
@@ -158,10 +158,10 @@ pub(crate) fn occlusion_use(member: Option<&OcclusionTexture>) -> GltfTextureUse
 }
 
 /// The transformation at a use of a texture whose record keeps its extensions as JSON.
-fn unread_transform(extensions: &Option<Others>) -> Transform
+fn unread_transform(extensions: &Option<Boxed<Others>>) -> Transform
     ensures { result ≡ unread_transform extensions.now }
 {
-    match extensions {
+    match lent(extensions) {
         Some(extensions) => match extensions.others.get("KHR_texture_transform") {
             Some(value) => transform_in(value),
             None => NO_TRANSFORM,

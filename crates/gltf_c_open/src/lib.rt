@@ -2,6 +2,8 @@
 //! which some may wait for bytes that other files have.
 #![tactic(auto)]
 
+mod buffers;
 pub mod file;
 pub mod given;
 pub mod names;
+pub mod open;

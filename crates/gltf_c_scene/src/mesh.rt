@@ -9,6 +9,7 @@ ghost use Rattle.gltf_scene.specs.Primitives.{mappings_of};
 
 use crate::numbers::{count_numbers, index_or_none};
 use gltf_json::Root;
+use gltf_json::boxed::lent;
 use gltf_json::extensions::mesh::Mapping;
 use gltf_json::mesh::{Mesh, Mode, Primitive};
 use gltf_json_record::validation::Checked;
@@ -118,7 +119,7 @@ pub fn variant_material(root: &Root, mesh: usize, primitive: usize, variant: usi
 fn mappings(primitive: &Primitive) -> &[Mapping]
     ensures { result.now ≡ mappings_of primitive.now.extensions }
 {
-    match &primitive.extensions {
+    match lent(&primitive.extensions) {
         Some(extensions) => match &extensions.khr_materials_variants {
             Some(extension) => extension.mappings.as_slice(),
             None => &[],

@@ -5,6 +5,7 @@ ghost use Rattle.gltf_c_scene.specs.Nodes.{transform_bits, light_of};
 
 use crate::numbers::{NONE, count_numbers, index_or_none, numbers_else, one_or_zero};
 use gltf_json::Root;
+use gltf_json::boxed::lent;
 use gltf_json::scene::{Node, Scene};
 use gltf_numbers::defaults::{ROTATION, SCALE, TRANSLATION};
 
@@ -87,7 +88,7 @@ fn shown_node(node: &Node) -> GltfNode
 fn light(node: &Node) -> usize
     ensures { result ≡ light_of node.now }
 {
-    match &node.extensions {
+    match lent(&node.extensions) {
         Some(extensions) => match &extensions.khr_lights_punctual {
             Some(extension) => extension.light.value(),
             None => NONE,

@@ -4,11 +4,16 @@ use gltf_bundle::BundleError;
 use gltf_put::PutFault;
 use std::{fmt, io};
 
-const USAGE: &str = "usage: gltf_convert IN OUT.glb
+const USAGE: &str = "usage: gltf_convert IN OUT.glb [--keep-images]
 
-Writes the glTF file IN, GLB or JSON, with the bytes of all its buffers as one GLB container, in
-which each accessor has the same items. The buffers become one without a URI. Images are not touched:
-one that stands in another file keeps its URI.
+Writes the glTF file IN, GLB or JSON, with the bytes of all its buffers and images as one GLB
+container, in which each accessor has the same items. It needs no other file: the buffers become one
+without a URI, and each image with a URI goes into a view of that buffer.
+
+The media type of such an image is that which its data: URI names, where it is PNG, JPEG, WebP or
+KTX2, else its mimeType, else the one of these four whose files begin so. Where there is none, or
+the bytes of an image cannot be read, nothing is written. With --keep-images images are not touched:
+one that has a URI keeps it, and stays where it is.
 
 The bytes go to OUT.glb.part, a new file, which takes the name OUT.glb once it is whole; so OUT.glb
 may be IN. Where a write fails, OUT.glb is what it was before, and the new file is removed. Where the
@@ -22,7 +27,7 @@ the old file, a hard link, leads to it.";
 /// Why nothing was converted.
 #[derive(Debug, Drop)]
 pub(crate) enum Refusal<'w> {
-    /// The words are not two.
+    /// The words are not two names, and `--keep-images` or nothing after them.
     Usage,
     /// This name does not end in `.glb`.
     Ending(&'w str),
@@ -45,7 +50,11 @@ impl Refusal<'_> {
 
     /// Whether a file could not be read.
     pub(crate) fn is_failed_read(&self) -> bool {
-        matches!(self, Refusal::File(BundleError::Import(Error::Io(_))))
+        match self {
+            Refusal::File(BundleError::Import(Error::Io(_))) => true,
+            Refusal::File(BundleError::Image { cause, .. }) => matches!(cause, Error::Io(_)),
+            _ => false,
+        }
     }
 }
 

@@ -1,16 +1,16 @@
 -- An edited document nests no deeper than before, but for the list of its one buffer.
 use Rattle.std.proofs.Common.{◌≡◌, ℕ, ◌+◌, ◌≤◌, ◌<◌, List, Option, Some, None, Ordering, Less, Equal, Greater}
-use Rattle.std.proofs.Common.{max, refl, sym, ap, subst, ◌∙◌, arith, codes}
+use Rattle.std.proofs.Common.{max, refl, subst, arith, codes}
 use Rattle.std.specs.Cmp.Lexicographic.{slice_cmp}
 use Rattle.std.specs.Ordering.{match_ordering, nat_cmp}
-use Rattle.std.specs.Prelude.{option_map, unwrap_or, slice_get}
+use Rattle.std.specs.Prelude.{option_map, unwrap_or}
 use Rattle.serde_json.specs.Data.{Data, null, boolean, number, string, array, object, Items}
 use Rattle.serde_json.specs.Data.{no_items, item, Members, no_members, member, put, depth}
 use Rattle.serde_json.specs.Data.{items_depth, members_depth}
 use Rattle.serde_json.specs.Find.{get, get_member}
 use Rattle.gltf_edit.specs.Bundled.{with_member, with_some, placed, whole, relocated, moved}
 use Rattle.gltf_edit.specs.Bundled.{relocated_extensions, meshopt, span_of, mapped, each_item}
-use Rattle.gltf_edit.specs.Bundled.{one_buffer, one_of, bundled, buffers_after, views_after}
+use Rattle.gltf_edit.specs.Bundled.{one_buffer, one_of, bundled, views_after}
 use Rattle.gltf_edit.specs.Bundled.{size_or_zero}
 use Rattle.gltf_edit.specs.declared.span.Span.{Span}
 
@@ -30,7 +30,7 @@ put_depth k d (member l e ms) =
     placed_at (slice_cmp nat_cmp k l) k l d e ms (put_depth k d ms)
 
 -- a member that does not nest deeper than the others
-with_shallow : (k : List ℕ) (e d : Data) (n : ℕ) → depth d ≤ n → depth e < n
+pub with_shallow : (k : List ℕ) (e d : Data) (n : ℕ) → depth d ≤ n → depth e < n
     → depth (with_member k e d) ≤ n
 with_shallow k e null n is less = is
 with_shallow k e (boolean b) n is less = is
@@ -40,7 +40,7 @@ with_shallow k e (array ds) n is less = is
 with_shallow k e (object ms) n is less = let put = put_depth k e ms in omega arith
 
 -- a leaf
-with_leaf : (k : List ℕ) (x : ℕ) (d : Data) → depth (with_member k (whole x) d) ≤ depth d
+pub with_leaf : (k : List ℕ) (x : ℕ) (d : Data) → depth (with_member k (whole x) d) ≤ depth d
 with_leaf k x null = omega arith
 with_leaf k x (boolean b) = omega arith
 with_leaf k x (number n) = omega arith
@@ -63,7 +63,7 @@ get_member_depth k d (member l e ms) is =
     found_at (slice_cmp nat_cmp k l) e d (get_member k ms) (members_depth ms)
     (get_member_depth k d ms) is
 
-get_depth : (k : List ℕ) (e d : Data) → get k d ≡ Some e → depth e < depth d
+pub get_depth : (k : List ℕ) (e d : Data) → get k d ≡ Some e → depth e < depth d
 get_depth k e null is = cc
 get_depth k e (boolean b) is = cc
 get_depth k e (number n) is = cc

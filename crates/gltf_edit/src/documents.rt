@@ -1,12 +1,13 @@
 //! The JSON value of a document whose buffers become one.
-ghost use Rattle.std.specs.Prelude.{◌≡◌, IfOk, OnOk, IfErr, MatchOption, option_map};
+ghost use Rattle.std.specs.Prelude.{◌≡◌, IfOk, OnOk, IfErr, MatchOption};
 ghost use Rattle.serde_json.specs.View.{view};
 ghost use Rattle.gltf_edit.specs.Bundled.{bundled, moved, relocated, relocated_extensions};
-ghost use Rattle.gltf_edit.specs.Bundled.{one_buffer, each_item, with_member, with_some, size_at, span_of};
+ghost use Rattle.gltf_edit.specs.Bundled.{one_buffer, each_item, span_of};
 ghost use Rattle.gltf_edit.specs.Bundled.{Lies, ExtensionLies, IsPlaced, EachPlaced, ArePlaced};
 ghost use Rattle.gltf_edit.specs.Faults.{NamesStray, NamesStrayOf};
 
 use crate::fault::Fault;
+use crate::members::{size_at, with_member, with_some};
 use crate::span::Span;
 use serde_json::{Map, Value, put};
 use std::alloc::{AllocError, Global};
@@ -142,40 +143,4 @@ fn span_of(one: &Value, spans: &[Span]) -> Option<Span>
 {
     let index = size_at(one, "buffer")?;
     spans.get(index as usize).copied()
-}
-
-/// A member that is a whole number below 2^64.
-fn size_at(value: &Value, name: &str) -> Option<u64>
-    ensures { result ≡ size_at name.now (view value.now) }
-{
-    value.get(name).and_then(Value::as_u64)
-}
-
-/// The value with this at the member, where it is an object and there is something.
-fn with_some(
-    alloc: Global,
-    value: Value,
-    name: &str,
-    member: Option<Value>,
-) -> Result<Value, AllocError>
-    ensures { IfOk result (λ v. view v
-        ≡ with_some name.now (option_map view member) (view value)) }
-{
-    match member {
-        Some(member) => with_member(alloc, value, name, member),
-        None => Ok(value),
-    }
-}
-
-/// The value with this at the member, where it is an object.
-fn with_member(alloc: Global, value: Value, name: &str, member: Value) -> Result<Value, AllocError>
-    ensures { IfOk result (λ v. view v ≡ with_member name.now (view member) (view value)) }
-{
-    match value {
-        Value::Object(mut members) => {
-            put(&mut members, alloc, name, member)?;
-            Ok(Value::Object(members))
-        }
-        other => Ok(other),
-    }
 }

@@ -1,13 +1,19 @@
-//! Edits of the JSON value of a document: its buffers become one, and its views follow (glTF 2.0,
-//! sections 3.6.1, 5.10 and 5.11).
+//! Edits of the JSON value of a document: its images go into buffers of their own, its buffers
+//! become one, and its views follow (glTF 2.0, sections 3.6.1, 3.8.3, 5.10, 5.11 and 5.18).
 #![tactic(auto)]
 
 mod bytes;
 mod documents;
 mod fault;
+mod images;
+mod members;
+mod picture;
 mod span;
 
 pub use bytes::append;
 pub use documents::bundled;
 pub use fault::Fault;
+pub use images::embedded;
+pub use members::with_some;
+pub use picture::Picture;
 pub use span::Span;

@@ -6,6 +6,7 @@ use gltf_extensions::{
     mesh_gpu_instancing, meshopt_compression, node_visibility, sheen, webp, xmp_packet,
     xmp_packets,
 };
+use gltf_guide::extensions::wetness_of;
 use std::alloc::{AllocError, Global};
 
 /// Writes what a call gives of the first material, texture, node, view or scene.
@@ -50,6 +51,7 @@ fn of_material(
         "iridescence" => write_found(alloc, iridescence(alloc, valid, material), line),
         "anisotropy" => write_found(alloc, anisotropy(alloc, valid, material), line),
         "dispersion" => write_found(alloc, dispersion(alloc, valid, material), line),
+        "wetness" => write_found(alloc, wetness_of(alloc, document, material), line),
         "diffuse_transmission" => {
             write_found(alloc, diffuse_transmission(alloc, valid, material), line)
         }

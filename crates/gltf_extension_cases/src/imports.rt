@@ -1,6 +1,5 @@
 //! Files that require extensions, and their quantized attributes.
-ghost use Rattle.std.specs.Iterator.{IsFinite};
-
+use crate::written::write_items;
 use gltf::buffer::{Data, bytes_of};
 use gltf::mesh::Primitive;
 use gltf::{Buffer, Document, import_slice};
@@ -76,21 +75,4 @@ fn write_read<A: Item + Debug, B: Item + Debug, C: Item + Debug, D: Item + Debug
         Integers::I16(items) => write_items("I16", items, line),
         Integers::U16(items) => write_items("U16", items, line),
     }
-}
-
-fn write_items<I: Iterator + Drop>(
-    name: &str,
-    items: I,
-    line: &mut String,
-) -> Result<(), AllocError>
-where
-    I::Item: Debug + Drop,
-    requires can { I.can_next items }
-    requires ends { IsFinite (I.remaining items) }
-{
-    line.push_str(name)?;
-    for item in items {
-        write!(line, " {item:?}")?;
-    }
-    Ok(())
 }

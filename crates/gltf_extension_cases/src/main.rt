@@ -5,6 +5,8 @@
 
 mod calls;
 mod imports;
+mod instances;
+mod mended;
 mod pairs;
 mod written;
 
@@ -40,6 +42,14 @@ fn answer(alloc: Global, case: &str, line: &mut String) -> Result<(), Error> {
     let (call, text) = case.split_once(" ").unwrap_or((case, ""));
     if call == "accepts" {
         pairs::write_accepted(text, line)?;
+        return Ok(());
+    }
+    if call == "instances" {
+        instances::write(alloc, text, line)?;
+        return Ok(());
+    }
+    if call == "mended" {
+        mended::write(alloc, text, line)?;
         return Ok(());
     }
     if matches!(

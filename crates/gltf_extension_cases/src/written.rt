@@ -1,4 +1,6 @@
 //! What calls give, as text.
+ghost use Rattle.std.specs.Iterator.{IsFinite};
+
 use gltf::json::path::Path;
 use gltf_extensions::{ExtensionFault, Handle};
 use gltf_validation::validate::Validate;
@@ -43,4 +45,22 @@ pub(crate) fn write_fault(
 fn write_pointer(alloc: Global, path: &Path, line: &mut String) -> Result<(), AllocError> {
     let pointer = path.pointer(alloc)?;
     line.push_str(pointer.as_str())
+}
+
+/// Writes a name and items after it.
+pub(crate) fn write_items<I: Iterator + Drop>(
+    name: &str,
+    items: I,
+    line: &mut String,
+) -> Result<(), AllocError>
+where
+    I::Item: Debug + Drop,
+    requires can { I.can_next items }
+    requires ends { IsFinite (I.remaining items) }
+{
+    line.push_str(name)?;
+    for item in items {
+        write!(line, " {item:?}")?;
+    }
+    Ok(())
 }

@@ -192,4 +192,19 @@ def other_cases():
     yield "packet", document(scenes=[{}]), "none"
 
 
-ROWS = [(f"{call} {text}", answer) for call, text, answer in (*material_cases(), *other_cases())]
+def own_cases():
+    """The extension of docs/LIBRARY.md, which a user adds."""
+    name = "STUDIO_wetness"
+
+    def wetness(layers, mask):
+        return "Wetness { layers: %d, mask: %s }" % (layers, some(mask and index(mask)))
+    yield "wetness", of_material(name, {"layers": 3, "mask": 1}), wetness(3, 1)
+    yield "wetness", of_material(name, {}), wetness(1, None)
+    yield "wetness", document(materials=[{}]), "none"
+    yield "wetness", of_material(name, {"mask": 2}), "/mask: Index out of bounds;"
+    yield "wetness", of_material(name, {"layers": "3"}), "/layers: wrong kind"
+    yield "wetness", of_material(name, []), ": wrong kind"
+
+
+ROWS = [(f"{call} {text}", answer) for call, text, answer in (
+    *material_cases(), *other_cases(), *own_cases())]

@@ -5,6 +5,7 @@ use gltf_json_record::error::{Error, RecordFault};
 use gltf_json_record::path::Path;
 use gltf_validation::error as validation;
 use std::alloc::AllocError;
+use std::fmt;
 
 /// Why an extension was not read. A path begins at the value of the extension;
 /// [`Path::pointer`] gives its JSON Pointer.
@@ -33,6 +34,31 @@ impl From<AllocError> for ExtensionFault {
     fn from(_refused: AllocError) -> ExtensionFault {
         ExtensionFault::Memory
     }
+}
+
+/// The place and what is wrong there, as `mask: Index out of bounds;`.
+impl fmt::Display for ExtensionFault {
+    fn fmt<W: fmt::Write>(&self, f: &mut fmt::Formatter<W>) -> fmt::Result {
+        match self {
+            ExtensionFault::Record { path, fault } => write!(f, "{path}: {fault}"),
+            ExtensionFault::Rules(faults) => write_faults(faults, f),
+            ExtensionFault::Memory => write!(f, "out of memory"),
+        }
+    }
+}
+
+impl std::error::Error for ExtensionFault {}
+
+fn write_faults<W: fmt::Write>(
+    faults: &[(Path, validation::Error)],
+    f: &mut fmt::Formatter<W>,
+) -> fmt::Result {
+    let mut space = "";
+    for (path, error) in faults {
+        write!(f, "{space}{path}: {error};")?;
+        space = " ";
+    }
+    Ok(())
 }
 
 /// The fault of a record that was read from no text.

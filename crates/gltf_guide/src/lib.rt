@@ -4,4 +4,5 @@
 
 pub mod bytes;
 pub mod documents;
+pub mod extensions;
 pub mod scenes;

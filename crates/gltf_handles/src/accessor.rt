@@ -11,6 +11,7 @@ use crate::buffer::View;
 use crate::inner::Inner;
 use crate::member::{meaning, unknown_extensions};
 use gltf_json::accessor::{ComponentType, Type};
+use gltf_json::boxed::lent;
 use gltf_json::{Map, Value, accessor, kinds};
 use gltf_rules::{Records, Valid};
 
@@ -235,7 +236,7 @@ impl<'a, D: Records> Accessor<'a, D> {
         ensures { Follows (IsSparse (accessor_handle self.now).document)
             (accessor_handle self.now).json.sparse result }
     {
-        let json = self.inner.json.sparse.as_ref()?;
+        let json = lent(&self.inner.json.sparse)?;
         Some(Sparse::new(self.inner.document, json))
     }
 
@@ -261,6 +262,6 @@ impl<'a, D: Records> Accessor<'a, D> {
     pub fn extras(&self) -> Option<&'a Value>
         ensures { option_copied result ≡ (accessor_handle self.now).json.extras }
     {
-        self.inner.json.extras.as_ref()
+        lent(&self.inner.json.extras)
     }
 }

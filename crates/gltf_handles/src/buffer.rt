@@ -7,6 +7,7 @@ ghost use Rattle.gltf_handles.specs.Members.{Follows, IsCode, above_zero};
 
 use crate::inner::Inner;
 use crate::member::{meaning, unknown_extensions};
+use gltf_json::boxed::lent;
 pub use gltf_json::buffer::Target;
 use gltf_json::{Map, Value, buffer, kinds};
 use gltf_rules::{Records, Valid};
@@ -98,7 +99,7 @@ impl<'a, D: Records> Buffer<'a, D> {
     pub fn extras(&self) -> Option<&'a Value>
         ensures { option_copied result ≡ (buffer_handle self.now).json.extras }
     {
-        self.inner.json.extras.as_ref()
+        lent(&self.inner.json.extras)
     }
 }
 
@@ -203,6 +204,6 @@ impl<'a, D: Records> View<'a, D> {
     pub fn extras(&self) -> Option<&'a Value>
         ensures { option_copied result ≡ (view_handle self.now).json.extras }
     {
-        self.inner.json.extras.as_ref()
+        lent(&self.inner.json.extras)
     }
 }

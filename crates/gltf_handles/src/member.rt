@@ -6,15 +6,16 @@ ghost use Rattle.gltf_handles.specs.Members.{unknown_extensions, IsCode};
 ghost use Rattle.gltf_validation.specs.Members.{code_rules};
 ghost use Rattle.gltf_validation.specs.Rules.{Hold};
 
+use gltf_json::boxed::{Boxed, lent};
 use gltf_json::extensions::Others;
 use gltf_json::validation::Checked;
 use gltf_json::{Map, Value};
 
 /// The extensions of a record at which none is known; None where there is no member `extensions`.
-pub fn unknown_extensions(member: &Option<Others>) -> Option<&Map<String, Value>>
+pub fn unknown_extensions(member: &Option<Boxed<Others>>) -> Option<&Map<String, Value>>
     ensures { option_copied result ≡ unknown_extensions member.now }
 {
-    let extensions = member.as_ref()?;
+    let extensions = lent(member)?;
     Some(&extensions.others)
 }
 

@@ -8,11 +8,13 @@ use Rattle.gltf_inspect.specs.Extensions.{used_checks, required_checks}
 use Rattle.gltf_inspect.specs.Materials.{material_checks}
 use Rattle.gltf_inspect.specs.Meshes.{mesh_checks}
 use Rattle.gltf_inspect_meshes.specs.Meshes.{meshes_checks}
+use Rattle.gltf_inspect_nodes.specs.Graphs.{graph_checks}
 use Rattle.gltf_inspect_scenes.specs.Scenes.{scenes_checks}
 use Rattle.gltf_inspect.specs.Parents.{parents_checks}
 use Rattle.gltf_inspect.specs.Refusals.{root_refusals}
 use Rattle.gltf_inspect.specs.Scenes.{node_checks, skin_checks}
 use Rattle.gltf_inspect.specs.Unused.{root_unused_checks}
+use Rattle.gltf_inspect.specs.Versions.{asset_checks}
 use Rattle.gltf_inspect.specs.Views.{buffer_checks, view_checks, image_checks}
 
 -- of each record by itself, and of what it names
@@ -39,4 +41,4 @@ document_checks r =
 abbrev pub root_checks : Root → Checks
 root_checks r =
     root_refusals r & record_checks r & document_checks r & root_unused_checks r & meshes_checks r
-    & scenes_checks r
+    & scenes_checks r & graph_checks r & member (codes "asset") (asset_checks r.asset)

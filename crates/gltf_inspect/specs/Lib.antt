@@ -1,5 +1,6 @@
 pub mod Refusals
 pub mod Extensions
+pub mod Versions
 pub mod Views
 pub mod Accessors
 pub mod Materials

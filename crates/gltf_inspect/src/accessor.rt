@@ -9,6 +9,7 @@ use crate::list::Inspect;
 use gltf_findings::code::Code;
 use gltf_findings::findings::Findings;
 use gltf_inspect_meshes::item::{component_size, fit, item_size, last_size, or_zero};
+use gltf_json::boxed::lent;
 use gltf_json::root::Root;
 use gltf_json_geometry::accessor::sparse::Sparse;
 use gltf_json_geometry::accessor::{Accessor, ComponentType};
@@ -32,7 +33,7 @@ impl Inspect for Accessor {
         let is_aligned = or_zero(self.byte_offset) % component_size(self.component_type) == 0;
         findings.tell_member(is_aligned, Code::OffsetAlignment, "byteOffset", location)?;
         tell_base(self, root, location, findings)?;
-        match &self.sparse {
+        match lent(&self.sparse) {
             None => Ok(()),
             Some(sparse) => {
                 let at = Location::Member(location, "sparse");

@@ -7,6 +7,7 @@ ghost use Rattle.gltf_findings.specs.Checks.{told_after, findings_of};
 ghost use Rattle.gltf_inspect.specs.Documents.{record_checks, document_checks, root_checks};
 ghost use Rattle.gltf_inspect.specs.Refusals.{root_refusals};
 
+use crate::asset::tell_asset;
 use crate::extensions::{tell_required, tell_used};
 use crate::list::inspect_list;
 use crate::parents::tell_parents;
@@ -16,6 +17,7 @@ use gltf_findings::findings::Findings;
 use gltf_findings::laws::a_walk_adds_what_is_found;
 use gltf_findings::report::Report;
 use gltf_inspect_meshes::meshes::inspect_meshes;
+use gltf_inspect_nodes::graph::inspect_graph;
 use gltf_inspect_scenes::scenes::inspect_scenes;
 use gltf_json::root::Root;
 use gltf_json_record::path::Path;
@@ -27,8 +29,9 @@ use std::alloc::{AllocError, Global};
 
 /// All that is found in a document, whether the rules of loading hold or not: first the broken
 /// rules, then what is found in each record, then in several at once, the objects that nothing
-/// names, and last what is found in meshes, nodes and animations by what they name. The report has a code at a path exactly where the condition of that code stands
-/// at that path and is false.
+/// names, what is found in meshes, nodes and animations by what they name, in the graph of nodes, and
+/// last in the versions. The report has a code at a path exactly where the condition of that code stands at that
+/// path and is false.
 ///
 /// It takes time in proportion to the document, and memory for the findings and a byte for each
 /// node and each object. Fails where there is no memory.
@@ -44,6 +47,9 @@ pub fn inspect(alloc: Global, root: &Root) -> Result<Report, AllocError>
     tell_unused(alloc, root, &Location::Whole, &mut findings)?;
     inspect_meshes(root, &Location::Whole, &mut findings)?;
     inspect_scenes(alloc, root, &Location::Whole, &mut findings)?;
+    inspect_graph(alloc, root, &Location::Whole, &mut findings)?;
+    let asset = Location::Member(&Location::Whole, "asset");
+    tell_asset(&root.asset, &asset, &mut findings)?;
     Ok(Report::new(findings))
 }
 

@@ -4,6 +4,7 @@
 
 mod accessor;
 mod animation;
+mod asset;
 mod attributes;
 mod extensions;
 pub mod inspect;

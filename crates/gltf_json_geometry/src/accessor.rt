@@ -5,6 +5,7 @@ ghost use Rattle.std.specs.Prelude.{IfOk};
 ghost use Rattle.gltf_json_record.specs.Copy.{IsCopy};
 
 use crate::accessor::sparse::Sparse;
+use gltf_json_record::boxed::Boxed;
 use gltf_json_record::copy::Copies;
 use gltf_json_record::error::Error;
 use gltf_json_record::extensions::Others;
@@ -152,11 +153,11 @@ pub struct Accessor {
     /// The least value of each component, as it stands: `min`.
     pub min: Option<Value>,
     /// The items that differ from those of the view: `sparse`.
-    pub sparse: Option<Sparse>,
+    pub sparse: Option<Boxed<Sparse>>,
     /// A name given by the user: `name`.
     pub name: Option<String>,
     /// The extensions: `extensions`. None is known here.
-    pub extensions: Option<Others>,
+    pub extensions: Option<Boxed<Others>>,
     /// What the application stores here: `extras`.
     pub extras: Extras,
 }

@@ -5,6 +5,7 @@ ghost use Rattle.gltf_json_record.specs.Copy.{IsCopy};
 use crate::attributes::{Attributes, Known};
 use crate::extensions;
 pub use crate::semantic::Semantic;
+use gltf_json_record::boxed::Boxed;
 use gltf_json_record::copy::Copies;
 use gltf_json_record::error::Error;
 use gltf_json_record::extensions::Others;
@@ -152,7 +153,7 @@ pub struct Primitive {
     /// The morph targets: `targets`, empty where absent.
     pub targets: Vec<MorphTarget>,
     /// The extensions: `extensions`.
-    pub extensions: Option<extensions::mesh::Primitive>,
+    pub extensions: Option<Boxed<extensions::mesh::Primitive>>,
     /// What the application stores here: `extras`.
     pub extras: Extras,
 }
@@ -231,7 +232,7 @@ pub struct Mesh {
     /// A name given by the user: `name`.
     pub name: Option<String>,
     /// The extensions: `extensions`. None is known here.
-    pub extensions: Option<Others>,
+    pub extensions: Option<Boxed<Others>>,
     /// What the application stores here: `extras`.
     pub extras: Extras,
 }

@@ -77,7 +77,7 @@ pub struct PbrMetallicRoughness {
     /// The texture of metalness and roughness: `metallicRoughnessTexture`.
     pub metallic_roughness_texture: Option<Info>,
     /// The extensions: `extensions`. None is known here.
-    pub extensions: Option<Others>,
+    pub extensions: Option<Boxed<Others>>,
     /// What the application stores here: `extras`.
     pub extras: Extras,
 }
@@ -147,7 +147,7 @@ pub struct NormalTexture {
     /// absent.
     pub tex_coord: u32,
     /// The extensions: `extensions`. None is known here.
-    pub extensions: Option<Others>,
+    pub extensions: Option<Boxed<Others>>,
     /// What the application stores here: `extras`.
     pub extras: Extras,
 }
@@ -211,7 +211,7 @@ pub struct OcclusionTexture {
     /// absent.
     pub tex_coord: u32,
     /// The extensions: `extensions`. None is known here.
-    pub extensions: Option<Others>,
+    pub extensions: Option<Boxed<Others>>,
     /// What the application stores here: `extras`.
     pub extras: Extras,
 }

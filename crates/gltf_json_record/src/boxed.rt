@@ -32,6 +32,13 @@ impl<T> Boxed<T> {
     {
         &self.inner
     }
+
+    /// The record, moved out of the heap. It can be changed, and be put back by `new`.
+    pub fn into_inner(self) -> T
+        ensures { result ≡ self }
+    {
+        Box::into_inner(self.inner)
+    }
 }
 
 impl<T: Drop> Boxed<T> {

@@ -2,6 +2,7 @@
 ghost use Rattle.std.specs.Prelude.{IfOk};
 ghost use Rattle.gltf_json_record.specs.Copy.{IsCopy};
 
+use gltf_json_record::boxed::Boxed;
 use gltf_json_record::copy::Copies;
 use gltf_json_record::error::Error;
 use gltf_json_record::extensions::Others;
@@ -67,7 +68,7 @@ pub struct Orthographic {
     /// The distance to the near clipping plane: `znear`.
     pub znear: Option<Value>,
     /// The extensions: `extensions`. None is known here.
-    pub extensions: Option<Others>,
+    pub extensions: Option<Boxed<Others>>,
     /// What the application stores here: `extras`.
     pub extras: Extras,
 }
@@ -128,7 +129,7 @@ pub struct Perspective {
     /// The distance to the near clipping plane: `znear`.
     pub znear: Option<Value>,
     /// The extensions: `extensions`. None is known here.
-    pub extensions: Option<Others>,
+    pub extensions: Option<Boxed<Others>>,
     /// What the application stores here: `extras`.
     pub extras: Extras,
 }
@@ -188,7 +189,7 @@ pub struct Camera {
     /// A name given by the user: `name`.
     pub name: Option<String>,
     /// The extensions: `extensions`. None is known here.
-    pub extensions: Option<Others>,
+    pub extensions: Option<Boxed<Others>>,
     /// What the application stores here: `extras`.
     pub extras: Extras,
 }

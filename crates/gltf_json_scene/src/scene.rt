@@ -3,6 +3,7 @@ ghost use Rattle.std.specs.Prelude.{IfOk};
 ghost use Rattle.gltf_json_record.specs.Copy.{IsCopy};
 
 use crate::extensions;
+use gltf_json_record::boxed::Boxed;
 use gltf_json_record::copy::Copies;
 use gltf_json_record::error::Error;
 use gltf_json_record::extensions::Others;
@@ -39,7 +40,7 @@ pub struct Node {
     /// A name given by the user: `name`.
     pub name: Option<String>,
     /// The extensions: `extensions`.
-    pub extensions: Option<extensions::scene::Node>,
+    pub extensions: Option<Boxed<extensions::scene::Node>>,
     /// What the application stores here: `extras`.
     pub extras: Extras,
 }
@@ -113,7 +114,7 @@ pub struct Scene {
     /// A name given by the user: `name`.
     pub name: Option<String>,
     /// The extensions: `extensions`. None is known here.
-    pub extensions: Option<Others>,
+    pub extensions: Option<Boxed<Others>>,
     /// What the application stores here: `extras`.
     pub extras: Extras,
 }

@@ -2,6 +2,7 @@
 ghost use Rattle.std.specs.Prelude.{IfOk};
 ghost use Rattle.gltf_json_record.specs.Copy.{IsCopy};
 
+use gltf_json_record::boxed::Boxed;
 use gltf_json_record::copy::Copies;
 use gltf_json_record::error::Error;
 use gltf_json_record::extensions::Others;
@@ -165,7 +166,7 @@ pub struct Sampler {
     /// A name given by the user: `name`.
     pub name: Option<String>,
     /// The extensions: `extensions`. None is known here.
-    pub extensions: Option<Others>,
+    pub extensions: Option<Boxed<Others>>,
     /// What the application stores here: `extras`.
     pub extras: Extras,
 }
@@ -230,7 +231,7 @@ pub struct Texture {
     /// A name given by the user: `name`.
     pub name: Option<String>,
     /// The extensions: `extensions`. None is known here.
-    pub extensions: Option<Others>,
+    pub extensions: Option<Boxed<Others>>,
     /// What the application stores here: `extras`.
     pub extras: Extras,
 }

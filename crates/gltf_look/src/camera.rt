@@ -6,6 +6,7 @@ ghost use Rattle.gltf_handles.specs.Members.{text, unknown_extensions, extension
 
 use gltf_handles::inner::Inner;
 use gltf_handles::member::{meaning, unknown_extensions};
+use gltf_json::boxed::lent;
 use gltf_json::camera::{self, Type};
 use gltf_json::{Map, Value, kinds};
 use gltf_rules::{Records, Valid};
@@ -93,7 +94,7 @@ impl<'a, D: Records> Camera<'a, D> {
     pub fn extras(&self) -> Option<&'a Value>
         ensures { option_copied result ≡ (camera_handle self.now).json.extras }
     {
-        self.inner.json.extras.as_ref()
+        lent(&self.inner.json.extras)
     }
 }
 
@@ -155,7 +156,7 @@ impl<'a> Orthographic<'a> {
     pub fn extras(&self) -> Option<&'a Value>
         ensures { option_copied result ≡ (orthographic_record self.now).extras }
     {
-        self.json.extras.as_ref()
+        lent(&self.json.extras)
     }
 }
 
@@ -217,6 +218,6 @@ impl<'a> Perspective<'a> {
     pub fn extras(&self) -> Option<&'a Value>
         ensures { option_copied result ≡ (perspective_record self.now).extras }
     {
-        self.json.extras.as_ref()
+        lent(&self.json.extras)
     }
 }

@@ -7,6 +7,7 @@ ghost use Rattle.gltf_handles.specs.Members.{text, unknown_extensions, extension
 use gltf_handles::buffer::View;
 use gltf_handles::inner::Inner;
 use gltf_handles::member::unknown_extensions;
+use gltf_json::boxed::lent;
 use gltf_json::{Map, Value, image, kinds};
 use gltf_rules::{Records, Valid};
 
@@ -107,6 +108,6 @@ impl<'a, D: Records> Image<'a, D> {
     pub fn extras(&self) -> Option<&'a Value>
         ensures { option_copied result ≡ (image_handle self.now).json.extras }
     {
-        self.inner.json.extras.as_ref()
+        lent(&self.inner.json.extras)
     }
 }

@@ -7,6 +7,7 @@ ghost use Rattle.gltf_validation.specs.Lights.{lights_of};
 
 use gltf_handles::inner::Inner;
 use gltf_handles::member::meaning;
+use gltf_json::boxed::lent;
 use gltf_json::extensions::scene::khr_lights_punctual::{self, Type};
 use gltf_json::{Value, kinds};
 use gltf_rules::{Records, Valid};
@@ -79,7 +80,7 @@ impl<'a, D: Records> Light<'a, D> {
     pub fn extras(&self) -> Option<&'a Value>
         ensures { option_copied result ≡ (light_handle self.now).json.extras }
     {
-        self.inner.json.extras.as_ref()
+        lent(&self.inner.json.extras)
     }
 
     /// The brightness, in candela for point and spot lights and in lux for directional ones:

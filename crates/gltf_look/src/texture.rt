@@ -12,6 +12,7 @@ ghost use Rattle.gltf_validation.specs.Textures.{sampler_rules};
 use crate::image::Image;
 use gltf_handles::inner::Inner;
 use gltf_handles::member::{meaning, unknown_extensions};
+use gltf_json::boxed::lent;
 pub use gltf_json::texture::{MagFilter, MinFilter, WrappingMode};
 use gltf_json::{Map, Value, kinds, texture};
 use gltf_rules::{Records, Valid};
@@ -138,7 +139,7 @@ impl<'a, D: Records> Sampler<'a, D> {
     pub fn extras(&self) -> Option<&'a Value>
         ensures { option_copied result ≡ (sampler_handle self.now).json.extras }
     {
-        self.json?.extras.as_ref()
+        lent(&self.json?.extras)
     }
 }
 
@@ -225,6 +226,6 @@ impl<'a, D: Records> Texture<'a, D> {
     pub fn extras(&self) -> Option<&'a Value>
         ensures { option_copied result ≡ (texture_handle self.now).json.extras }
     {
-        self.inner.json.extras.as_ref()
+        lent(&self.inner.json.extras)
     }
 }

@@ -296,7 +296,7 @@ impl<'a, D: Records> Material<'a, D> {
     pub fn extras(&self) -> Option<&'a Value>
         ensures { option_copied result ≡ (material_handle self.now).json.extras }
     {
-        self.json?.extras.as_ref()
+        lent(&self.json?.extras)
     }
 
     /// What the member `extensions` holds, where it is there.

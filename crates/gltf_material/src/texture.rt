@@ -86,7 +86,7 @@ impl<'a, D: Records> Info<'a, D> {
     pub fn extras(&self) -> Option<&'a Value>
         ensures { option_copied result ≡ (info_handle self.now).json.extras }
     {
-        self.inner.json.extras.as_ref()
+        lent(&self.inner.json.extras)
     }
 }
 
@@ -136,6 +136,6 @@ impl<'a> TextureTransform<'a> {
     pub fn extras(&self) -> Option<&'a Value>
         ensures { option_copied result ≡ (transform_record self.now).extras }
     {
-        self.json.extras.as_ref()
+        lent(&self.json.extras)
     }
 }

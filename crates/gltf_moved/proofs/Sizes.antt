@@ -68,3 +68,16 @@ pub optional_size : (name : List ℕ) (d : Data) (f : Option ℕ)
     → MatchOption (member_at name d) (f ≡ None) (λ e. MatchOption f ⊥ (λ n. as_size e ≡ Some n))
     → size_at name d ≡ f
 optional_size name d f is = optional_in f (get name d) is
+
+both : (o : Option Data) (f : Option ℕ)
+    → MatchOption o (f ≡ None) (λ e. MatchOption f ⊥ (λ n. as_n32 e ≡ Some n))
+    → MatchOption o (f ≡ None) (λ e. MatchOption f ⊥ (λ n. as_size e ≡ Some n))
+both None f is = is
+both (Some e) None is = is
+both (Some e) (Some n) is = from_n32 n (as_size e) is
+
+-- an index that may be absent
+pub optional_index : (name : List ℕ) (d : Data) (f : Option ℕ)
+    → MatchOption (member_at name d) (f ≡ None) (λ e. MatchOption f ⊥ (λ n. as_n32 e ≡ Some n))
+    → size_at name d ≡ f
+optional_index name d f is = optional_size name d f (both (member_at name d) f is)

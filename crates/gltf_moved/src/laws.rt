@@ -1,16 +1,24 @@
-//! The law of reading. It is a statement over definitions, proved as the contract of a function
+//! The laws of reading. Each is a statement over definitions, proved as the contract of a function
 //! that does nothing.
+ghost use Rattle.gltf_moved.specs.Images.{ShowsImages};
 ghost use Rattle.gltf_moved.specs.Laws.{KeepsItems};
 
 use gltf_data::laws::alike_documents_are_read_alike;
 use gltf_items::Item;
 use gltf_json::laws::what_shows_the_same_is_alike_in_each_member;
+use gltf_validation::laws::no_rule_is_broken_where_all_hold;
 
-/// A document whose buffers became one has the same items at each accessor as before, over the one
-/// buffer, where each view lies in its buffer.
+/// A document whose images went into buffers of their own, and whose buffers became one, has the
+/// same items at each accessor as before, over the one buffer, where each view lies in its buffer.
 pub fn items_are_kept<T: Item>()
     ensures { KeepsItems ⟦<T as Item>⟧ }
 {
     what_shows_the_same_is_alike_in_each_member();
+    no_rule_is_broken_where_all_hold();
     alike_documents_are_read_alike::<T>();
 }
+
+/// Each image that went into a buffer of its own names a view of the one buffer, of its bytes.
+pub fn images_are_shown()
+    ensures { ShowsImages }
+{}

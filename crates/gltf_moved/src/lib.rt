@@ -1,4 +1,5 @@
-//! What is read of a document whose buffers became one.
+//! What is read of a document whose images went into buffers of their own, and whose buffers became
+//! one.
 #![tactic(auto)]
 
 pub mod laws;

@@ -13,8 +13,9 @@ use gltf_json::root::Root;
 use std::alloc::{AllocError, Global};
 use std::mem;
 
-/// The file without the names that the caller handles, where it breaks no rule then.
-pub(crate) fn opened(alloc: Global, raw: RawGltf, options: &Options<'_>) -> Result<Opened>
+/// A file of which the records are read, without the names that the caller handles, where it breaks
+/// no rule then. The error has all broken rules, or says that memory ran out.
+pub fn without_names(alloc: Global, raw: RawGltf, options: &Options<'_>) -> Result<Opened>
     ensures opened { IfOk result (IsOpened (listed options.now) raw.document raw.blob) }
     ensures refused { IfErr result
         (OutOfMemoryOr (RefusesBesides (listed options.now) raw.document)) }

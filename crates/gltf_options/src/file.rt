@@ -10,7 +10,7 @@ ghost use Rattle.gltf_options.specs.Import.{RefusesDocumentBesides};
 ghost use Rattle.gltf_options.specs.Names.{texts};
 ghost use Rattle.gltf_options.specs.Reader.{IsFileBesides, RefusesFileBesides};
 
-use crate::besides::opened;
+use crate::besides::without_names;
 use crate::options::Options;
 use gltf::{Gltf, Result};
 use gltf_json::laws::what_shows_the_same_is_alike_in_each_member;
@@ -48,7 +48,7 @@ pub fn from_slice_with(alloc: Global, slice: &[u8], options: &Options<'_>) -> Re
     what_shows_the_same_is_alike_in_each_member();
     what_shows_the_same_breaks_the_same_rules();
     let raw = Gltf::from_slice_without_validation(alloc, slice)?;
-    opened(alloc, raw, options)
+    without_names(alloc, raw, options)
 }
 
 /// [`Gltf::from_reader`] for a caller who handles further extensions (glTF 2.0, section 3.12).
@@ -69,5 +69,5 @@ pub fn from_reader_with<R: Read>(
     what_shows_the_same_is_alike_in_each_member();
     what_shows_the_same_breaks_the_same_rules();
     let raw = Gltf::from_reader_without_validation(alloc, reader)?;
-    opened(alloc, raw, options)
+    without_names(alloc, raw, options)
 }

@@ -12,6 +12,7 @@ pub mod laws;
 mod options;
 mod split;
 
+pub use besides::without_names;
 pub use file::{Opened, from_reader_with, from_slice_with};
 pub use imports::{Imported, import_from_with, import_slice_with, import_with};
 pub use options::Options;

@@ -22,6 +22,7 @@ use gltf_handles::accessor::Accessor;
 use gltf_handles::inner::Inner;
 use gltf_handles::list::List;
 use gltf_handles::member::{meaning, unknown_extensions};
+use gltf_json::boxed::lent;
 pub use gltf_json::mesh::{Mode, Semantic};
 use gltf_json::{Map, Value, kinds, mesh};
 use gltf_json_geometry::laws::order_is_the_stated_one;
@@ -106,7 +107,7 @@ impl<'a, D: Records> Mesh<'a, D> {
     pub fn extras(&self) -> Option<&'a Value>
         ensures { option_copied result ≡ (mesh_handle self.now).json.extras }
     {
-        self.inner.json.extras.as_ref()
+        lent(&self.inner.json.extras)
     }
 }
 
@@ -220,7 +221,7 @@ impl<'a, D: Records> Primitive<'a, D> {
         ensures { option_copied result
             ≡ option_map (λ e. e.others) (primitive_handle self.now).json.extensions }
     {
-        Some(&self.inner.json.extensions.as_ref()?.others)
+        Some(&lent(&self.inner.json.extensions)?.others)
     }
 
     /// The extension of this name, where it is not known at a primitive.
@@ -235,7 +236,7 @@ impl<'a, D: Records> Primitive<'a, D> {
     pub fn extras(&self) -> Option<&'a Value>
         ensures { option_copied result ≡ (primitive_handle self.now).json.extras }
     {
-        self.inner.json.extras.as_ref()
+        lent(&self.inner.json.extras)
     }
 }
 

@@ -13,6 +13,7 @@ use crate::skin::Skin;
 use gltf_handles::inner::Inner;
 use gltf_handles::list::List;
 use gltf_handles::member::unknown_extensions;
+use gltf_json::boxed::lent;
 use gltf_json::{Map, Value, kinds, scene};
 use gltf_look::camera::Camera;
 use gltf_look::khr_lights_punctual::Light;
@@ -98,11 +99,7 @@ impl<'a, D: Records> Node<'a, D> {
         ensures { Follows (IsLight (node_handle self.now).document)
             (light_index (node_handle self.now).json) result }
     {
-        let extension = self
-            .inner
-            .json
-            .extensions
-            .as_ref()?
+        let extension = lent(&self.inner.json.extensions)?
             .khr_lights_punctual
             .as_ref()?;
         Some(Light::new(self.inner.document, extension.light.value()))
@@ -161,7 +158,7 @@ impl<'a, D: Records> Node<'a, D> {
         ensures { option_copied result
             ≡ option_map (λ e. e.others) (node_handle self.now).json.extensions }
     {
-        Some(&self.inner.json.extensions.as_ref()?.others)
+        Some(&lent(&self.inner.json.extensions)?.others)
     }
 
     /// The extension of this name, where it is not known at a node.
@@ -176,7 +173,7 @@ impl<'a, D: Records> Node<'a, D> {
     pub fn extras(&self) -> Option<&'a Value>
         ensures { option_copied result ≡ (node_handle self.now).json.extras }
     {
-        self.inner.json.extras.as_ref()
+        lent(&self.inner.json.extras)
     }
 }
 
@@ -249,6 +246,6 @@ impl<'a, D: Records> Scene<'a, D> {
     pub fn extras(&self) -> Option<&'a Value>
         ensures { option_copied result ≡ (scene_handle self.now).json.extras }
     {
-        self.inner.json.extras.as_ref()
+        lent(&self.inner.json.extras)
     }
 }

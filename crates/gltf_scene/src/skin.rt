@@ -15,6 +15,7 @@ use gltf_handles::accessor::Accessor;
 use gltf_handles::inner::Inner;
 use gltf_handles::list::List;
 use gltf_handles::member::unknown_extensions;
+use gltf_json::boxed::lent;
 use gltf_json::{Map, Value, kinds, skin};
 use gltf_rules::{Records, Valid};
 
@@ -106,6 +107,6 @@ impl<'a, D: Records> Skin<'a, D> {
     pub fn extras(&self) -> Option<&'a Value>
         ensures { option_copied result ≡ (skin_handle self.now).json.extras }
     {
-        self.inner.json.extras.as_ref()
+        lent(&self.inner.json.extras)
     }
 }

@@ -1,30 +1,96 @@
 //! What is found in files.
-use crate::refusal::Refusal;
-use gltf::{Gltf, Name, NamedBytes};
-use gltf_findings::code::Severity;
+use gltf::{Error, Folder, Name, NamedBytes, NamedFault};
 use gltf_findings::report::Report;
-use gltf_inspect::inspect::inspect;
-use std::alloc::Global;
-use std::io::{self, Write};
+use gltf_inspect_files::inspect::{Inspected, inspect_from, inspect_slice};
+use gltf_json::root::Root;
+use gltf_report::json::json_text;
+use gltf_report::page::page;
+use gltf_report::text::write_text;
+use std::alloc::{AllocError, Global};
+use std::io::Write;
+use std::rt::HostRuntime;
+
+/// How reports are written, and what is read for them.
+#[derive(Clone, Copy)]
+struct Asked {
+    /// As JSON: `--json`.
+    json: bool,
+    /// On several lines: `--pretty`.
+    pretty: bool,
+    /// As a page of HTML: `--html`.
+    html: bool,
+    /// Without the files that buffers name: `--no-files`.
+    no_files: bool,
+}
+
+impl Asked {
+    fn of(words: &[&str]) -> Asked {
+        Asked {
+            json: words.contains(&"--json"),
+            pretty: words.contains(&"--pretty"),
+            html: words.contains(&"--html"),
+            no_files: words.contains(&"--no-files"),
+        }
+    }
+
+    /// Why the options do not fit each other or the files: a page is of one file, and is no JSON.
+    fn misfit(self, words: &[&str]) -> Option<&'static str> {
+        if self.html && (self.json || self.pretty) {
+            return Some("--html: not with --json or --pretty");
+        }
+        if self.html && files(words) > 1 {
+            return Some("--html: one file at a time");
+        }
+        if self.pretty && !self.json {
+            return Some("--pretty: only with --json");
+        }
+        None
+    }
+}
+
+/// How many of the words are no options.
+fn files(words: &[&str]) -> usize {
+    words.iter().filter(|word| !is_option(**word)).count()
+}
+
+fn is_option(word: &str) -> bool {
+    word.starts_with("--")
+}
+
+fn is_known(word: &str) -> bool {
+    word == "--json" || word == "--pretty" || word == "--html" || word == "--no-files"
+}
 
 /// Writes what is found in each of the files that the words name, in order, and gives the greatest
-/// of their statuses: 0 where no error is found, 1 where one is or the file holds no document, 2
-/// where the file could not be read or the report not be made or written. A file that has none is
-/// reported on `err`, and the next one follows. With the word `--json` a report is a line of JSON.
+/// of their statuses: 0 where no error is found, 1 where one is, 2 where the file could not be read
+/// or the report not be made or written. A file that has no report is named on `err`, and the next
+/// one follows. A report is text; with the word `--json` a line of JSON, or with `--pretty` several;
+/// with the word `--html` a page.
 ///
-/// `None` where the words name no file.
-pub(crate) fn inspect_files<S: NamedBytes, O: Write, E: Write>(
+/// `None` where the words name no file, or have an option that is not known or does not fit the
+/// others, which `err` says then.
+pub(crate) fn inspect_files<O: Write, E: Write>(
+    rt: &HostRuntime,
     alloc: Global,
-    source: &mut S,
     words: &[&str],
     out: &mut O,
     err: &mut E,
 ) -> Option<u8> {
-    let as_json = words.contains(&"--json");
+    for word in words {
+        if is_option(*word) && !is_known(*word) {
+            let _ = writeln!(err, "{word}: no such option");
+            return None;
+        }
+    }
+    let asked = Asked::of(words);
+    if let Some(why) = asked.misfit(words) {
+        let _ = writeln!(err, "{why}");
+        return None;
+    }
     let mut worst = None;
     for word in words {
-        if *word != "--json" {
-            let status = inspect_file(alloc, source, *word, as_json, out, err);
+        if !is_option(*word) {
+            let status = inspect_file(rt, alloc, *word, asked, out, err);
             worst = Some(match worst {
                 Some(before) if before > status => before,
                 _ => status,
@@ -34,62 +100,106 @@ pub(crate) fn inspect_files<S: NamedBytes, O: Write, E: Write>(
     worst
 }
 
-fn inspect_file<S: NamedBytes, O: Write, E: Write>(
+fn inspect_file<O: Write, E: Write>(
+    rt: &HostRuntime,
     alloc: Global,
-    source: &mut S,
     path: &str,
-    as_json: bool,
+    asked: Asked,
     out: &mut O,
     err: &mut E,
 ) -> u8 {
-    match report_of(alloc, source, path) {
-        Ok(report) => match write_report(alloc, &report, path, as_json, out) {
-            Ok(()) if report.is_without_errors() => 0,
-            Ok(()) => 1,
-            Err(cause) => {
-                let _ = writeln!(err, "{path}: {cause}");
-                2
-            }
-        },
-        Err(refusal) => {
-            let _ = writeln!(err, "{path}: {refusal}");
-            if refusal.is_of_content() { 1 } else { 2 }
+    match file_at(rt, alloc, path, asked) {
+        Ok(file) => write_report(alloc, &file, path, asked, out, err),
+        Err(cause) => {
+            let _ = writeln!(err, "{path}: {cause}");
+            2
         }
     }
 }
 
-fn report_of<S: NamedBytes>(alloc: Global, source: &mut S, path: &str) -> Result<Report, Refusal> {
-    let bytes = source.read(alloc, Name::File(path))?;
-    let file = Gltf::from_slice_without_validation(alloc, &bytes)?;
-    Ok(inspect(alloc, file.document.as_json())?)
+/// Files that buffers name are looked for in the folder of the file.
+fn file_at(rt: &HostRuntime, alloc: Global, path: &str, asked: Asked) -> Result<Inspected, Error> {
+    let mut folder = Folder::new(rt, gltf::base_of(path));
+    file_of(alloc, &mut folder, path, asked)
 }
 
-fn write_report<O: Write>(
+fn file_of<S: NamedBytes>(
     alloc: Global,
-    report: &Report,
+    source: &mut S,
     path: &str,
-    as_json: bool,
+    asked: Asked,
+) -> Result<Inspected, Error> {
+    if !asked.no_files {
+        return inspect_from(alloc, source, path);
+    }
+    let bytes = match source.read(alloc, Name::File(path)) {
+        Ok(bytes) => bytes,
+        Err(NamedFault::Io(cause)) => return Err(Error::Io(cause)),
+        Err(NamedFault::Memory) => return Err(Error::Memory),
+    };
+    Ok(inspect_slice(alloc, &bytes)?)
+}
+
+/// Writes a report, which is made whole before.
+fn write_report<O: Write, E: Write>(
+    alloc: Global,
+    file: &Inspected,
+    path: &str,
+    asked: Asked,
     out: &mut O,
-) -> io::Result<()> {
-    if as_json {
-        let text = report.json_text(alloc, path)?;
-        return writeln!(out, "{text}");
+    err: &mut E,
+) -> u8 {
+    let Ok(text) = report_text(alloc, file, path, asked) else {
+        let _ = writeln!(err, "{path}: out of memory");
+        return 2;
+    };
+    match out.write_all(text.as_slice()) {
+        Ok(()) if file.report.is_without_errors() => 0,
+        Ok(()) => 1,
+        Err(cause) => {
+            let _ = writeln!(err, "{path}: {cause}");
+            2
+        }
     }
-    writeln!(out, "{path}")?;
-    for finding in report.findings() {
-        let (place, code) = finding;
-        let severity = code.severity().name();
-        let name = code.name();
-        let pointer = place.pointer(alloc)?;
-        let sentence = code.sentence();
-        writeln!(out, "{severity} {name} {pointer} {sentence}")?;
+}
+
+fn report_text(
+    alloc: Global,
+    file: &Inspected,
+    path: &str,
+    asked: Asked,
+) -> Result<Vec<u8>, AllocError> {
+    let report = &file.report;
+    let cause = file.cause.as_ref();
+    if asked.html {
+        let imported = match &file.imported {
+            Some((document, buffers)) => Some((document, buffers.as_slice())),
+            None => None,
+        };
+        return page(alloc, path, report, cause, imported);
     }
-    let errors = report.count(Severity::Error);
-    let warnings = report.count(Severity::Warning);
-    let infos = report.count(Severity::Information);
-    let hints = report.count(Severity::Hint);
-    writeln!(
-        out,
-        "{errors} errors, {warnings} warnings, {infos} infos, {hints} hints"
-    )
+    let root = match &file.imported {
+        Some((document, _buffers)) => Some(document.as_json()),
+        None => None,
+    };
+    if asked.json {
+        return json_line(alloc, path, report, root, asked.pretty);
+    }
+    let mut text = Vec::new(alloc);
+    match write_text(alloc, path, report, cause, root, &mut text) {
+        Ok(()) => Ok(text),
+        Err(_) => Err(AllocError),
+    }
+}
+
+fn json_line(
+    alloc: Global,
+    path: &str,
+    report: &Report,
+    root: Option<&Root>,
+    is_pretty: bool,
+) -> Result<Vec<u8>, AllocError> {
+    let mut text = json_text(alloc, path, report, root, is_pretty)?;
+    text.push_str("\n")?;
+    Vec::from_slice(alloc, text.as_str().as_bytes())
 }

@@ -10,6 +10,7 @@ mod refusal;
 mod run;
 mod summary;
 
+use findings::inspect_files;
 use gltf::Folder;
 pub use run::run;
 use std::env;
@@ -27,6 +28,12 @@ fn main(rt: HostRuntime) -> std::io::Result<ExitCode> {
     let mut words = Vec::new(alloc);
     for word in &arguments {
         words.push(word.as_str())?;
+    }
+    if let ["inspect", files @ ..] = words.as_slice() {
+        let answer = inspect_files(&rt, alloc, files, &mut rt.stdout(), &mut rt.stderr());
+        if let Some(status) = answer {
+            return Ok(ExitCode::from(status));
+        }
     }
     let mut folder = Folder::new(&rt, base_of(words.as_slice()));
     let status = run(

@@ -73,7 +73,7 @@ impl fmt::Display for Refusal {
         match self {
             Refusal::Usage => write!(
                 f,
-                "usage: gltf_show chunks PATH | check PATH | indices PATH MESH PRIMITIVE | inspect PATH.. [--json]"
+                "usage: gltf_show chunks PATH | check PATH | indices PATH MESH PRIMITIVE | inspect PATH.. [--json [--pretty]] [--no-files] | inspect PATH --html [--no-files]"
             ),
             Refusal::File(error) => write!(f, "{error}"),
             Refusal::NoMesh => write!(f, "no such mesh"),

@@ -1,7 +1,6 @@
 //! The engine of the program, over any source of named bytes and any two writers.
 use crate::call::Call;
 use crate::chunks::Chunks;
-use crate::findings::inspect_files;
 use crate::indices::write_indices;
 use crate::old::says_first_version;
 use crate::refusal::Refusal;
@@ -10,16 +9,13 @@ use gltf::{Glb, Name, NamedBytes, import_from};
 use std::alloc::Global;
 use std::io::{self, Write};
 
-/// Answers the call that the words make, where the words are the arguments after the program's
-/// name, and gives the exit status.
+/// Answers the call that the words make, but for `inspect`, where the words are the arguments after
+/// the program's name, and gives the exit status.
 ///
 /// - 0: the answer stands on `out`.
 /// - 1: the file is refused, or has not what is asked for, or a read or a write failed; the reason
 ///   stands on `err`, with the name of the file that could not be read.
 /// - 2: the words make no call; the usage stands on `err`.
-///
-/// After `inspect` the status is the greatest of the files': 0 where no error is found in one, 1
-/// where one is, 2 where the file could not be read.
 pub fn run<S: NamedBytes, O: Write, E: Write>(
     alloc: Global,
     source: &mut S,
@@ -27,11 +23,6 @@ pub fn run<S: NamedBytes, O: Write, E: Write>(
     out: &mut O,
     err: &mut E,
 ) -> u8 {
-    if let ["inspect", files @ ..] = words {
-        if let Some(status) = inspect_files(alloc, source, files, out, err) {
-            return status;
-        }
-    }
     match answer(alloc, source, words, out) {
         Ok(()) => 0,
         Err(refusal) => {

@@ -11,6 +11,7 @@ use crate::buffer::View;
 use crate::inner::Inner;
 use gltf_json::Value;
 use gltf_json::accessor::{ComponentType, sparse};
+use gltf_json::boxed::lent;
 use gltf_json::validation::Checked;
 use gltf_rules::{Records, Valid};
 
@@ -98,7 +99,7 @@ impl<'a, D: Records> Sparse<'a, D> {
     pub fn extras(&self) -> Option<&'a Value>
         ensures { option_copied result ≡ (sparse_handle self.now).json.extras }
     {
-        self.inner.json.extras.as_ref()
+        lent(&self.inner.json.extras)
     }
 }
 
@@ -146,7 +147,7 @@ impl<'a, D: Records> Indices<'a, D> {
     pub fn extras(&self) -> Option<&'a Value>
         ensures { option_copied result ≡ (indices_handle self.now).json.extras }
     {
-        self.inner.json.extras.as_ref()
+        lent(&self.inner.json.extras)
     }
 }
 
@@ -181,6 +182,6 @@ impl<'a, D: Records> Values<'a, D> {
     pub fn extras(&self) -> Option<&'a Value>
         ensures { option_copied result ≡ (values_handle self.now).json.extras }
     {
-        self.inner.json.extras.as_ref()
+        lent(&self.inner.json.extras)
     }
 }

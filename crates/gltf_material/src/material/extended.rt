@@ -8,6 +8,7 @@ ghost use Rattle.gltf_material.specs.Textures.{IsInfo};
 use crate::texture::Info;
 use gltf_handles::inner::Inner;
 use gltf_json::Value;
+use gltf_json::boxed::lent;
 use gltf_json::extensions::material;
 use gltf_rules::{Records, Valid};
 
@@ -41,7 +42,7 @@ impl<'a, D: Records> Transmission<'a, D> {
     pub fn extras(&self) -> Option<&'a Value>
         ensures { option_copied result ≡ (transmission_handle self.now).json.extras }
     {
-        self.inner.json.extras.as_ref()
+        lent(&self.inner.json.extras)
     }
 }
 
@@ -91,7 +92,7 @@ impl<'a, D: Records> Volume<'a, D> {
     pub fn extras(&self) -> Option<&'a Value>
         ensures { option_copied result ≡ (volume_handle self.now).json.extras }
     {
-        self.inner.json.extras.as_ref()
+        lent(&self.inner.json.extras)
     }
 }
 
@@ -141,6 +142,6 @@ impl<'a, D: Records> Specular<'a, D> {
     pub fn extras(&self) -> Option<&'a Value>
         ensures { option_copied result ≡ (specular_handle self.now).json.extras }
     {
-        self.inner.json.extras.as_ref()
+        lent(&self.inner.json.extras)
     }
 }

@@ -7,6 +7,7 @@ ghost use Rattle.gltf_look.specs.Textures.{IsTexture};
 
 use gltf_handles::inner::Inner;
 use gltf_handles::member::unknown_extensions;
+use gltf_json::boxed::lent;
 use gltf_json::{Map, Value, material};
 use gltf_look::texture::Texture;
 use gltf_rules::{Records, Valid};
@@ -66,7 +67,7 @@ impl<'a, D: Records> NormalTexture<'a, D> {
     pub fn extras(&self) -> Option<&'a Value>
         ensures { option_copied result ≡ (normal_handle self.now).json.extras }
     {
-        self.inner.json.extras.as_ref()
+        lent(&self.inner.json.extras)
     }
 }
 
@@ -125,6 +126,6 @@ impl<'a, D: Records> OcclusionTexture<'a, D> {
     pub fn extras(&self) -> Option<&'a Value>
         ensures { option_copied result ≡ (occlusion_handle self.now).json.extras }
     {
-        self.inner.json.extras.as_ref()
+        lent(&self.inner.json.extras)
     }
 }

@@ -13,6 +13,7 @@ ghost use Rattle.gltf_validation.specs.Rules.{Hold, Hold-prop};
 use crate::texture::Info;
 use gltf_handles::inner::Inner;
 use gltf_handles::member::unknown_extensions;
+use gltf_json::boxed::lent;
 use gltf_json::extensions::material as extended;
 use gltf_json::{Map, Value, material};
 use gltf_rules::{Records, Valid};
@@ -107,7 +108,7 @@ impl<'a, D: Records> PbrMetallicRoughness<'a, D> {
     pub fn extras(&self) -> Option<&'a Value>
         ensures { option_copied result ≡ (pbr_handle self.now).json.extras }
     {
-        self.json?.extras.as_ref()
+        lent(&self.json?.extras)
     }
 }
 
@@ -170,6 +171,6 @@ impl<'a, D: Records> PbrSpecularGlossiness<'a, D> {
     pub fn extras(&self) -> Option<&'a Value>
         ensures { option_copied result ≡ (glossiness_handle self.now).json.extras }
     {
-        self.inner.json.extras.as_ref()
+        lent(&self.inner.json.extras)
     }
 }

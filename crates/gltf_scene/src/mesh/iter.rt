@@ -12,6 +12,7 @@ use crate::mesh::{Attribute, Mesh, MorphTarget, Primitive, Semantic};
 use gltf_handles::accessor::Accessor;
 use gltf_handles::inner::Inner;
 use gltf_handles::list::{Indexed, List};
+use gltf_json::boxed::lent;
 use gltf_json::extensions::mesh as extended;
 use gltf_json::{Index, kinds};
 use gltf_material::khr_materials_variants::Mapping;
@@ -114,7 +115,7 @@ impl<'a, D: Records> MappingsOf<'a, D> {
     fn records(&self) -> &'a [extended::Mapping]
         ensures { result.now ≡ mappings_of (primitive_handle self.now.primitive).json.extensions }
     {
-        match &self.primitive.inner.json.extensions {
+        match lent(&self.primitive.inner.json.extensions) {
             Some(extensions) => match &extensions.khr_materials_variants {
                 Some(extension) => extension.mappings.as_slice(),
                 None => &[],

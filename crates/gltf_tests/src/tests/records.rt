@@ -1,11 +1,12 @@
 //! Records that are lent at their indices and changed in code, and the paths of their members.
 use crate::tests::texts::{TWO_NODES, TWO_REPLACED, records};
 use gltf::json::accessor::ComponentType;
+use gltf::json::boxed::Boxed;
 use gltf::json::path::{Path, Step};
 use gltf::json::validation::Checked;
 use gltf::json::{Root, kinds};
 use gltf::{Document, Records, Valid};
-use std::alloc::Global;
+use std::alloc::{AllocError, Global};
 use std::process::Abort;
 use std::test::Fail;
 
@@ -28,7 +29,7 @@ fn compare_node(rt: &impl Abort, valid: &Valid) {
 fn stored_indices_of_another_type_break_a_rule(rt: HostRuntime) -> Result<(), Fail> {
     for code in [ComponentType::I8, ComponentType::I16, ComponentType::F32] {
         let mut root = records(rt.alloc(), TWO_REPLACED)?;
-        change_indices(&mut root, code);
+        change_indices(rt.alloc(), &mut root, code)?;
         let told = told_of(rt.alloc(), root)?;
         assert_eq!(rt;
             told.as_str(),
@@ -39,12 +40,15 @@ fn stored_indices_of_another_type_break_a_rule(rt: HostRuntime) -> Result<(), Fa
 }
 
 /// Gives the stored indices of each accessor a type.
-fn change_indices(root: &mut Root, code: ComponentType) {
+fn change_indices(alloc: Global, root: &mut Root, code: ComponentType) -> Result<(), AllocError> {
     for accessor in root.accessors.iter_mut() {
-        if let Some(sparse) = &mut accessor.sparse {
+        if let Some(boxed) = accessor.sparse.take() {
+            let mut sparse = boxed.into_inner();
             sparse.indices.component_type = Checked::Valid(code);
+            accessor.sparse = Some(Boxed::new(alloc, sparse)?);
         }
     }
+    Ok(())
 }
 
 /// What is reported of records that are validated.

@@ -5,8 +5,10 @@ use Rattle.gltf_inspect.proofs.inspect.inspect.Goals as goal
 pub returns : goal.returns
 returns c =
     c.new.ensures
-    ∙ c.in_ok-inspect_scenes.ensures
+    ∙ c.in_ok-tell_asset.ensures
     ∙ rw (
+      c.in_ok-inspect_graph.ensures,
+      c.in_ok-inspect_scenes.ensures,
       c.in_ok-inspect_meshes.ensures,
       c.in_ok-tell_unused.ensures,
       c.in_ok-inspect_document.ensures,

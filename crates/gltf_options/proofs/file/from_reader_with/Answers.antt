@@ -33,9 +33,9 @@ returns g c =
       reads = read.reads;
       within = read.within;
       answer =
-          read_file also left read.came whole blob c.opened.result alike read.answer
-          c.opened.ensures.opened c.opened.ensures.refused
-          (err_exact also read.came whole (blob_bytes blob) c.opened.result alike
+          read_file also left read.came whole blob c.without_names.result alike read.answer
+          c.without_names.ensures.opened c.without_names.ensures.refused
+          (err_exact also read.came whole (blob_bytes blob) c.without_names.result alike
           c.what_shows_the_same_breaks_the_same_rules.ensures read.answer.only
-          c.opened.ensures.refused);
+          c.without_names.ensures.refused);
     }

@@ -14,24 +14,24 @@ returns-in_err-raw-clause-exact c =
 pub returns-clause-valid : goal.returns-clause-valid
 returns-clause-valid c =
     ok_valid (listed c.args.options.now) c.args.slice.now c.in_ok-raw.raw.document
-    c.in_ok-raw.raw.blob c.opened.result c.in_ok-raw.ensures.document c.opened.ensures.opened
+    c.in_ok-raw.raw.blob c.without_names.result c.in_ok-raw.ensures.document c.without_names.ensures.opened
 
 pub returns-clause-only : goal.returns-clause-only
 returns-clause-only c =
     ok_only (listed c.args.options.now) c.args.slice.now c.in_ok-raw.raw.document
-    c.in_ok-raw.raw.blob c.opened.result c.what_shows_the_same_is_alike_in_each_member.ensures
-    c.in_ok-raw.ensures.only c.opened.ensures.opened
+    c.in_ok-raw.raw.blob c.without_names.result c.what_shows_the_same_is_alike_in_each_member.ensures
+    c.in_ok-raw.ensures.only c.without_names.ensures.opened
 
 pub returns-clause-refused : goal.returns-clause-refused
 returns-clause-refused c =
     err_refused (listed c.args.options.now) c.args.slice.now c.in_ok-raw.raw.document
-    (blob_bytes c.in_ok-raw.raw.blob) c.opened.result c.in_ok-raw.ensures.document
-    c.opened.ensures.refused
+    (blob_bytes c.in_ok-raw.raw.blob) c.without_names.result c.in_ok-raw.ensures.document
+    c.without_names.ensures.refused
 
 pub returns-clause-exact : goal.returns-clause-exact
 returns-clause-exact c =
     err_exact (listed c.args.options.now) c.args.slice.now c.in_ok-raw.raw.document
-    (blob_bytes c.in_ok-raw.raw.blob) c.opened.result
+    (blob_bytes c.in_ok-raw.raw.blob) c.without_names.result
     c.what_shows_the_same_is_alike_in_each_member.ensures
     c.what_shows_the_same_breaks_the_same_rules.ensures c.in_ok-raw.ensures.only
-    c.opened.ensures.refused
+    c.without_names.ensures.refused

@@ -1,0 +1,177 @@
+-- An image of the file that has a URI, in the container.
+use Rattle.std.proofs.Common.{◌≡◌, ℕ, zero, suc, ◌+◌, List, [], ◌∷◌, ◌++◌, Option, Some, None}
+use Rattle.std.proofs.Common.{refl, sym, ap, subst, ◌∙◌, arith, codes, unwrap_or, option_map, String}
+use Rattle.std.proofs.Common.{Global, string_bytes, false, Ok}
+use Rattle.std.specs.Prelude.{MatchOption, option_and_then, slice_get}
+use Rattle.serde_json.specs.Data.{Data, null, boolean, number, string, array, object, Items}
+use Rattle.serde_json.specs.Data.{no_items, item}
+use Rattle.serde_json.specs.Find.{get, get_item, as_array, as_str}
+use Rattle.gltf_json_record.specs.Items.{AllRead}
+use Rattle.gltf_json_record.specs.Member.{unless_null}
+use Rattle.gltf_json.specs.Documents.{root}
+use Rattle.gltf_json_scene.specs.Images.{image}
+use Rattle.gltf_json_scene.specs.declared.image.Image.{Image}
+use Rattle.gltf_edit.specs.Embedded.{seats}
+use Rattle.gltf_edit.specs.declared.picture.Picture.{Picture}
+use Rattle.gltf_moved.specs.Images.{IsInView, ShowsImages as MovedShows, seats_before}
+use Rattle.gltf_glb.specs.Laws.{OneReading, ReadsBack}
+use Rattle.gltf_pack.specs.Laws.{SpacesBehind}
+use Rattle.gltf_buffers.specs.Buffers.{IsMeant}
+use Rattle.gltf_buffers.specs.Names.{Names}
+use Rattle.gltf_buffers.specs.Uri.{uri_of}
+use Rattle.gltf_bundle.specs.Images.{AllTaken, Takes, IsTaken, text_at}
+use Rattle.gltf_bundle.specs.Laws.{ShowsImages}
+use Rattle.gltf_bundle.specs.Media.{media_of}
+use Rattle.gltf_bundle.proofs.Imported.{is_moved, the_buffers}
+use Rattle.gltf_bundle.proofs.Uris.{ReadsImages}
+
+-- ---- what an image is read of
+
+record ReadOf (x : Image) (ds : Items) (i : ℕ) : Type 0 where
+  value : Data
+  there : get_item i ds ≡ Some value
+  reads : image.is value x
+
+read_of : (ds : Items) (xs : List Image) (i : ℕ) (x : Image) → AllRead image.is ds xs
+    → slice_get xs i ≡ Some x → ReadOf x ds i
+read_of no_items [] i x is there = cc
+read_of no_items (y ∷ xs) i x is there = absurd is
+read_of (item d ds) [] i x is there = cc
+read_of (item d ds) (y ∷ xs) zero x is there =
+    let same : y ≡ x = cc in
+    record { value = d; there = refl; reads = subst (λ y. image.is d y) same is.0 }
+read_of (item d ds) (y ∷ xs) (suc i) x is there =
+    let later = read_of ds xs i x is.1 there in
+    record { value = later.value; there = later.there; reads = later.reads }
+
+none_there : (xs : List Image) (i : ℕ) (x : Image) (ds : Items) → xs ≡ []
+    → slice_get xs i ≡ Some x → ReadOf x ds i
+none_there [] i x ds none there = cc
+none_there (y ∷ xs) i x ds none there = cc
+
+listed : (o : Option Data) (xs : List Image) (i : ℕ) (x : Image) → ReadsImages o xs
+    → slice_get xs i ≡ Some x → ReadOf x (unwrap_or (option_and_then as_array o) no_items) i
+listed None xs i x is there = none_there xs i x _ is there
+listed (Some null) xs i x is there = none_there xs i x _ is there
+listed (Some (boolean b)) xs i x is there = absurd is
+listed (Some (number n)) xs i x is there = absurd is
+listed (Some (string s)) xs i x is there = absurd is
+listed (Some (array ds)) xs i x is there = read_of ds xs i x is there
+listed (Some (object ms)) xs i x is there = absurd is
+
+-- ---- its texts
+
+text_there : (e : Data) (f : Option (String Global))
+    → MatchOption f ⊥ (λ t. as_str e ≡ Some (string_bytes t)) → as_str e ≡ option_map string_bytes f
+text_there e None is = absurd is
+text_there e (Some t) is = is
+
+text_read : (o : Option Data) (f : Option (String Global))
+    → MatchOption (option_and_then unless_null o) (f ≡ None)
+    (λ e. MatchOption f ⊥ (λ t. as_str e ≡ Some (string_bytes t)))
+    → option_and_then as_str o ≡ option_map string_bytes f
+text_read None f is = sym (ap (option_map string_bytes) is)
+text_read (Some null) f is = sym (ap (option_map string_bytes) is)
+text_read (Some (boolean b)) f is = text_there (boolean b) f is
+text_read (Some (number n)) f is = text_there (number n) f is
+text_read (Some (string s)) f is = text_there (string s) f is
+text_read (Some (array ds)) f is = text_there (array ds) f is
+text_read (Some (object ms)) f is = text_there (object ms) f is
+
+uri_read : (e : Data) (x : Image) → image.is e x
+    → text_at (codes "uri") e ≡ option_map string_bytes x.uri
+unfolding image
+uri_read e x is = text_read (get (codes "uri") e) x.uri is.1.1.1.0
+
+type_read : (e : Data) (x : Image) → image.is e x
+    → text_at (codes "mimeType") e ≡ option_map string_bytes x.mime_type
+unfolding image
+type_read e x is = text_read (get (codes "mimeType") e) x.mime_type is.1.1.0
+
+-- ---- what is taken in of it
+
+record TakenAt (names : Names) (e : Data) (ps : List (Option Picture)) (taken : List (List ℕ))
+    (i : ℕ) : Type 0 where
+  picture : Picture
+  has : slice_get ps i ≡ Some (Some picture)
+  bytes : List ℕ
+  given : slice_get taken (seats_before i ps) ≡ Some bytes
+  is_taken : IsTaken names e picture bytes
+
+module _ (names : Names) (e : Data) (uri : List ℕ) (with_uri : text_at (codes "uri") e ≡ Some uri) where
+  here : (p : Option Picture) (ps : List (Option Picture)) (one more taken : List (List ℕ))
+      → Takes names e p one → taken ≡ one ++ more → TakenAt names e (p ∷ ps) taken 0
+  here None ps one more taken takes is = let none = takes.0 in cc
+  here (Some p) ps one more taken takes is =
+      record {
+        picture = p;
+        has = refl;
+        bytes = takes.0;
+        given =
+            ap (λ (xs : List (List ℕ)). slice_get xs 0) is
+            ∙ ap (λ (xs : List (List ℕ)). slice_get (xs ++ more) 0) takes.2;
+        is_taken = takes.1;
+      }
+
+  seat : (d : Data) (p : Option Picture) (one more : List (List ℕ)) (k : ℕ) → Takes names d p one
+      → slice_get (one ++ more) (seats p + k) ≡ slice_get more k
+  seat d None one more k takes =
+      ap (λ (xs : List (List ℕ)). slice_get (xs ++ more) (0 + k)) takes.1
+      ∙ ap (slice_get more) (omega arith)
+  seat d (Some p) one more k takes =
+      let next : 1 + k ≡ suc k = omega arith in
+      ap (λ (xs : List (List ℕ)). slice_get (xs ++ more) (1 + k)) takes.2
+      ∙ ap (slice_get (takes.0 ∷ more)) next
+
+  taken_at : (ds : Items) (ps : List (Option Picture)) (taken : List (List ℕ)) (i : ℕ)
+      → AllTaken names ds ps taken → get_item i ds ≡ Some e → TakenAt names e ps taken i
+  taken_at no_items ps taken i all there = cc
+  taken_at (item d ds) [] taken i all there = absurd all
+  taken_at (item d ds) (p ∷ ps) taken zero (one, more, first, rest, is) there =
+      let same : d ≡ e = cc in
+      here p ps one more taken (subst (λ d. Takes names d p one) same first) is
+  taken_at (item d ds) (p ∷ ps) taken (suc i) (one, more, first, rest, is) there =
+      let later = taken_at ds ps more i rest there in
+      record {
+        picture = later.picture;
+        has = later.has;
+        bytes = later.bytes;
+        given =
+            ap (λ (xs : List (List ℕ)). slice_get xs (seats p + seats_before i ps)) is
+            ∙ seat d p one more (seats_before i ps) first ∙ later.given;
+        is_taken = later.is_taken;
+      }
+
+of_some : {x y : List ℕ} → ◌≡◌ {A = Option (List ℕ)} (Some x) (Some y) → x ≡ y
+of_some same = cc
+
+-- ---- in the container
+
+pub shows_images : OneReading → ReadsBack → SpacesBehind → MovedShows → ShowsImages
+unfolding root
+shows_images one back spaces law names path answer is s others accepted i x there uri with_uri =
+    let value = is.value in
+    let source = is.gathered.source in
+    let read = listed (get (codes "images") value) is.root_.images.items i x
+    source.records.1.1.1.1.1.1.1.0 there in
+    let e = read.value in
+    let text = uri_read e x read.reads ∙ with_uri in
+    let found = taken_at names e uri text (unwrap_or (option_and_then as_array (get (codes "images") value)) no_items) is.pictures
+    is.images i is.gathered.taken read.there in
+    let picture = found.is_taken in
+    let same : picture.uri ≡ uri = of_some (sym picture.there ∙ text) in
+    let moved = is_moved one back spaces names path false answer is s others accepted in
+    let view = law is.buffers is.images is.root_ s moved i e read.there found.picture found.has found.bytes
+    found.given picture.long in
+    record {
+      bytes = found.bytes;
+      media = string_bytes found.picture.media;
+      meant = subst (λ (u : List ℕ). IsMeant names (uri_of u) (Ok found.bytes)) same picture.meant;
+      is_media =
+          ap (λ (o : Option (List ℕ)). media_of uri o found.bytes) (sym (type_read e x read.reads))
+          ∙ ap (λ (u : List ℕ). media_of u (text_at (codes "mimeType") e) found.bytes) (sym same)
+          ∙ picture.media;
+      in_view =
+          subst (λ (bs : List (List ℕ)). IsInView bs s i (string_bytes found.picture.media) found.bytes)
+          (sym (the_buffers one back spaces names path false answer is s others accepted)) view;
+    }

@@ -1,0 +1,48 @@
+use Rattle.std.proofs.Common.{List, subst, codes}
+use Rattle.std.proofs.lemmas.Result.{err_from_is_err_and}
+use Rattle.serde_json.specs.View.{view}
+use Rattle.gltf_names.specs.Named.{Named}
+use Rattle.gltf_buffers.specs.Names.{Names, names_of}
+use Rattle.gltf.specs.Shown.{bytes_of_each}
+use Rattle.gltf_edit.specs.Embedded.{items_at}
+use Rattle.gltf_bundle.specs.Images.{AreTaken, RefusesImages}
+use Rattle.gltf_bundle.proofs.Refused.{images_refused}
+use Rattle.gltf_bundle.proofs.loading.gather.Goals as goal
+
+pub returns-clause-gathered : goal.returns-clause-gathered
+returns-clause-gathered g c =
+    let was = c.in_ok-value in
+    let taken = c.in_ok-pictures.ensures.taken in (
+      was.ensures.loaded.0,
+      bytes_of_each was.field-0.buffers.items,
+      taken.0,
+      record {
+        source = was.ensures.loaded.1;
+        taken =
+            subst (λ (ns : Names).
+            AreTaken ns c.args.keep (view was.field-0.value) c.in_ok-pictures.pictures.items taken.0)
+            was.ensures.kept taken.1;
+      },
+      taken.2,
+    )
+
+pub returns-in_err-pictures-clause-refused : goal.returns-in_err-pictures-clause-refused
+returns-in_err-pictures-clause-refused g c =
+    let names = names_of (g.S.NamedBytes.bytes_by_name c.args.source.now) in
+    let old = g.S.NamedBytes.failures c.args.source.now in
+    let new = g.S.NamedBytes.failures c.pictures_of.new.names in
+    let was = c.in_ok-value in
+    let e = c.in_err-pictures.field-0.0 in
+    let ds = items_at (codes "images") (view was.field-0.value) in
+    let told = c.in_err-pictures.ensures.refused in
+    let of_images : RefusesImages names ds old new e =
+    subst (λ (ns : Names). RefusesImages ns ds old new e) was.ensures.kept
+    (subst (λ (ns : List Named).
+    RefusesImages (names_of (g.S.NamedBytes.bytes_by_name c.load.new.source)) ds ns new e)
+    was.ensures.fine told.1) in
+    let exit = c.from_residual-in_err-pictures in
+    let passed = err_from_is_err_and exit.result exit.ensures.1 in
+    rw (passed.1, passed.2)
+    (images_refused names c.args.path.now c.args.keep old new (view was.field-0.value)
+    was.ensures.loaded.0 (bytes_of_each was.field-0.buffers.items) e was.ensures.loaded.1 told.0
+    of_images)

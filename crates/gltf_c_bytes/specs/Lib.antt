@@ -1,0 +1,6 @@
+pub mod Front
+pub mod Info
+pub mod Lists
+pub mod Places
+pub mod Read
+pub mod Shapes

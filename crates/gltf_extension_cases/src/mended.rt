@@ -1,0 +1,42 @@
+//! Files that are refused as they stand, and read as they are mended.
+use gltf::Document;
+use gltf_extensions::supported;
+use gltf_lenient::{Mends, Options, from_slice_with};
+use std::alloc::{AllocError, Global};
+
+/// Writes the images of the textures of a file and how many channels its animations have, with what
+/// the words before its text ask for: `channels`, `sources`, `both` or `nothing`.
+pub(crate) fn write(alloc: Global, case: &str, line: &mut String) -> Result<(), AllocError> {
+    let (word, text) = case.split_once(" ").unwrap_or((case, ""));
+    let options = Options {
+        also_supported: supported(),
+        mends: mends_of(word),
+    };
+    match from_slice_with(alloc, text.as_bytes(), &options) {
+        Ok(opened) => write_document(&opened.gltf.document, line),
+        Err(error) => write!(line, "{error}"),
+    }
+}
+
+fn mends_of(word: &str) -> Mends<'static> {
+    Mends {
+        skip_channels_without_node: matches!(word, "channels" | "both"),
+        texture_sources: if matches!(word, "sources" | "both") {
+            &["KHR_texture_basisu", "EXT_texture_webp"]
+        } else {
+            &[]
+        },
+    }
+}
+
+fn write_document(document: &Document, line: &mut String) -> Result<(), AllocError> {
+    line.push_str("images")?;
+    for texture in document.textures() {
+        write!(line, " {}", texture.source().index())?;
+    }
+    line.push_str(", channels")?;
+    for animation in document.animations() {
+        write!(line, " {}", animation.channels().count())?;
+    }
+    Ok(())
+}

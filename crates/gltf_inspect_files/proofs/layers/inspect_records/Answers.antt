@@ -1,0 +1,21 @@
+use Rattle.std.proofs.Common.{◌≡◌, ◌≢◌, [], inl, subst}
+use Rattle.std.specs.Prelude.{IfNone}
+use Rattle.gltf_buffers.specs.Shown.{blob_bytes}
+use Rattle.gltf_validation.specs.Documents.{Faults}
+use Rattle.gltf_inspect_files.specs.Reports.{records_findings}
+use Rattle.gltf_inspect_files.proofs.layers.inspect_records.Goals as goal
+
+pub returns-in-None : goal.returns-in-None
+returns-in-None g c = λ bytes document only.
+    let root = c.into_json-root.result in
+    let broken : Faults root ≢ [] =
+    subst (λ o. IfNone o (Faults root ≢ [])) c.in-None.is c.in_ok-document.ensures.broken in
+    inl (record {
+      root = c.args.file.document;
+      blob = blob_bytes c.args.file.blob;
+      document = document;
+      only = only;
+      broken = subst (λ r. Faults r ≢ []) c.into_json-root.ensures broken;
+      same = subst (λ r. c.in_ok-records.records ≡ records_findings r) c.into_json-root.ensures
+          c.in_ok-records.ensures;
+    })

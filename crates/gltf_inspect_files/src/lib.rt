@@ -1,0 +1,10 @@
+//! What is found in a file: where it is refused, why; in its records; and in its items.
+#![tactic(auto)]
+
+mod buffer;
+mod container;
+pub mod inspect;
+mod join;
+pub mod laws;
+mod layers;
+mod text;

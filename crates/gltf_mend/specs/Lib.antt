@@ -1,0 +1,4 @@
+pub mod Edits
+pub mod Channels
+pub mod Textures
+pub mod Mended

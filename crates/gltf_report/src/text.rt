@@ -1,0 +1,76 @@
+//! A report as text.
+use crate::tables::{PARTS, table};
+use gltf::Error;
+use gltf_findings::code::Severity;
+use gltf_findings::report::Report;
+use gltf_json::root::Root;
+use gltf_json_record::path::Path;
+use std::alloc::{AllocError, Global};
+use std::io::{self, Write};
+
+/// Writes a report as text: a line with the name of the file; the number of findings of each
+/// severity; a line for each error, then for each warning and each info (hints are counted alone);
+/// why the file holds no document, in the loader's words, where it holds none; and the tables of
+/// what the document holds, where it is loaded.
+pub fn write_text<O: Write>(
+    alloc: Global,
+    name: &str,
+    report: &Report,
+    cause: Option<&Error>,
+    root: Option<&Root>,
+    out: &mut O,
+) -> io::Result<()> {
+    writeln!(out, "{name}")?;
+    write_counts(report, out)?;
+    write_findings(alloc, report, Severity::Error, out)?;
+    write_findings(alloc, report, Severity::Warning, out)?;
+    write_findings(alloc, report, Severity::Information, out)?;
+    if let Some(cause) = cause {
+        writeln!(out, "refused: {cause}")?;
+    }
+    if let Some(root) = root {
+        writeln!(out)?;
+        for part in &PARTS {
+            table(alloc, root, *part)?.write_text(out)?;
+        }
+    }
+    Ok(())
+}
+
+fn write_counts<O: Write>(report: &Report, out: &mut O) -> io::Result<()> {
+    let errors = report.count(Severity::Error);
+    let warnings = report.count(Severity::Warning);
+    let infos = report.count(Severity::Information);
+    let hints = report.count(Severity::Hint);
+    writeln!(
+        out,
+        "FINDINGS  errors: {errors}, warnings: {warnings}, infos: {infos}, hints: {hints}"
+    )
+}
+
+fn write_findings<O: Write>(
+    alloc: Global,
+    report: &Report,
+    severity: Severity,
+    out: &mut O,
+) -> io::Result<()> {
+    for finding in report.findings() {
+        let (place, code) = finding;
+        if code.severity().is(severity) {
+            let grave = severity.name();
+            let name = code.name();
+            let pointer = shown_pointer(alloc, place)?;
+            let sentence = code.sentence();
+            writeln!(out, "{grave} {name} {pointer} {sentence}")?;
+        }
+    }
+    Ok(())
+}
+
+/// The JSON Pointer of a place; `-` for the whole document, whose pointer is empty.
+pub(crate) fn shown_pointer(alloc: Global, place: &Path) -> Result<String, AllocError> {
+    if place.steps().is_empty() {
+        return String::from_str(alloc, "-");
+    }
+    place.pointer(alloc)
+}

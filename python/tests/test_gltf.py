@@ -1,0 +1,310 @@
+"""Tests of the Python package, over the library that GLTF_LIBRARY names: `make python`."""
+import gc
+import json
+import os
+import pathlib
+import random
+import resource
+import shutil
+import subprocess
+import tempfile
+import threading
+import unittest
+
+import gltf
+from gltf import _native
+from reader import Reader
+
+try:
+    import numpy
+except ImportError:
+    numpy = None
+
+TOP = pathlib.Path(__file__).resolve().parents[2]
+EXAMPLES = TOP / "examples"
+FILES = [EXAMPLES / "box.glb", EXAMPLES / "triangle.gltf", EXAMPLES / "two files" / "square.gltf",
+         TOP / "c" / "tests" / "surface.gltf"]
+SPARSE = {
+    "asset": {"version": "2.0"},
+    "buffers": [{"byteLength": 8, "uri": "data:application/octet-stream;base64,AQAAAAcICQo="}],
+    "bufferViews": [{"buffer": 0, "byteLength": 1}, {"buffer": 0, "byteOffset": 4,
+                                                     "byteLength": 4}],
+    "accessors": [{"componentType": 5121, "count": 3, "type": "VEC2", "normalized": True,
+                   "sparse": {"count": 1, "indices": {"bufferView": 0, "componentType": 5121},
+                              "values": {"bufferView": 1}}}]}
+
+
+def text_of(document):
+    """The bytes of a file that is a document."""
+    return json.dumps(document).encode()
+
+
+class Layout(unittest.TestCase):
+    """The structs are those of gltf.h."""
+
+    @unittest.skipUnless(shutil.which("cc"), "there is no cc")
+    def test_structs_are_those_of_the_header(self):
+        lines, wanted = [], []
+        for name, kind in _native.STRUCTS.items():
+            for member, *_ in kind._fields_:
+                lines.append('printf("%%zu %%zu\\n", offsetof(%s, %s), sizeof ((%s *)0)->%s);'
+                             % (name, member, name, member))
+                field = getattr(kind, member)
+                wanted.append("%d %d" % (field.offset, field.size))
+        code = ('#include <stdio.h>\n#include "gltf.h"\nint main(void) {\n%s\nreturn 0; }\n'
+                % "\n".join(lines))
+        with tempfile.TemporaryDirectory() as folder:
+            source, program = pathlib.Path(folder, "a.c"), pathlib.Path(folder, "a")
+            source.write_text(code)
+            subprocess.run(["cc", "-I", str(TOP / "c"), str(source), "-o", str(program)],
+                           check=True)
+            shown = subprocess.run([str(program)], stdout=subprocess.PIPE, check=True)
+        self.assertEqual(shown.stdout.decode().split("\n")[:-1], wanted)
+
+
+class Files(unittest.TestCase):
+    """What is read of the examples is what an independent reader reads."""
+
+    def test_items_are_those_of_the_file(self):
+        for path in FILES:
+            reader = Reader(path)
+            with gltf.open(path) as document:
+                for accessor in document.accessors:
+                    wanted = reader.accessor(accessor.index)
+                    found = [it if isinstance(it, tuple) else (it,) for it in accessor.items()]
+                    self.assertEqual(found, wanted, (path, accessor.index))
+
+    def test_records_are_those_of_the_file(self):
+        for path in FILES:
+            root = Reader(path).root
+            with gltf.open(path) as document:
+                for kind in ("meshes", "nodes", "materials", "scenes", "images", "textures"):
+                    stated, shown = root.get(kind, []), getattr(document, kind)
+                    self.assertEqual(len(stated), len(shown))
+                    for one, other in zip(stated, shown):
+                        self.assertEqual(one.get("name"), other.name)
+                        self.assertEqual(one.get("extras"), other.extras)
+                for mesh, shown in zip(root.get("meshes", []), document.meshes):
+                    for one, other in zip(mesh["primitives"], shown.primitives):
+                        found = {name: it.index for name, it in other.attributes.items()}
+                        self.assertEqual(one["attributes"], found)
+                        indices = None if other.indices is None else other.indices.index
+                        self.assertEqual(one.get("indices"), indices)
+                for one, other in zip(root.get("nodes", []), document.nodes):
+                    self.assertEqual(tuple(one.get("translation", (0, 0, 0))), other.translation)
+                    self.assertEqual(one.get("children", []), [it.index for it in other.children])
+                for one, other in zip(root.get("materials", []), document.materials):
+                    surface = one.get("pbrMetallicRoughness", {})
+                    factor = surface.get("baseColorFactor", [1, 1, 1, 1])
+                    self.assertEqual(tuple(factor), other.base_color_factor)
+                    self.assertEqual(surface.get("metallicFactor", 1), other.metallic_factor)
+                    self.assertEqual(one.get("alphaMode", "OPAQUE"), other.alpha_mode)
+                    use = other.normal_texture
+                    self.assertEqual(one.get("normalTexture", {}).get("index"),
+                                     use and use.texture.index)
+
+    def test_sparse_values_are_applied(self):
+        accessor = gltf.open(text_of(SPARSE)).accessors[0]
+        self.assertEqual(accessor.items(), [(0, 0), (7, 8), (0, 0)])
+        self.assertEqual(accessor.floats()[1], (7 / 255, 8 / 255))
+        self.assertIsNone(accessor.view())
+        self.assertEqual((accessor.type, len(accessor), accessor.sparse), ("VEC2", 3, 1))
+
+    def test_an_image_has_its_bytes(self):
+        document = gltf.open(EXAMPLES / "box.glb")
+        image = document.images[0]
+        self.assertEqual(bytes(image.bytes[:8]), b"\x89PNG\r\n\x1a\n")
+        self.assertEqual(image.mime_type, "image/png")
+
+    @unittest.skipUnless(numpy, "there is no NumPy")
+    def test_arrays_are_the_items_without_a_copy(self):
+        for path in FILES:
+            with gltf.open(path) as document:
+                for accessor in document.accessors:
+                    array = accessor.array()
+                    flat = array.reshape(accessor.count, accessor.components).tolist()
+                    found = [tuple(it) for it in flat]
+                    wanted = [it if isinstance(it, tuple) else (it,) for it in accessor.items()]
+                    self.assertEqual(found, wanted)
+                    if accessor.view() is not None:
+                        self.assertFalse(array.flags.owndata or array.flags.writeable)
+
+    @unittest.skipUnless(numpy, "there is no NumPy")
+    def test_an_array_keeps_the_bytes_of_a_closed_document(self):
+        document = gltf.open(EXAMPLES / "box.glb")
+        points = document.accessors[0].array()
+        wanted = points.copy()
+        document.close()
+        del document
+        gc.collect()
+        self.assertTrue((points == wanted).all())
+
+
+class Faults(unittest.TestCase):
+    """Each fault has its class and its place."""
+
+    def refused(self, kind, source, **how):
+        with self.assertRaises(kind) as caught:
+            gltf.open(source, **how)
+        return caught.exception
+
+    def test_faults_have_classes(self):
+        self.refused(gltf.ContainerError, b"glTF\1\0\0\0")
+        self.refused(gltf.DocumentError, b"{")
+        asset = {"asset": {"version": "2.0"}}
+        self.refused(gltf.DocumentError, text_of({}))
+        fault = self.refused(gltf.RulesError, text_of({**asset, "nodes": [{"mesh": 3}]}))
+        self.assertEqual((fault.path, fault.rules), ("/nodes/0/mesh", 1))
+        for uri, kind in (("data:;base64,!", gltf.Base64Error), ("a.bin",
+                          gltf.ExternalReferenceError), ("http://a", gltf.UnsupportedSchemeError)):
+            self.refused(kind, text_of({**asset, "buffers": [{"byteLength": 1, "uri": uri}]}))
+        self.refused(gltf.MissingBlobError, text_of({**asset, "buffers": [{"byteLength": 1}]}))
+        short = text_of({**asset, "buffers": [{"byteLength": 9, "uri": "data:;base64,AAAA"}]})
+        fault = self.refused(gltf.ShortBufferError, short)
+        self.assertEqual((fault.buffer, fault.expected), (0, 9))
+
+    def test_required_extensions_are_the_callers(self):
+        text = text_of({"asset": {"version": "2.0"}, "extensionsUsed": ["EXT_mine"],
+                        "extensionsRequired": ["EXT_mine"]})
+        self.refused(gltf.RulesError, text)
+        self.assertEqual(len(gltf.open(text, extensions=["EXT_mine"]).nodes), 0)
+
+    def test_a_closed_document_raises(self):
+        document = gltf.open(EXAMPLES / "box.glb")
+        mesh = document.meshes[0]
+        document.close()
+        document.close()
+        for use in (lambda: document.nodes, lambda: mesh.name, lambda: mesh.primitives[0]):
+            self.assertRaises(gltf.ClosedError, use)
+
+    def test_a_file_names_nothing_outside_of_its_folder(self):
+        with tempfile.TemporaryDirectory() as folder:
+            inner = pathlib.Path(folder, "inner")
+            inner.mkdir()
+            for place in (pathlib.Path(folder, "a.bin"), inner / "b.bin"):
+                place.write_bytes(b"abcd")
+            (inner / "link.bin").symlink_to(pathlib.Path(folder, "a.bin"))
+            file = inner / "a.gltf"
+
+            def write(uri):
+                file.write_bytes(text_of({"asset": {"version": "2.0"},
+                                          "buffers": [{"byteLength": 4, "uri": uri}]}))
+                return file
+
+            self.assertEqual(bytes(gltf.open(write("b.bin")).buffers[0].bytes), b"abcd")
+            for uri in ("../a.bin", "link.bin", folder + "/a.bin", "%2e%2e/a.bin"):
+                self.refused(gltf.ExternalReferenceError, write(uri))
+                self.assertEqual(bytes(gltf.open(write(uri), outside=True).buffers[0].bytes),
+                                 b"abcd")
+            fault = self.refused(gltf.ExternalReferenceError, write("missing.bin"))
+            self.assertEqual((fault.buffer, fault.path), (0, "/buffers/0/uri"))
+            fault = self.refused(gltf.ShortBufferError, write("b.bin"), resolver=lambda uri: b"a")
+            self.assertEqual((fault.expected, fault.actual), (4, 1))
+
+
+def mutated(data, random_):
+    """The bytes of a file with a few changes."""
+    data = bytearray(data)
+    for _ in range(random_.choice((1, 1, 2, 4))):
+        at = random_.randrange(len(data))
+        if random_.random() < 0.5:
+            data[at] ^= 1 << random_.randrange(8)
+        else:
+            data[at] = random_.choice(b"0123456789\"{}[],:")
+    return bytes(data)
+
+
+def read_all(document):
+    """Reads everything that a document has."""
+    for kind in ("scenes", "nodes", "meshes", "materials", "textures", "images", "skins",
+                 "animations", "cameras", "lights", "variants", "samplers", "buffers"):
+        for record in getattr(document, kind):
+            getattr(record, "extras")
+            for member in ("name", "children", "joints", "weights", "bytes", "channels"):
+                getattr(record, member, None)
+    for mesh in document.meshes:
+        for primitive in mesh.primitives:
+            primitive.attributes, primitive.targets, primitive.material
+    for accessor in document.accessors:
+        view = accessor.view()
+        if view is not None:
+            sum(view)
+        if accessor.count < 100000:
+            try:
+                accessor.bytes()
+            except gltf.GltfError:
+                pass
+
+
+class Strangers(unittest.TestCase):
+    """Files of strangers, from several threads at once."""
+
+    def test_mutated_files_from_four_threads(self):
+        times = int(os.environ.get("GLTF_MUTATIONS", "600"))
+        sources = [path.read_bytes() for path in FILES]
+        faults, opened = [], []
+
+        def work(seed):
+            random_ = random.Random(seed)
+            try:
+                for turn in range(times // 4):
+                    data = mutated(sources[turn % len(sources)], random_)
+                    try:
+                        with gltf.open(data, resolver=lambda uri: b"\1" * 4096) as document:
+                            read_all(document)
+                            opened.append(turn)
+                    except gltf.GltfError:
+                        pass
+            except BaseException as fault:  # all else is a fault of the package
+                faults.append(fault)
+
+        threads = [threading.Thread(target=work, args=(seed,)) for seed in range(4)]
+        for thread in threads:
+            thread.start()
+        for thread in threads:
+            thread.join()
+        self.assertEqual(faults, [])
+        self.assertGreater(len(opened), times // 20)
+
+    def test_one_document_is_read_by_four_threads(self):
+        with gltf.open(EXAMPLES / "box.glb") as document:
+            wanted, found = document.accessors[0].items(), []
+
+            def work():
+                for _ in range(50):
+                    if document.accessors[0].items() != wanted:
+                        return
+                found.append(True)
+
+            threads = [threading.Thread(target=work) for _ in range(4)]
+            for thread in threads:
+                thread.start()
+            for thread in threads:
+                thread.join()
+            self.assertEqual(len(found), 4)
+
+    def test_memory_does_not_grow(self):
+        data = (EXAMPLES / "box.glb").read_bytes()
+        for _ in range(200):
+            read_all(gltf.open(data))
+        before = resource.getrusage(resource.RUSAGE_SELF).ru_maxrss
+        for _ in range(800):
+            read_all(gltf.open(data))
+        grown = resource.getrusage(resource.RUSAGE_SELF).ru_maxrss - before
+        self.assertLess(grown, 2000, "KiB more after 800 further files")
+
+
+@unittest.skipUnless(os.environ.get("GLTF_SHOW"), "GLTF_SHOW names no program")
+class Reports(unittest.TestCase):
+    """`gltf.check` is the report of `gltf_show inspect --json`."""
+
+    def test_a_report_has_the_findings(self):
+        report = gltf.check(EXAMPLES / "dangling.gltf")
+        codes = [it["code"] for it in report["issues"]["messages"]]
+        self.assertIn("UNRESOLVED_REFERENCE", codes)
+        self.assertEqual(gltf.check((EXAMPLES / "box.glb").read_bytes())["issues"]["numErrors"], 0)
+        self.assertRaises(OSError, gltf.check, EXAMPLES / "missing.gltf")
+
+
+if __name__ == "__main__":
+    unittest.main()
