@@ -4,4 +4,5 @@ mod Sizes
 mod Tried
 mod Explained
 mod Members
-mod Joined
+mod Written
+mod Counts

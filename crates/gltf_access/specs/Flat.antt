@@ -1,7 +1,8 @@
 -- The bytes of all items of an accessor, one item after the other (glTF 2.0, section 3.6.2,
 -- "Accessors").
-use Rattle.std.specs.Prelude.{◌≡◌, ℕ, zero, suc, ◌<◌, List, take, replicate, Option, option_map}
-use Rattle.std.specs.Prelude.{Result, IfOk}
+use Rattle.std.specs.Prelude.{◌≡◌, ℕ, zero, suc, ◌*◌, ◌<◌, List, ◌++◌, length, take, drop}
+use Rattle.std.specs.Prelude.{replicate, Option, Some, None, option_map, Result, Ok, Err}
+use Rattle.std.specs.Prelude.{nat_le, MatchBool}
 use Rattle.std.specs.List.{concat}
 use Rattle.std.proofs.Common.{arith, refl}
 use Rattle.std.proofs.lemmas.List.{take-take}
@@ -10,6 +11,8 @@ use Rattle.gltf_json_geometry.specs.declared.accessor.Accessor.{Accessor}
 use Rattle.gltf_items.specs.Reading.{ReadsFront}
 use Rattle.gltf_items.specs.declared.item.Item.{Ghosts}
 use Rattle.gltf_data.specs.Answers.{Results, Reads, ReadsAlike}
+use Rattle.gltf_access.specs.declared.flat.NotWritten.{NotWritten}
+use Rattle.gltf_access.specs.declared.flat.NotWritten.TheVariants.{Unreadable, NoRoom}
 
 -- an item of n bytes; one of no bytes takes up one, since each item has bytes
 abbrev pub front : ℕ → ℕ
@@ -37,7 +40,20 @@ pub record IsFlat (Gives : Results) (n : ℕ) (r : Root) (a : Accessor)
   pub alike : ReadsAlike Gives (as_bytes n) r a items
   pub flat : result ≡ option_map concat items
 
--- so they are, where memory sufficed
-pub record Flattens {V E : Type 0} (items : V → List ℕ) (Gives : Results) (n : ℕ) (r : Root)
-    (a : Accessor) (result : Result (Option V) E) : Type 0 where
-  pub ok : IfOk result (λ flat. IsFlat Gives n r a (option_map items flat))
+-- where there are items of n bytes and they fit the room, they stand at its front, what follows
+-- them stays, and the result is how many bytes they have; else the room is as it was, and the
+-- result says what failed
+abbrev pub IsWritten : ℕ → Option (List (List ℕ)) → Result ℕ NotWritten → List ℕ → List ℕ → Type 0
+IsWritten n None result old new = (result ≡ Err Unreadable) × (new ≡ old)
+IsWritten n (Some items) result old new =
+    MatchBool (nat_le (length items * n) (length old))
+    ((result ≡ Ok (length items * n)) × (new ≡ concat items ++ drop (length items * n) old))
+    ((result ≡ Err NoRoom) × (new ≡ old))
+
+-- the same items, written to a room
+pub record IsFlatIn (Gives : Results) (n : ℕ) (r : Root) (a : Accessor)
+    (result : Result ℕ NotWritten) (old new : List ℕ) : Type 0 where
+  pub items : Option (List (List ℕ))
+  pub reads : Reads Gives (as_bytes n) r a items
+  pub alike : ReadsAlike Gives (as_bytes n) r a items
+  pub written : IsWritten n items result old new

@@ -1,4 +1,4 @@
--- The texts of reasons why a reader read nothing.
+-- The texts of reasons why nothing was read or written.
 use Rattle.std.specs.Prelude.{ℕ, List, ◌++◌, codes}
 use Rattle.gltf_handles.specs.declared.accessor.DataType.{DataType}
 use Rattle.gltf_handles.specs.declared.accessor.DataType.TheVariants.{I8, U8, I16, U16, U32, F32}
@@ -6,6 +6,8 @@ use Rattle.gltf_handles.specs.declared.accessor.Dimensions.{Dimensions}
 use Rattle.gltf_handles.specs.declared.accessor.Dimensions.TheVariants.{Scalar, Vec2, Vec3, Vec4}
 use Rattle.gltf_handles.specs.declared.accessor.Dimensions.TheVariants.{Mat2, Mat3, Mat4}
 use Rattle.gltf_data.specs.Texts.{text_of}
+use Rattle.gltf_access.specs.declared.flat.NotWritten.{NotWritten}
+use Rattle.gltf_access.specs.declared.flat.NotWritten.TheVariants.{Unreadable, NoRoom}
 use Rattle.gltf_access.specs.declared.not_read.NotRead.{NotRead}
 use Rattle.gltf_access.specs.declared.not_read.NotRead.TheVariants as reason
 
@@ -35,3 +37,7 @@ not_read_text (reason.Type component dimensions) =
     codes "the reader reads no items of type " ++ (shape_text dimensions
     ++ (codes " of " ++ component_text component))
 not_read_text (reason.Unreadable why) = text_of why
+
+abbrev pub not_written_text : NotWritten → List ℕ
+not_written_text Unreadable = codes "the accessor cannot be read"
+not_written_text NoRoom = codes "the items have more bytes than there is room for"

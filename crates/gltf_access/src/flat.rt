@@ -1,18 +1,41 @@
 //! The bytes of all items of an accessor, one item after the other.
 
-ghost use Rattle.std.specs.Prelude.{◌≡◌, ◌*◌, ◌≤◌, IfOk, option_map};
-ghost use Rattle.std.specs.Iterator.{YieldsFirst};
-ghost use Rattle.std.specs.List.{concat};
-ghost use Rattle.gltf_data.specs.Answers.{Reads, ReadsAlike};
-ghost use Rattle.gltf_data.specs.Iter.{counted_items};
+ghost use Rattle.std.specs.Prelude.{◌≡◌, ◌*◌, ◌≤◌, IfOk, nat_le, option_map};
 ghost use Rattle.gltf_handles.specs.Accessors.{accessor_handle};
 ghost use Rattle.gltf_handles.specs.Sizes.{component_size, item_size, multiplicity};
-ghost use Rattle.gltf_access.specs.Flat.{IsFlat, Flattens};
+ghost use Rattle.gltf_access.specs.Flat.{IsFlat, IsFlatIn};
 
 use crate::item::ItemBytes;
-use gltf_data::accessor::{Accessor, DataType, Dimensions, Item, Iter};
+use crate::write::write_items;
+use gltf_data::accessor::{Accessor, DataType, Dimensions, Iter};
 use gltf_data::buffer::Buffer;
 use std::alloc::{AllocError, Global};
+use std::fmt;
+
+/// Why the items of an accessor were not written: the first of these that is so.
+#[derive(Clone, Copy, Debug, PartialEq, Eq)]
+pub enum NotWritten {
+    /// The accessor cannot be read as items of its own size.
+    Unreadable,
+    /// The items have more bytes than there is room for.
+    NoRoom,
+}
+
+impl fmt::Display for NotWritten {
+    ghost use Rattle.std.specs.Prelude.{Some};
+    ghost use Rattle.gltf_access.specs.Texts.{not_written_text};
+
+    ghost output = { λ reason. Some (not_written_text reason) };
+
+    fn fmt<W: fmt::Write>(&self, f: &mut fmt::Formatter<W>) -> fmt::Result {
+        match self {
+            NotWritten::Unreadable => write!(f, "the accessor cannot be read"),
+            NotWritten::NoRoom => write!(f, "the items have more bytes than there is room for"),
+        }
+    }
+}
+
+impl std::error::Error for NotWritten {}
 
 /// The bytes of all items of an accessor one after the other, without padding between items, and
 /// with the values of its sparse part in their places (glTF 2.0, section 3.6.2, "Accessors"). None
@@ -32,189 +55,146 @@ pub fn to_bytes<'s, F: Fn(Buffer) -> Option<&'s [u8]>>(
         IfOk result (λ flat. IsFlat (λ b o. F.post get_buffer_data.now b o) (item_size a.json)
         a.document a.json (option_map (λ bytes. bytes.items) flat)) }
 {
+    if write_bytes(accessor, get_buffer_data, &mut []) == Err(NotWritten::Unreadable) {
+        return Ok(None);
+    }
+    let Some(size) = accessor.count().checked_mul(accessor.size()) else {
+        return Err(AllocError);
+    };
+    let mut bytes = Vec::new(alloc);
+    bytes.resize(size, 0)?;
+    match write_bytes(accessor, get_buffer_data, &mut bytes) {
+        Ok(_) => Ok(Some(bytes)),
+        Err(_) => Ok(None),
+    }
+}
+
+/// Writes what [`to_bytes`] gives to the front of `out`, and returns how many bytes that are. What
+/// follows them stays; where nothing is written, all of `out` stays. It takes no memory.
+pub fn write_bytes<'s, F: Fn(Buffer) -> Option<&'s [u8]>>(
+    accessor: Accessor,
+    get_buffer_data: &F,
+    out: &mut [u8],
+) -> Result<usize, NotWritten>
+    requires { F.IsAlwaysCallable get_buffer_data.now }
+    ensures { let a = accessor_handle accessor.entry in
+        IsFlatIn (λ b o. F.post get_buffer_data.now b o) (item_size a.json) a.document a.json
+        result out.old out.new }
+{
     of_type(
-        alloc,
         accessor.data_type(),
         accessor.dimensions(),
         accessor,
         get_buffer_data,
+        out,
     )
 }
 
 /// The same where an item is made of such components in such a shape.
 fn of_type<'s, F: Fn(Buffer) -> Option<&'s [u8]>>(
-    alloc: Global,
     component: DataType,
     shape: Dimensions,
     accessor: Accessor,
     get_buffer_data: &F,
-) -> Result<Option<Vec<u8>>, AllocError>
+    out: &mut [u8],
+) -> Result<usize, NotWritten>
     requires { F.IsAlwaysCallable get_buffer_data.now }
     ensures { let a = accessor_handle accessor.entry in
-        Flattens (λ bytes. bytes.items) (λ b o. F.post get_buffer_data.now b o)
-        (component_size component * multiplicity shape) a.document a.json result }
+        IsFlatIn (λ b o. F.post get_buffer_data.now b o)
+        (component_size component * multiplicity shape) a.document a.json result out.old out.new }
 {
     match component {
-        DataType::I8 => of_bytes(alloc, shape, accessor, get_buffer_data),
-        DataType::U8 => of_bytes(alloc, shape, accessor, get_buffer_data),
-        DataType::I16 => of_halves(alloc, shape, accessor, get_buffer_data),
-        DataType::U16 => of_halves(alloc, shape, accessor, get_buffer_data),
-        DataType::U32 => of_words(alloc, shape, accessor, get_buffer_data),
-        DataType::F32 => of_words(alloc, shape, accessor, get_buffer_data),
+        DataType::I8 | DataType::U8 => of_bytes(shape, accessor, get_buffer_data, out),
+        DataType::I16 | DataType::U16 => of_halves(shape, accessor, get_buffer_data, out),
+        DataType::U32 | DataType::F32 => of_words(shape, accessor, get_buffer_data, out),
     }
 }
 
 /// The same where a component has one byte.
 fn of_bytes<'s, F: Fn(Buffer) -> Option<&'s [u8]>>(
-    alloc: Global,
     shape: Dimensions,
     accessor: Accessor,
     get_buffer_data: &F,
-) -> Result<Option<Vec<u8>>, AllocError>
+    out: &mut [u8],
+) -> Result<usize, NotWritten>
     requires { F.IsAlwaysCallable get_buffer_data.now }
     ensures { let a = accessor_handle accessor.entry in
-        Flattens (λ bytes. bytes.items) (λ b o. F.post get_buffer_data.now b o)
-        (1 * multiplicity shape) a.document a.json result }
+        IsFlatIn (λ b o. F.post get_buffer_data.now b o) (1 * multiplicity shape) a.document
+        a.json result out.old out.new }
 {
     match shape {
-        Dimensions::Scalar => joined::<1>(
-            alloc,
-            read::<ItemBytes<1>, F>(accessor, get_buffer_data),
-        ),
-        Dimensions::Vec2 => joined::<2>(alloc, read::<ItemBytes<2>, F>(accessor, get_buffer_data)),
-        Dimensions::Vec3 => joined::<3>(alloc, read::<ItemBytes<3>, F>(accessor, get_buffer_data)),
-        Dimensions::Vec4 => joined::<4>(alloc, read::<ItemBytes<4>, F>(accessor, get_buffer_data)),
-        Dimensions::Mat2 => joined::<4>(alloc, read::<ItemBytes<4>, F>(accessor, get_buffer_data)),
-        Dimensions::Mat3 => joined::<9>(alloc, read::<ItemBytes<9>, F>(accessor, get_buffer_data)),
-        Dimensions::Mat4 => joined::<16>(
-            alloc,
-            read::<ItemBytes<16>, F>(accessor, get_buffer_data),
-        ),
+        Dimensions::Scalar => write_as::<1, F>(accessor, get_buffer_data, out),
+        Dimensions::Vec2 => write_as::<2, F>(accessor, get_buffer_data, out),
+        Dimensions::Vec3 => write_as::<3, F>(accessor, get_buffer_data, out),
+        Dimensions::Vec4 | Dimensions::Mat2 => write_as::<4, F>(accessor, get_buffer_data, out),
+        Dimensions::Mat3 => write_as::<9, F>(accessor, get_buffer_data, out),
+        Dimensions::Mat4 => write_as::<16, F>(accessor, get_buffer_data, out),
     }
 }
 
 /// The same where a component has two bytes.
 fn of_halves<'s, F: Fn(Buffer) -> Option<&'s [u8]>>(
-    alloc: Global,
     shape: Dimensions,
     accessor: Accessor,
     get_buffer_data: &F,
-) -> Result<Option<Vec<u8>>, AllocError>
+    out: &mut [u8],
+) -> Result<usize, NotWritten>
     requires { F.IsAlwaysCallable get_buffer_data.now }
     ensures { let a = accessor_handle accessor.entry in
-        Flattens (λ bytes. bytes.items) (λ b o. F.post get_buffer_data.now b o)
-        (2 * multiplicity shape) a.document a.json result }
+        IsFlatIn (λ b o. F.post get_buffer_data.now b o) (2 * multiplicity shape) a.document
+        a.json result out.old out.new }
 {
     match shape {
-        Dimensions::Scalar => joined::<2>(
-            alloc,
-            read::<ItemBytes<2>, F>(accessor, get_buffer_data),
-        ),
-        Dimensions::Vec2 => joined::<4>(alloc, read::<ItemBytes<4>, F>(accessor, get_buffer_data)),
-        Dimensions::Vec3 => joined::<6>(alloc, read::<ItemBytes<6>, F>(accessor, get_buffer_data)),
-        Dimensions::Vec4 => joined::<8>(alloc, read::<ItemBytes<8>, F>(accessor, get_buffer_data)),
-        Dimensions::Mat2 => joined::<8>(alloc, read::<ItemBytes<8>, F>(accessor, get_buffer_data)),
-        Dimensions::Mat3 => joined::<18>(
-            alloc,
-            read::<ItemBytes<18>, F>(accessor, get_buffer_data),
-        ),
-        Dimensions::Mat4 => joined::<32>(
-            alloc,
-            read::<ItemBytes<32>, F>(accessor, get_buffer_data),
-        ),
+        Dimensions::Scalar => write_as::<2, F>(accessor, get_buffer_data, out),
+        Dimensions::Vec2 => write_as::<4, F>(accessor, get_buffer_data, out),
+        Dimensions::Vec3 => write_as::<6, F>(accessor, get_buffer_data, out),
+        Dimensions::Vec4 | Dimensions::Mat2 => write_as::<8, F>(accessor, get_buffer_data, out),
+        Dimensions::Mat3 => write_as::<18, F>(accessor, get_buffer_data, out),
+        Dimensions::Mat4 => write_as::<32, F>(accessor, get_buffer_data, out),
     }
 }
 
 /// The same where a component has four bytes.
 fn of_words<'s, F: Fn(Buffer) -> Option<&'s [u8]>>(
-    alloc: Global,
     shape: Dimensions,
     accessor: Accessor,
     get_buffer_data: &F,
-) -> Result<Option<Vec<u8>>, AllocError>
+    out: &mut [u8],
+) -> Result<usize, NotWritten>
     requires { F.IsAlwaysCallable get_buffer_data.now }
     ensures { let a = accessor_handle accessor.entry in
-        Flattens (λ bytes. bytes.items) (λ b o. F.post get_buffer_data.now b o)
-        (4 * multiplicity shape) a.document a.json result }
+        IsFlatIn (λ b o. F.post get_buffer_data.now b o) (4 * multiplicity shape) a.document
+        a.json result out.old out.new }
 {
     match shape {
-        Dimensions::Scalar => joined::<4>(
-            alloc,
-            read::<ItemBytes<4>, F>(accessor, get_buffer_data),
-        ),
-        Dimensions::Vec2 => joined::<8>(alloc, read::<ItemBytes<8>, F>(accessor, get_buffer_data)),
-        Dimensions::Vec3 => joined::<12>(
-            alloc,
-            read::<ItemBytes<12>, F>(accessor, get_buffer_data),
-        ),
-        Dimensions::Vec4 => joined::<16>(
-            alloc,
-            read::<ItemBytes<16>, F>(accessor, get_buffer_data),
-        ),
-        Dimensions::Mat2 => joined::<16>(
-            alloc,
-            read::<ItemBytes<16>, F>(accessor, get_buffer_data),
-        ),
-        Dimensions::Mat3 => joined::<36>(
-            alloc,
-            read::<ItemBytes<36>, F>(accessor, get_buffer_data),
-        ),
-        Dimensions::Mat4 => joined::<64>(
-            alloc,
-            read::<ItemBytes<64>, F>(accessor, get_buffer_data),
-        ),
+        Dimensions::Scalar => write_as::<4, F>(accessor, get_buffer_data, out),
+        Dimensions::Vec2 => write_as::<8, F>(accessor, get_buffer_data, out),
+        Dimensions::Vec3 => write_as::<12, F>(accessor, get_buffer_data, out),
+        Dimensions::Vec4 | Dimensions::Mat2 => write_as::<16, F>(accessor, get_buffer_data, out),
+        Dimensions::Mat3 => write_as::<36, F>(accessor, get_buffer_data, out),
+        Dimensions::Mat4 => write_as::<64, F>(accessor, get_buffer_data, out),
     }
 }
 
-/// The items of an accessor.
-fn read<'s, T: Item, F: Fn(Buffer) -> Option<&'s [u8]>>(
+/// The same where an item has N bytes.
+fn write_as<'s, const N: usize, F: Fn(Buffer) -> Option<&'s [u8]>>(
     accessor: Accessor,
     get_buffer_data: &F,
-) -> Option<Iter<'s, T>>
-    requires { F.IsAlwaysCallable get_buffer_data.now }
-    ensures items { Reads (λ b o. F.post get_buffer_data.now b o) ⟦<T as Item>⟧
-        (accessor_handle accessor.entry).document (accessor_handle accessor.entry).json
-        (option_map (λ it. (counted_items it).items) result) }
-    ensures alike { ReadsAlike (λ b o. F.post get_buffer_data.now b o) ⟦<T as Item>⟧
-        (accessor_handle accessor.entry).document (accessor_handle accessor.entry).json
-        (option_map (λ it. (counted_items it).items) result) }
-{
-    Iter::new(accessor, get_buffer_data)
-}
-
-/// The bytes of all items, where there are items.
-fn joined<const N: usize>(
-    alloc: Global,
-    items: Option<Iter<'_, ItemBytes<N>>>,
-) -> Result<Option<Vec<u8>>, AllocError>
+    out: &mut [u8],
+) -> Result<usize, NotWritten>
+    requires callable { F.IsAlwaysCallable get_buffer_data.now }
     requires small { N ≤ 64 }
-    ensures { IfOk result (λ flat. option_map (λ bytes. bytes.items) flat
-        ≡ option_map (λ it. concat (counted_items it).items) items.entry) }
+    ensures { let a = accessor_handle accessor.entry in
+        IsFlatIn (λ b o. F.post get_buffer_data.now b o) N a.document a.json result out.old out.new }
 {
-    match items {
-        Some(items) => Ok(Some(all_bytes(alloc, items)?)),
-        None => Ok(None),
+    let Some(items) = Iter::<ItemBytes<N>>::new(accessor, get_buffer_data) else {
+        return Err(NotWritten::Unreadable);
+    };
+    match items.len().checked_mul(N) {
+        Some(size) if size <= out.len() => {
+            write_items(items, out);
+            Ok(size)
+        }
+        _ => Err(NotWritten::NoRoom),
     }
-}
-
-/// The next item.
-fn take<T: Item>(items: &mut Iter<'_, T>) -> Option<T>
-    ensures { YieldsFirst (λ s. (counted_items s).items) items.old result items.new }
-{
-    items.next()
-}
-
-/// The bytes of all items that are left.
-fn all_bytes<const N: usize>(
-    alloc: Global,
-    mut items: Iter<'_, ItemBytes<N>>,
-) -> Result<Vec<u8>, AllocError>
-    requires small { N ≤ 64 }
-    ensures { IfOk result (λ bytes. bytes.items ≡ concat (counted_items items.entry).items) }
-{
-    let mut bytes = Vec::new(alloc);
-    'items: while let Some(item) = take(&mut items) {
-        bytes.extend_from_slice(&item.bytes)?;
-    }
-    Ok(bytes)
 }

@@ -11,7 +11,8 @@ mod not_read;
 mod raw;
 pub mod skin;
 mod why;
+mod write;
 
-pub use flat::to_bytes;
+pub use flat::{NotWritten, to_bytes, write_bytes};
 pub use not_read::NotRead;
 pub use raw::{Bytes, accessor_bytes, image_bytes, view_bytes};

@@ -1,4 +1,3 @@
-pub mod Front
 pub mod Info
 pub mod Lists
 pub mod Places

@@ -3,7 +3,6 @@
 //! lists of numbers.
 #![tactic(auto)]
 
-mod bytes;
 pub mod info;
 pub mod lists;
 pub mod place;

@@ -1,32 +1,17 @@
-//! The code of `docs/LIBRARY.md` on these crates, word for word, and a run of it.
+//! Runs of the code of `docs/LIBRARY.md` on these crates.
 use crate::buffers::buffers_of;
 use crate::opened::tell;
 use crate::uses::write_paths;
-use gltf::buffer::{Data, bytes_of};
+use gltf::Document;
+use gltf::buffer::Data;
 use gltf::json::material::Material;
-use gltf::{Accessor, Buffer, Document, Result};
-use gltf_access::accessor_bytes;
 use gltf_case::asked::Asked;
 use gltf_case::bytes::write_hex;
 use gltf_case::shown::Written;
-use gltf_options::{Imported, Options, import_slice_with};
-use gltf_uses::{Kind, references, textures, unused};
+use gltf_guide::bytes::raw;
+use gltf_guide::documents::{left_over, open, users};
+use gltf_uses::textures;
 use std::alloc::Global;
-
-/// The bytes of the first item of an accessor, where they lie.
-fn first_item<'s>(accessor: Accessor, buffers: &'s [Data]) -> Option<&'s [u8]> {
-    let get_buffer_data = |buffer: Buffer| bytes_of(buffers, buffer);
-    let raw = accessor_bytes(accessor, &get_buffer_data)?;
-    raw.bytes.get(..accessor.size())
-}
-
-/// The import of a file that may require two extensions which the loader does not support.
-fn import(alloc: Global, bytes: &[u8]) -> Result<Imported> {
-    let options = Options {
-        also_supported: &["KHR_mesh_quantization", "STUDIO_terrain"],
-    };
-    import_slice_with(alloc, bytes, &options)
-}
 
 /// Writes what this code answers: `guide WHAT`.
 ///
@@ -54,13 +39,13 @@ pub(crate) fn write(
 
 /// Writes what the import answers: `imported`.
 pub(crate) fn write_imported(alloc: Global, asked: Asked<'_>, line: &mut String) -> Written {
-    tell(asked, import(alloc, asked.given.as_bytes()), line)
+    tell(asked, open(alloc, asked.given.as_bytes()), line)
 }
 
 fn write_first(document: &Document, buffers: &[Data], line: &mut String) -> Written {
     match document.accessors().nth(0) {
-        Some(accessor) => match first_item(accessor, buffers) {
-            Some(bytes) => write_hex(bytes, line),
+        Some(accessor) => match raw(accessor, buffers) {
+            Some((bytes, _)) => write_hex(bytes.get(..accessor.size()).unwrap_or(&[]), line),
             None => line.push_str("none"),
         },
         None => line.push_str("no accessor"),
@@ -70,9 +55,8 @@ fn write_first(document: &Document, buffers: &[Data], line: &mut String) -> Writ
 fn write_users(alloc: Global, document: &Document, line: &mut String) -> Written {
     match document.textures().nth(0) {
         Some(texture) => {
-            let root = document.as_json();
-            let users = references(alloc, root, Kind::Texture, texture.index())?;
-            let left_over = unused(alloc, root, Kind::Accessor)?;
+            let users = users(alloc, document, texture.index())?;
+            let left_over = left_over(alloc, document)?;
             write_paths(alloc, &users, line)?;
             write!(line, "; {left_over:?}")
         }

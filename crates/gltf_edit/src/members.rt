@@ -49,7 +49,7 @@ pub(crate) fn with_member(
 }
 
 /// The value without the member, where it is an object.
-pub(crate) fn without_member(value: Value, name: &str) -> Value
+pub fn without_member(value: Value, name: &str) -> Value
     ensures { view result ≡ without_member name.now (view value) }
 {
     match value {

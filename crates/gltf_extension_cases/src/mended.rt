@@ -1,11 +1,12 @@
 //! Files that are refused as they stand, and read as they are mended.
-use gltf::Document;
+use gltf::{Document, Primitive};
 use gltf_extensions::supported;
 use gltf_lenient::{Mends, Options, from_slice_with};
 use std::alloc::{AllocError, Global};
 
 /// Writes the images of the textures of a file and how many channels its animations have, with what
-/// the words before its text ask for: `channels`, `sources`, `both` or `nothing`.
+/// the word before its text asks for: `channels`, `sources`, `both`, `attributes` or `nothing`. After
+/// them come the attributes of its primitives.
 pub(crate) fn write(alloc: Global, case: &str, line: &mut String) -> Result<(), AllocError> {
     let (word, text) = case.split_once(" ").unwrap_or((case, ""));
     let options = Options {
@@ -21,6 +22,7 @@ pub(crate) fn write(alloc: Global, case: &str, line: &mut String) -> Result<(), 
 fn mends_of(word: &str) -> Mends<'static> {
     Mends {
         skip_channels_without_node: matches!(word, "channels" | "both"),
+        skip_unknown_attributes: word == "attributes",
         texture_sources: if matches!(word, "sources" | "both") {
             &["KHR_texture_basisu", "EXT_texture_webp"]
         } else {
@@ -37,6 +39,19 @@ fn write_document(document: &Document, line: &mut String) -> Result<(), AllocErr
     line.push_str(", channels")?;
     for animation in document.animations() {
         write!(line, " {}", animation.channels().count())?;
+    }
+    for mesh in document.meshes() {
+        for primitive in mesh.primitives() {
+            write_attributes(&primitive, line)?;
+        }
+    }
+    Ok(())
+}
+
+fn write_attributes(primitive: &Primitive<'_>, line: &mut String) -> Result<(), AllocError> {
+    line.push_str(", attributes")?;
+    for (semantic, _) in primitive.attributes() {
+        write!(line, " {semantic}")?;
     }
     Ok(())
 }

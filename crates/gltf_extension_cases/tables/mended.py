@@ -27,6 +27,14 @@ def animated(*animations):
                      "channels": [channel(node) for node in nodes]} for nodes in animations])
 
 
+def meshes(*primitives):
+    """A mesh of primitives with attributes of these names, all of accessor 0."""
+    return document(
+        accessors=[{"componentType": 5126, "count": 1, "type": "VEC3",
+                    "min": [0, 0, 0], "max": [0, 0, 0]}],
+        meshes=[{"primitives": [{"attributes": dict.fromkeys(names, 0)} for names in primitives]}])
+
+
 def by(name, source):
     return {"extensions": {name: {"source": source}}}
 
@@ -35,6 +43,7 @@ both = {"extensions": {WEBP: {"source": 2}, BASISU: {"source": 3}}}
 pointer = {"sampler": 0, "target": {"path": "pointer", "extensions": {
     "KHR_animation_pointer": {"pointer": "/nodes/0/rotation"}}}}
 missing = "%s: missing member"
+unknown = "invalid glTF: meshes[0].primitives[%d].attributes[\"%s\"]: Invalid value;"
 no_source = missing % "textures[0].source"
 no_node = missing % "animations[0].channels[0].target.node"
 
@@ -80,6 +89,32 @@ ROWS = [(f"mended {word} {text}", answer) for word, text, answer in [
      "invalid glTF: animations[0].channels[0].target.node: Index out of bounds;"),
     ("channels", document(animations=[]), "images, channels"),
     ("channels", document(), "images, channels"),
+    # attributes of other names
+    ("nothing", meshes(["POSITION"]), "images, channels, attributes POSITION"),
+    ("nothing", meshes(["POSITION", "uv1"]), unknown % (0, "uv1")),
+    ("both", meshes(["POSITION", "uv1"]), unknown % (0, "uv1")),
+    ("attributes", meshes(["POSITION", "uv1"]), "images, channels, attributes POSITION"),
+    ("attributes", meshes(["position", "POSITION", "_position", "Position"]),
+     "images, channels, attributes _position POSITION"),
+    ("attributes", meshes(["TEXCOORD", "TEXCOORD_", "TEXCOORD_00", "TEXCOORD_01", "TEXCOORD_0",
+                           "TEXCOORD_+1", "TEXCOORD_1 ", "TEXCOORD_1a", "TEXCOORD_10"]),
+     "images, channels, attributes TEXCOORD_0 TEXCOORD_10"),
+    ("attributes", meshes(["COLOR_4294967295", "COLOR_4294967296", "COLOR_99999999999999999999"]),
+     "images, channels, attributes COLOR_4294967295"),
+    ("attributes", meshes(["JOINTS_0", "WEIGHTS_0", "JOINT", "WEIGHT_0", "NORMAL_0", "TANGENTS",
+                           "NORMAL", "TANGENT", "BINORMAL"]),
+     "images, channels, attributes NORMAL TANGENT JOINTS_0 WEIGHTS_0"),
+    ("attributes", meshes(["_", "__", "_0"]), "images, channels, attributes _ _0 __"),
+    ("attributes", meshes(["", "a"], ["POSITION"], ["b"]),
+     "images, channels, attributes, attributes POSITION, attributes"),
+    ("attributes", document(meshes=[{"primitives": [{"attributes": {"a": "no index"}}]}]),
+     "images, channels, attributes"),
+    ("attributes", document(meshes=[{"primitives": [{"attributes": []}]}]),
+     "meshes[0].primitives[0].attributes: wrong kind"),
+    ("attributes", document(meshes=[{"primitives": [{}]}]),
+     missing % "meshes[0].primitives[0].attributes"),
+    ("attributes", document(meshes=[]), "images, channels"),
+    ("attributes", document(), "images, channels"),
     # what does not hold as it stands
     ("both", "{", "EOF while parsing at line 1 column 1"),
     ("both", "[]", ": wrong kind"),

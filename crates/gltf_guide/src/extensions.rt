@@ -60,12 +60,14 @@ pub fn wetness_of<'a>(
     read_handle(alloc, document.as_valid(), value)
 }
 
-/// Imports a file whose images may stand in extensions, and whose channels may name no node.
+/// Imports a file whose images may stand in extensions, whose channels may name no node, and whose
+/// attributes may have names of their own.
 pub fn import(alloc: Global, bytes: &[u8]) -> gltf::Result<Imported> {
     let options = gltf_lenient::Options {
         also_supported: supported(),
         mends: Mends {
             skip_channels_without_node: true,
+            skip_unknown_attributes: true,
             texture_sources: &["KHR_texture_basisu", "EXT_texture_webp"],
         },
     };

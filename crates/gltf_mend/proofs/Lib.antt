@@ -1,1 +1,3 @@
+pub mod Attributes
 pub mod Lists
+pub mod Semantics

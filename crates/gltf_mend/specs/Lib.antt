@@ -1,4 +1,5 @@
 pub mod Edits
+pub mod Attributes
 pub mod Channels
 pub mod Textures
 pub mod Mended

@@ -1,8 +1,10 @@
 //! What is mended in a document.
 ghost use Rattle.std.specs.Prelude.{◌≡◌, IfOk, map};
 ghost use Rattle.serde_json.specs.View.{view};
-ghost use Rattle.gltf_mend.specs.Mended.{mended, with_channels_mended, with_textures_mended};
+ghost use Rattle.gltf_mend.specs.Mended.{mended, with_channels_mended, with_meshes_mended};
+ghost use Rattle.gltf_mend.specs.Mended.{with_textures_mended};
 
+use crate::attributes::WithAttributes;
 use crate::channels::WithNodes;
 use crate::edit::{At, Each, changed};
 use crate::textures::Sourced;
@@ -16,6 +18,10 @@ pub struct Mends<'a> {
     /// section 5.7.1, `animation.channel.target.node`). An extension may say what they animate, as
     /// `KHR_animation_pointer` does.
     pub skip_channels_without_node: bool,
+    /// Attributes are left out whose names neither the standard has nor begin with an underscore
+    /// (section 3.7.2.1, "Meshes: Overview"), as `position` and `TEXCOORD`. The rules refuse such
+    /// names.
+    pub skip_unknown_attributes: bool,
     /// The names of extensions that say which image a texture has, the preferred first. A texture
     /// without `source` (section 5.29.2) takes the `source` of the first of these that has one, as
     /// of `KHR_texture_basisu` or `EXT_texture_webp`.
@@ -27,6 +33,7 @@ pub fn mended(alloc: Global, document: Value, mends: &Mends<'_>) -> Result<Value
     ensures { IfOk result (λ v. view v ≡ mended mends.now (view document)) }
 {
     let document = with_channels_mended(alloc, document, mends.skip_channels_without_node)?;
+    let document = with_meshes_mended(alloc, document, mends.skip_unknown_attributes)?;
     with_textures_mended(alloc, document, mends.texture_sources)
 }
 
@@ -39,6 +46,24 @@ fn with_channels_mended(alloc: Global, document: Value, skip: bool) -> Result<Va
             edit: WithNodes,
         };
         changed(alloc, document, "animations", &Each(animation))
+    } else {
+        Ok(document)
+    }
+}
+
+fn with_meshes_mended(alloc: Global, document: Value, skip: bool) -> Result<Value, AllocError>
+    ensures { IfOk result (λ v. view v ≡ with_meshes_mended skip (view document)) }
+{
+    if skip {
+        let primitive = At {
+            name: "attributes",
+            edit: WithAttributes,
+        };
+        let mesh = At {
+            name: "primitives",
+            edit: Each(primitive),
+        };
+        changed(alloc, document, "meshes", &Each(mesh))
     } else {
         Ok(document)
     }

@@ -3,8 +3,8 @@ use Rattle.std.proofs.Common.{◌+◌, length, ap}
 use Rattle.std.proofs.Common.{arith}
 use Rattle.std.specs.Iterator.{YieldsFirst}
 use Rattle.gltf_data.specs.Iter.{counted_items}
-use Rattle.gltf_c_bytes.proofs.Written.{Written, start, room, next, done}
-use Rattle.gltf_c_bytes.proofs.bytes.write_items.Goals as goal
+use Rattle.gltf_access.proofs.Written.{Written, start, room, next, done}
+use Rattle.gltf_access.proofs.write.write_items.Goals as goal
 
 pub items-init : goal.items-init
 items-init g c = start _ _ _ c.requires.room

@@ -1,7 +1,7 @@
 use Rattle.std.proofs.Common.{length}
 use Rattle.gltf_data.specs.Iter.{counted_items}
-use Rattle.gltf_c_bytes.proofs.Written.{Written}
-use Rattle.gltf_c_bytes.proofs.bytes.write_items.Given as goal
+use Rattle.gltf_access.proofs.Written.{Written}
+use Rattle.gltf_access.proofs.write.write_items.Given as goal
 
 abbrev pub invariant-items : goal.invariant-items
 invariant-items g l = Written g.row.N (counted_items l.initial.items).items l.initial.out
