@@ -1,3 +1,3 @@
-pub mod Attributes
 pub mod Lists
+pub mod Named
 pub mod Semantics

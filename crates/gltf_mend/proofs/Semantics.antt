@@ -1,9 +1,11 @@
 -- The names of attributes, as the definition has them and as the records do.
 use Rattle.std.proofs.Common.{◌≡◌, ℕ, ◌<◌, ◌^◌, List, ◌++◌, Bool, true, false, ◌||◌, ◌&&◌, drop}
 use Rattle.std.proofs.Common.{length, refl, sym, ap, subst, ◌∙◌, bytes_eq, codes, nat_lt, arith}
-use Rattle.std.proofs.Common.{IsTrue, true≢false}
+use Rattle.std.proofs.Common.{IsTrue, true≢false, Option, Some, None, IsNone, is_some}
+use Rattle.std.specs.Prelude.{IfSome}
 use Rattle.std.specs.Fmt.{decimal}
 use Rattle.std.specs.Str.Parse.{AllDigits, digits_value}
+use Rattle.std.proofs.lemmas.Bool.{ltb-true}
 use Rattle.std.proofs.lemmas.Fmt.{digits_value-decimal}
 use Rattle.std.proofs.lemmas.Slice.Eq.{bytes_eq-Decides}
 use Rattle.std.proofs.lemmas.Str.Parse.{IsNumeralModel, numerals_by_value, tells_digits}
@@ -21,11 +23,12 @@ own = numerals_by_value (AllDigits 10) tells_digits
 -- ---- a name that an attribute has
 
 small : (n : ℕ) → IsTrue (nat_lt n (2 ^ 32)) → n < 2 ^ 64
-small n is = omega (arith, is)
+small n is =
+    let below : n < 2 ^ 32 = ltb-true n (2 ^ 32) is in
+    omega (arith, below)
 
-both : (a b : Bool) → a ≡ true → IsTrue b → (a && b) ≡ true
-both true true first second = refl
-both true false first second = absurd second
+both : (a b : Bool) → a ≡ true → b ≡ true → (a && b) ≡ true
+both true b first second = second
 both false b first second = absurd (true≢false (sym first))
 
 of_set : (prefix : List ℕ) (n : ℕ) → drop (length prefix) (prefix ++ decimal n) ≡ decimal n
@@ -42,12 +45,14 @@ first_true true b is = refl
 first_true false b is = absurd (true≢false (sym is))
 
 known_name : (s : Semantic) → IsTrue (is_numbered s) → is_attribute (semantic_name s) ≡ true
-known_name (Extras name) small = refl
-known_name Positions small = refl
-known_name Normals small = refl
-known_name Tangents small = refl
-known_name (Colors n) is = first_true _ _ (of_set (codes "COLOR_") n refl is)
-known_name (TexCoords n) is = first_true _ _ (of_set (codes "TEXCOORD_") n refl is)
+known_name (Extras name) is = refl
+known_name Positions is = refl
+known_name Normals is = refl
+known_name Tangents is = refl
+known_name (Colors n) is =
+    first_true _ _ (first_true _ _ (first_true _ _ (of_set (codes "COLOR_") n refl is)))
+known_name (TexCoords n) is =
+    first_true _ _ (first_true _ _ (of_set (codes "TEXCOORD_") n refl is))
 known_name (Joints n) is = first_true _ _ (of_set (codes "JOINTS_") n refl is)
 known_name (Weights n) is = of_set (codes "WEIGHTS_") n refl is
 
@@ -57,15 +62,15 @@ known s name named = ap is_attribute (sym named.1) ∙ known_name s named.0
 -- ---- one that no attribute has
 
 never : (b : Bool) → (b ≡ true → ⊥) → b ≡ false
-never true no = absurd (no refl)
-never false no = refl
+never true h = absurd (h refl)
+never false h = refl
 
 neither : (a b : Bool) → a ≡ false → b ≡ false → (a || b) ≡ false
 neither true b first second = absurd (true≢false first)
 neither false b first second = second
 
-holds : (a b : Bool) → (a && b) ≡ true → (a ≡ true) × IsTrue b
-holds true true is = (refl, tt)
+holds : (a b : Bool) → (a && b) ≡ true → (a ≡ true) × (b ≡ true)
+holds true true is = (refl, refl)
 holds true false is = absurd (true≢false (sym is))
 holds false b is = absurd (true≢false (sym is))
 
@@ -87,9 +92,17 @@ module _ (name : List ℕ) (none : (s : Semantic) → Names s name → ⊥) wher
 
   pub unknown : is_own name ≡ false → is_attribute name ≡ false
   unknown other_own =
-      neither _ _ other_own (neither _ _ (other Positions tt) (neither _ _ (other Normals tt)
-      (neither _ _ (other Tangents tt)
-      (neither _ _ (other_set (codes "COLOR_") Colors (λ n is. (is, refl)))
-      (neither _ _ (other_set (codes "TEXCOORD_") TexCoords (λ n is. (is, refl)))
-      (neither _ _ (other_set (codes "JOINTS_") Joints (λ n is. (is, refl)))
-      (other_set (codes "WEIGHTS_") Weights (λ n is. (is, refl)))))))))
+      neither _ _ (neither _ _ (neither _ _ (neither _ _ (neither _ _ (neither _ _
+      (neither _ _ other_own (other Positions refl)) (other Normals refl)) (other Tangents refl))
+      (other_set (codes "COLOR_") Colors (λ n is. (is, refl))))
+      (other_set (codes "TEXCOORD_") TexCoords (λ n is. (is, refl))))
+      (other_set (codes "JOINTS_") Joints (λ n is. (is, refl))))
+      (other_set (codes "WEIGHTS_") Weights (λ n is. (is, refl)))
+
+-- ---- as the records find it
+
+pub by_name : (name : List ℕ) (found : Option Semantic) → IfSome found (λ s. Names s name)
+    → (IsNone found → (s : Semantic) → Names s name → ⊥) → is_own name ≡ false
+    → is_some found ≡ is_attribute name
+by_name name (Some s) names none other_own = sym (known s name names)
+by_name name None names none other_own = sym (unknown name (none refl) other_own)

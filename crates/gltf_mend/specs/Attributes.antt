@@ -1,6 +1,6 @@
 -- The attributes of a primitive (glTF 2.0, section 3.7.2.1, "Meshes: Overview"): those that the
 -- standard names, and those of an application, whose names begin with an underscore.
-use Rattle.std.specs.Prelude.{◌<◌, ◌^◌, ℕ, List, ◌++◌, Bool, nat_lt, ◌&&◌, ◌||◌, length, take, drop}
+use Rattle.std.specs.Prelude.{◌^◌, ℕ, List, ◌++◌, Bool, nat_lt, ◌&&◌, ◌||◌, length, take, drop}
 use Rattle.std.specs.Prelude.{bytes_eq, if◌then◌else◌, codes}
 use Rattle.std.specs.Fmt.{decimal}
 use Rattle.std.specs.Str.Parse.{digits_value}

@@ -1,7 +1,7 @@
 -- The attributes that are left of an object: by a loop over its names, and by the definition.
-use Rattle.std.proofs.Common.{◌≡◌, ℕ, ◌<◌, ◌^◌, List, [], ◌∷◌, ◌++◌, Bool, true, false, ◌||◌}
-use Rattle.std.proofs.Common.{not, map, string_bytes, refl, sym, ap, ◌∙◌, Option, Some, IsNone}
-use Rattle.std.proofs.Common.{if◌then◌else◌, true≢false, bytes_eq, is_some}
+use Rattle.std.proofs.Common.{◌≡◌, ℕ, List, [], ◌∷◌, ◌++◌, Bool, true, false, ◌||◌}
+use Rattle.std.proofs.Common.{not, map, string_bytes, refl, sym, ap, ◌∙◌, Some}
+use Rattle.std.proofs.Common.{if◌then◌else◌, true≢false, bytes_eq}
 use Rattle.std.specs.List.{list_any}
 use Rattle.std.specs.Map.{keys_of}
 use Rattle.std.proofs.Math.Bool.{or-false, or-true}
@@ -14,7 +14,7 @@ use Rattle.serde_json.specs.Find.{as_object}
 use Rattle.serde_json.specs.View.{members_view}
 use Rattle.serde_json.proofs.Views.{Entry}
 use Rattle.gltf_edit.specs.Embedded.{without, without_member}
-use Rattle.gltf_json_geometry.specs.Attributes.{member_names, names_of}
+use Rattle.gltf_json_geometry.specs.Attributes.{member_names}
 use Rattle.gltf_mend.specs.Attributes.{is_attribute, named, with_attributes}
 
 -- whether a name is one of these
@@ -161,12 +161,3 @@ left_last (object ms) es is =
     let names : map string_bytes (keys_of es) ≡ member_names ms =
     sym (names_view es) ∙ ap member_names (sym same) in
     rw names (ap object (staying_all [] ms))
-
--- there is no object
-pub left_whole : (d : Data) → IsNone (as_object d) → d ≡ with_attributes d
-left_whole null none = refl
-left_whole (boolean b) none = refl
-left_whole (number n) none = refl
-left_whole (string s) none = refl
-left_whole (array ds) none = refl
-left_whole (object ms) none = absurd none
