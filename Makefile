@@ -20,6 +20,7 @@ help:
 	@echo '  make c [WORDS=--long]                      proves, builds and tests the library for C'
 	@echo '  make python                                tries the package for Python, after make c'
 	@echo '  make wheel                                 writes the wheel of it to out/dist'
+	@echo '  make rust                                  tries the crate for Rust, after make c'
 	@echo '  make install [PREFIX=FOLDER] [LIBDIR=..] [INCLUDEDIR=..] [MANDIR=..]'
 	@echo '                                             installs the programs and that library'
 	@echo '  make uninstall                             removes them: with the same words'
@@ -89,6 +90,9 @@ python:
 wheel:
 	@python3 tools/wheel.py
 
+rust:
+	@python3 tools/rust.py
+
 fuzz:
 	@python3 tools/fuzz.py $(SECONDS)
 
@@ -101,4 +105,4 @@ devices:
 wrong:
 	@tools/wrong.sh $(NAME)
 
-.PHONY: help show prove c install uninstall reference check case bench test wrong python wheel fuzz soak devices
+.PHONY: help show prove c install uninstall reference check case bench test wrong python wheel rust fuzz soak devices

@@ -26,7 +26,8 @@ TYPES = {
 TEXTS = {("&[u8]", "names"), ("&[u8]", "name"), ("&[u8]", "extension"), ("&mut [u8]", "text")}
 # What the types of members are in C, and how many bytes they are.
 FIELDS = {"usize": ("size_t", 8), "u32": ("unsigned int", 4), "f64": ("double", 8),
-          "u8": ("char", 1), "*mut u8": ("void *", 8), "*const u8": ("const unsigned char *", 8)}
+          "u8": ("char", 1), "*mut u8": ("void *", 8), "*const u8": ("const unsigned char *", 8),
+          "*const *const c_char": ("const char *const *", 8)}
 # The structs and the members that C has by other names.
 STRUCTS = {"gltf_file": "core_file", "gltf_bytes": "core_bytes"}
 MEMBERS = {("gltf_light", "type_"): "type", ("gltf_buffer", "no_bytes"): "bytes",
@@ -157,14 +158,14 @@ def size_and_type(kind, sizes):
     return sizes[struct], 8, struct
 
 
-def layouts():
-    """Each member has to be as wide in the header as in the code and at the same place, with
-    nothing after the last but what aligns it."""
-    left, sizes, lines = dict(structs()), {}, []
+def places(found):
+    """Where each member of structs has to lie: of each its struct, its name, its offset, its size
+    and its type in C. Behind the last member of a struct comes the struct itself, with no name."""
+    left, sizes = dict(found), {}
     while left:
         # A struct comes after those that it has as members.
-        ready = [struct for struct, members in left.items() if not any(
-            c_struct(kind) in left for _, kind in members if kind.startswith("Gltf"))]
+        ready = [struct for struct, members in left.items()
+                 if not any(c_struct(kind) in left for _, kind in members)]
         struct = ready[0]
         at, widest = 0, 1
         for member, kind in left.pop(struct):
@@ -172,14 +173,23 @@ def layouts():
             at, widest = (at + align - 1) // align * align, max(widest, align)
             if kind == "usize" and member in ("bytes", "data"):
                 c_type = FIELDS["*const u8"][0]  # which the shim writes over it
-            its = f"(({struct} *)0)->{member}"
-            lines += [holds_in_c(f"offsetof({struct}, {member}) == {at}"),
-                      holds_in_c(f"sizeof {its} == {size}"),
-                      holds_in_c(f"_Generic({its}, {c_type}: 1, default: 0)")]
+            yield struct, member, at, size, c_type
             at += size
         sizes[struct] = (at + widest - 1) // widest * widest
-        lines.append(holds_in_c(f"sizeof({struct}) == {sizes[struct]}"))
-    return lines
+        yield struct, None, 0, sizes[struct], struct
+
+
+def layouts(found):
+    """Each member has to be as wide in the header as in the code and at the same place, with
+    nothing after the last but what aligns it."""
+    for struct, member, at, size, c_type in places(found):
+        if member is None:
+            yield holds_in_c(f"sizeof({struct}) == {size}")
+        else:
+            its = f"(({struct} *)0)->{member}"
+            yield holds_in_c(f"offsetof({struct}, {member}) == {at}")
+            yield holds_in_c(f"sizeof {its} == {size}")
+            yield holds_in_c(f"_Generic({its}, {c_type}: 1, default: 0)")
 
 
 def enumerators():
@@ -203,25 +213,34 @@ def same(shown, wanted):
     assert shown == wanted, f"{shown} is not {wanted}"
 
 
+def header_structs():
+    """The structs of the header: of each the names of its members."""
+    return {struct: re.findall(r"(\w+)(?:\[\d+\])?;", inner) for inner, struct in
+            re.findall(r"typedef struct \w+ \{([^}]*)\} (\w+);", header())}
+
+
+def header_enumerators():
+    """The names of the enumerators of the header."""
+    return re.findall(r"\b(GLTF_\w+) = ", header())
+
+
 def check_names():
     """The header and the code have the same calls, structs and members."""
-    text = header()
     exported = {name for name, _, _ in exports()}
     assert OF_SHIM <= exported, exported
     same(sorted(calls()), sorted({*WITHOUT_EXPORT, *(name.replace(PREFIX, "gltf_", 1)
                                                      for name in exported - OF_SHIM)}))
-    shown = {struct: re.findall(r"(\w+)(?:\[\d+\])?;", inner) for inner, struct in
-             re.findall(r"typedef struct \w+ \{([^}]*)\} (\w+);", text)}
+    shown = header_structs()
     # The options are taken apart in the shim.
     del shown["gltf_open_options"]
     wanted = dict(structs())
     del wanted["core_file"], wanted["core_bytes"]  # of the shim
     same(shown, {struct: [member for member, _ in members] for struct, members in wanted.items()})
-    same(sorted(re.findall(r"\b(GLTF_\w+) = ", text)), sorted({*enumerators(), *OF_HEADER}))
+    same(sorted(header_enumerators()), sorted({*enumerators(), *OF_HEADER}))
 
 
 def check_file():
     """A C file that compiles where header, shim and code agree in types, places and numbers."""
     return "\n".join([
-        f'#include "{C}/gltf_shim.c"', *declarations(), *layouts(),
+        f'#include "{C}/gltf_shim.c"', *declarations(), *layouts(structs()),
         *(holds_in_c(f"{name} == {number}") for name, number in enumerators().items()), ""])

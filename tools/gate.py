@@ -30,6 +30,7 @@ PARTS = (
     ["python3", "tools/findings.py"],
     ["python3", "tools/c.py", "after-ci"],
     ["python3", "tools/python.py"],
+    ["python3", "tools/rust.py"],
     ["python3", "tools/fuzz.py", "--regressions"],
 )
 # The most memory that a check was seen to take, and some more.
