@@ -4,8 +4,8 @@
     dist.py [FOLDER] [--no-gate]   writes FOLDER/gltf-VERSION-x86_64-linux.tar.gz (out/dist)
 
 It has the programs, the library for C, manual pages and completion below bin/, lib/, include/ and
-share/, which can be copied to any prefix; README.md, docs/ and the licences; PROOF.txt, which says
-what was proved by what; and SHA256SUMS of all. It is refused where something is not built of the
+share/, which can be copied to any prefix; README.md, docs/, examples/ and the licences; PROOF.txt,
+which says what was proved by what; and SHA256SUMS of all. It is refused where something is not built of the
 present sources, or the gate has not passed on them; with --no-gate PROOF.txt says so instead. The
 same tree, with the same programs and library, gives the same bytes."""
 import gzip
@@ -22,6 +22,8 @@ import crates
 import package
 
 PAGES = ("README.md", "CHANGELOG.md", *package.LICENSES)
+# The programs in C of docs/C.md, which are beside the other examples.
+OF_C = ("show.c", "draw.c", "contents.h")
 PREFIX = "/gltf"
 
 
@@ -33,8 +35,12 @@ def contents(words):
         found[path[len(PREFIX) + 1:]] = bytes_or_link
     for name in PAGES:
         found[name] = (crates.TOP / name).read_bytes()
-    for page in (crates.TOP / "docs").iterdir():
-        found[f"docs/{page.name}"] = page.read_bytes()
+    for name in OF_C:
+        found[f"examples/{name}"] = (crates.TOP / "c" / name).read_bytes()
+    for folder in ("docs", "examples"):
+        for file in (crates.TOP / folder).rglob("*"):
+            if file.is_file() and file.suffix != ".pyc":
+                found[str(file.relative_to(crates.TOP))] = file.read_bytes()
     sums = [f"{hashlib.sha256(held).hexdigest()}  {path}\n"
             for path, held in sorted(found.items()) if isinstance(held, bytes)]
     found["SHA256SUMS"] = "".join(sums).encode()

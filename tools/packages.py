@@ -383,6 +383,7 @@ def tarball_holds_what_it_says():
         text = b"".join((root / path[1:]).read_bytes() for path in regular
                         if path.startswith(("/lib/pkgconfig", "/lib/cmake")))
         assert b"/gltf/" not in text.replace(b"lib/gltf", b"") and str(TOP).encode() not in text
+        same((root / "examples" / "show.c").read_bytes(), (c_code.C / "show.c").read_bytes())
         is_built_and_run(root)
 
 
