@@ -75,7 +75,7 @@ class Process:
         self.seconds = (int(told[11]) + int(told[12])) / TICKS
         self.words = (folder / "cmdline").read_bytes().decode(errors="replace").split("\0")
         try:
-            self.folder = os.readlink(folder / "cwd").removesuffix(" (deleted)")
+            self.folder = re.sub(r" \(deleted\)$", "", os.readlink(folder / "cwd"))
         except OSError:
             self.folder = ""
 

@@ -77,7 +77,7 @@ def plain(text):
 
 def calls_of(text):
     """The calls that a usage line lists, each with the program's name."""
-    program, _, calls = text.removeprefix("usage: ").partition(" ")
+    program, _, calls = text[len("usage: "):].partition(" ")
     return [f"{program} {call}" for call in calls.split(" | ")]
 
 
@@ -346,11 +346,11 @@ def tree_is_that_of_git():
 
 def packed_twice(tool, room):
     """What a tool packs, twice: in another folder, at another hour, by another user's habits."""
-    for folder, known in (("one", {}), ("two", {"TZ": "Asia/Tokyo", "USER": "other", "HOME": "/",
-                                                "LC_ALL": "C"})):
-        ran(sys.executable, TOP / "tools" / f"{tool}.py", f"{room}/{folder}", package.NO_GATE,
-            env={**os.environ, **known}, cwd="/" if known else room,
-            umask=0o077 if known else 0o022)
+    other = {"TZ": "Asia/Tokyo", "USER": "other", "HOME": "/", "LC_ALL": "C"}
+    for folder, known, umask in (("one", {}, "022"), ("two", other, "077")):
+        ran("sh", "-c", f"umask {umask}; exec \"$@\"", "sh", sys.executable,
+            TOP / "tools" / f"{tool}.py", f"{room}/{folder}", package.NO_GATE,
+            env={**os.environ, **known}, cwd="/" if known else room)
     names = sorted(os.listdir(f"{room}/one"))
     same(sorted(os.listdir(f"{room}/two")), names)
     for name in names:
@@ -410,7 +410,7 @@ def packages_are_fine():
         same(len(held), len(set(held)))
         wanted = {path for path, _ in (*program_install.parts("/usr", {"LIBDIR": LIBDIR}),
                                        *c_install.parts("/usr", {"LIBDIR": LIBDIR}))}
-        found = {"/" + path.removesuffix(".gz") for path in held if "share/doc" not in path}
+        found = {"/" + re.sub(r"\.gz$", "", path) for path in held if "share/doc" not in path}
         same(found, wanted)
 
 
