@@ -18,12 +18,13 @@ help:
 	@echo '  make show [CALL=chunks|check] [FILE=PATH]  shows the chunks of a GLB file, or checks a file'
 	@echo '  make prove                                 proves and builds the programs'
 	@echo '  make c [WORDS=--long]                      proves, builds and tests the library for C'
-	@echo '  make python                                tries the package for Python, after make c'
+	@echo '  make python [WORDS=--long]                 tries the package for Python, after make c'
 	@echo '  make wheel                                 writes the wheel of it to out/dist'
 	@echo '  make rust                                  tries the crate for Rust, after make c'
-	@echo '  make install [PREFIX=FOLDER] [LIBDIR=..] [INCLUDEDIR=..] [MANDIR=..]'
+	@echo '  make install [PREFIX=FOLDER] [DESTDIR=..] [LIBDIR=..] [INCLUDEDIR=..] [MANDIR=..]'
 	@echo '                                             installs the programs and that library'
 	@echo '  make uninstall                             removes them: with the same words'
+	@echo '  make dist, make deb                        packs them as a tarball, as Debian packages'
 	@echo '  make reference                             writes out/reference/index.html'
 	@echo 'For a change'
 	@echo '  make check NAME=CRATE                      proves one crate and those that it uses'
@@ -31,6 +32,8 @@ help:
 	@echo '  make fuzz [SECONDS=60]                     runs libFuzzer over the library for C, after make c'
 	@echo '  make soak [FILES=2000]                     runs the programs on broken files, after make prove'
 	@echo '  make devices                               runs them where the system fails them'
+	@echo '  make packages [WORDS=--long]               tries what is installed and packed'
+	@echo '  make many [FILES=1000]                     tries the checking of many files'
 	@echo '  make wrong [NAME=CRATE]                    tries the wrong bodies of a crate'
 	@echo '  make bench [NAME=items|records|import|files|peers|c] [WORDS=..]  runs the benchmarks'
 	@echo '  make test                                  the gate: all proofs and all tests'
@@ -44,6 +47,7 @@ prove:
 c:
 	@python3 tools/c.py $(WORDS)
 
+install uninstall: export DESTDIR := $(value DESTDIR)
 install uninstall: export LIBDIR := $(value LIBDIR)
 install uninstall: export INCLUDEDIR := $(value INCLUDEDIR)
 install uninstall: export MANDIR := $(value MANDIR)
@@ -52,6 +56,12 @@ install:
 
 uninstall:
 	@python3 tools/install.py uninstall
+
+dist:
+	@python3 tools/dist.py $(WORDS)
+
+deb:
+	@python3 tools/deb.py $(WORDS)
 
 reference:
 	@python3 tools/reference.py
@@ -85,13 +95,19 @@ test:
 	@python3 tools/gate.py
 
 python:
-	@python3 tools/python.py
+	@python3 tools/python.py $(WORDS)
 
 wheel:
 	@python3 tools/wheel.py
 
 rust:
 	@python3 tools/rust.py
+
+packages:
+	@python3 tools/packages.py $(WORDS)
+
+many:
+	@python3 tools/many.py $(FILES)
 
 fuzz:
 	@python3 tools/fuzz.py $(SECONDS)
@@ -105,4 +121,5 @@ devices:
 wrong:
 	@tools/wrong.sh $(NAME)
 
-.PHONY: help show prove c install uninstall reference check case bench test wrong python wheel rust fuzz soak devices
+.PHONY: help show prove c install uninstall dist deb reference check case bench test wrong python
+.PHONY: wheel rust packages many fuzz soak devices

@@ -1,20 +1,23 @@
 #!/usr/bin/env python3
 """Checks every glTF file below some folders, and writes one table of what is wrong.
 
-    check_many.py FOLDER.. [--out TABLE.csv] [--processes N]
-    check_many.py FOLDER.. [--out TABLE.csv] --dask ADDRESS
-    check_many.py FOLDER.. [--out TABLE.csv] --dask-workers N
+    check_many.py PLACE.. [--out TABLE.csv] [--processes N]
+    check_many.py PLACE.. [--out TABLE.csv] --dask ADDRESS
+    check_many.py PLACE.. [--out TABLE.csv] --dask-workers N
+    check_many.py PLACE.. [--out TABLE.csv] --reports REPORTS.jsonl
 
-A folder, or a file with a path in each line, as `find` prints them. Each file is checked by
-`gltf_show inspect --json`; the environment variable GLTF_SHOW can have the path of that program.
-With --processes (the default: one for each processor) the files are checked on this machine. With
---dask they are checked by the workers of the Dask scheduler at an address, which have to see the
-same paths and the program; with --dask-workers by a cluster of N processes that is started here. A
-task that a lost worker had is tried again by Dask, twice.
+A place is a folder or a glTF file; --list FILE names a file with a path in each line, as `find`
+prints them. Each file is checked by `gltf.check` of the Python package `gltf`, which runs
+gltf_show. With --processes (the default: one for each processor) that is done on this machine. With
+--dask it is done by the workers of the Dask scheduler at an address, which need the package and see
+the same paths; with --dask-workers by a cluster of N processes that is started here. A check that
+fails, or whose worker is lost, is tried again twice. With --reports nothing is checked: the table
+is made of the lines that `gltf_show inspect --json` wrote of these files.
 
 The table has a line for each file, in the order of their names: the path; `ok`, `faults`,
-`unreadable` or `failed`; the number of errors; the code and the pointer of the first error; and
-the milliseconds that the check took. Exit status: 0 all files are ok, 1 some are not, 2 usage."""
+`unreadable` (there is no report) or `failed` (its worker was lost each time); the code and the
+pointer of the first error, or why there is no report; and the milliseconds that the check took. The
+last lines on standard error sum it up. Exit status: 0 all files are ok, 1 some are not, 2 usage."""
 import argparse
 import collections
 import concurrent.futures
@@ -22,53 +25,50 @@ import csv
 import json
 import os
 import pathlib
-import subprocess
 import sys
 import time
 
-COLUMNS = ("file", "verdict", "errors", "code", "pointer", "milliseconds")
+COLUMNS = ("file", "verdict", "code", "pointer", "milliseconds")
+TRIES = 3
 
 
-def report_of(path):
-    """The report of one file, as `gltf_show inspect --json` writes it. OSError where there is none."""
-    program = os.environ.get("GLTF_SHOW", "gltf_show")
-    ran = subprocess.run([program, "inspect", "--json", path], stdout=subprocess.PIPE,
-                         stderr=subprocess.PIPE, check=False)
-    if ran.returncode not in (0, 1) or not ran.stdout.strip():
-        raise OSError(ran.stderr.decode("utf-8", "replace").strip() or "no report")
-    return json.loads(ran.stdout)
+def line_of(path, report, milliseconds):
+    """The line of a file that has a report: its first error, if it has one."""
+    for found in report["issues"]["messages"]:
+        if found["severity"] == 0:
+            return [path, "faults", found["code"], found.get("pointer", ""), milliseconds]
+    return [path, "ok", "", "", milliseconds]
 
 
-def check_one(path):
-    """The line of one file. It is a function of the module, so that a worker can import it."""
+def check(path):
+    """The line of one file. OSError where there is no report of it."""
+    import gltf
+
     began = time.perf_counter()
-    verdict, errors, code, pointer = "ok", 0, "", ""
-    try:
-        issues = report_of(path)["issues"]
-        errors = issues["numErrors"]
-        first = next((it for it in issues["messages"] if it["severity"] == 0), None)
-        if first:
-            verdict, code, pointer = "faults", first["code"], first.get("pointer", "")
-    except OSError as why:
-        verdict, code = "unreadable", str(why)
-    return [path, verdict, errors, code, pointer, round((time.perf_counter() - began) * 1000, 1)]
+    report = gltf.check(path)
+    return line_of(path, report, round((time.perf_counter() - began) * 1000, 1))
 
 
-def paths_below(places):
-    """The files of the places, each once, sorted."""
-    found = set()
-    for place in map(pathlib.Path, places):
-        if place.is_dir():
-            found.update(str(it) for it in place.rglob("*") if it.suffix in (".gltf", ".glb"))
-        else:
-            found.update(filter(None, place.read_text().splitlines()))
-    return sorted(found)
+def without_report(path, why):
+    """The line of a file that has no report."""
+    verdict = "unreadable" if isinstance(why, OSError) else "failed"
+    return [path, verdict, str(why).strip() or repr(why), "", ""]
+
+
+def check_here(path):
+    """The line of one file, also where there is no report after all tries."""
+    for _ in range(TRIES):
+        try:
+            return check(path)
+        except OSError as why:
+            last = why
+    return without_report(path, last)
 
 
 def by_processes(paths, count):
     """The lines, by processes of this machine."""
     with concurrent.futures.ProcessPoolExecutor(count) as pool:
-        yield from pool.map(check_one, paths, chunksize=8)
+        yield from pool.map(check_here, paths, chunksize=8)
 
 
 def by_dask(paths, address, workers):
@@ -80,49 +80,84 @@ def by_dask(paths, address, workers):
         cluster = LocalCluster(n_workers=workers, threads_per_worker=1, dashboard_address=None)
     client = Client(address or cluster)
     try:
-        client.upload_file(os.path.abspath(__file__))
-        from check_many import check_one as task
-
-        tasks = client.map(task, paths, retries=2, pure=False)
-        place_of = {it.key: path for it, path in zip(tasks, paths)}
-        for done in as_completed(tasks):
-            fault = done.exception()
-            yield done.result() if fault is None else [
-                place_of[done.key], "failed", 0, repr(fault), "", 0]
+        tasks = client.map(check, paths, retries=TRIES - 1, pure=False)
+        path_of = {task.key: path for task, path in zip(tasks, paths)}
+        for task, line in as_completed(tasks, with_results=True, raise_errors=False):
+            is_lost = task.status != "finished"
+            yield without_report(path_of[task.key], task.exception()) if is_lost else line
     finally:
         client.close()
         if cluster is not None:
             cluster.close()
 
 
+def by_reports(paths, reports):
+    """The lines, by reports that are there already."""
+    found = {}
+    with open(reports, encoding="utf-8") as lines:
+        for line in lines:
+            report = json.loads(line)
+            found[report["uri"]] = report
+    for path in paths:
+        if path in found:
+            yield line_of(path, found[path], "")
+        else:
+            yield without_report(path, OSError("there is no report of it"))
+
+
+def paths_of(places, lists):
+    """The paths of the files, each once, sorted."""
+    found = set()
+    for place in map(pathlib.Path, places):
+        below = place.rglob("*") if place.is_dir() else [place]
+        found.update(str(it) for it in below
+                     if it == place or it.suffix in (".gltf", ".glb") and it.is_file())
+    for name in lists:
+        with open(name, encoding="utf-8", errors="surrogateescape") as lines:
+            found.update(filter(None, (line.rstrip("\n") for line in lines)))
+    return sorted(found)
+
+
+def summary(table, seconds):
+    """How many files there are of each verdict, and the codes that are found most."""
+    verdicts = collections.Counter(line[1] for line in table)
+    codes = collections.Counter(line[2] for line in table if line[1] == "faults")
+    shown = ", ".join(f"{count} {verdict}" for verdict, count in sorted(verdicts.items()))
+    yield (f"{len(table)} files in {seconds:.1f} s, {len(table) / max(seconds, 0.001):.0f} a "
+           f"second: {shown or 'none'}")
+    for code, count in codes.most_common(10):
+        yield f"  {count} {code}"
+
+
 def main():
     reader = argparse.ArgumentParser(description=__doc__.split("\n", maxsplit=1)[0])
-    reader.add_argument("places", nargs="+", metavar="FOLDER")
+    reader.add_argument("places", nargs="*", metavar="PLACE", help="a folder or a glTF file")
+    reader.add_argument("--list", action="append", default=[], metavar="FILE",
+                        help="a file with a path in each line")
     reader.add_argument("--out", metavar="TABLE.csv", help="the table; else standard output")
     reader.add_argument("--processes", type=int, default=os.cpu_count() or 1, metavar="N")
     reader.add_argument("--dask", metavar="ADDRESS", help="the address of a Dask scheduler")
-    reader.add_argument("--dask-workers", type=int, metavar="N")
+    reader.add_argument("--dask-workers", type=int, metavar="N", help="a Dask cluster of its own")
+    reader.add_argument("--reports", metavar="REPORTS.jsonl", help="what gltf_show wrote")
     words = reader.parse_args()
-    paths, began = paths_below(words.places), time.perf_counter()
-    if words.dask or words.dask_workers:
+    if not words.places and not words.list:
+        reader.error("a folder or a file is missing")
+    paths, began = paths_of(words.places, words.list), time.perf_counter()
+    if words.reports:
+        lines = by_reports(paths, words.reports)
+    elif words.dask or words.dask_workers:
         lines = by_dask(paths, words.dask, words.dask_workers)
     else:
         lines = by_processes(paths, words.processes)
     table = sorted(lines)
-    out = open(words.out, "w", newline="") if words.out else sys.stdout
-    with out:
-        csv.writer(out).writerows([COLUMNS, *table])
-    spent = time.perf_counter() - began
-    verdicts = collections.Counter(line[1] for line in table)
-    codes = collections.Counter(line[3] for line in table if line[1] == "faults")
-    shown = ", ".join(f"{count} {verdict}" for verdict, count in sorted(verdicts.items()))
-    print(f"{len(table)} files in {spent:.1f} s, {len(table) / max(spent, 0.001):.0f} a second: "
-          f"{shown or 'none'}", file=sys.stderr)
-    for code, count in codes.most_common(10):
-        print(f"  {count} {code}", file=sys.stderr)
-    return 0 if set(verdicts) <= {"ok"} else 1
+    seconds = time.perf_counter() - began
+    how = {"newline": "", "encoding": "utf-8", "errors": "surrogateescape"}
+    with open(words.out or sys.stdout.fileno(), "w", closefd=bool(words.out), **how) as out:
+        csv.writer(out, lineterminator="\n").writerows([COLUMNS, *table])
+    for line in summary(table, seconds):
+        print(line, file=sys.stderr)
+    return 0 if all(line[1] == "ok" for line in table) else 1
 
 
 if __name__ == "__main__":
-    sys.path.insert(0, os.path.dirname(os.path.abspath(__file__)))
     sys.exit(main())

@@ -67,25 +67,41 @@ def parts(prefix, environment):
         yield f"{place['man']}/man3/{name}.3", b".so man3/gltf.3\n"
 
 
-def install(prefix, environment, destination=""):
-    """Writes all parts. A library that is in use is replaced, and not written over."""
-    for path, contents in parts(prefix, environment):
-        file = pathlib.Path(destination + path)
-        file.parent.mkdir(parents=True, exist_ok=True)
-        part = file.parent / f".{file.name}.{os.getpid()}"
-        if isinstance(contents, str):
-            part.symlink_to(contents)
-        else:
-            part.write_bytes(contents if isinstance(contents, bytes) else contents.read_bytes())
-            part.chmod(0o755 if ".so." in file.name else 0o644)
-        part.replace(file)
-        print(file)
+def put(path, contents):
+    """Writes a part. A program or a library that is in use is replaced, and not written over."""
+    file = pathlib.Path(path)
+    file.parent.mkdir(parents=True, exist_ok=True)
+    part = file.parent / f".{file.name}.{os.getpid()}"
+    if isinstance(contents, str):
+        part.symlink_to(contents)
+    else:
+        part.write_bytes(bytes_of(contents))
+        part.chmod(mode_of(path))
+    part.replace(file)
+    return file
 
 
-def uninstall(prefix, environment, destination=""):
-    """Removes all parts, and the folders that held nothing else and are the library's own."""
+def write(parts, destination=""):
+    """Writes parts, and prints where."""
+    for path, contents in parts:
+        print(put(destination + path, contents))
+
+
+def bytes_of(contents):
+    """The bytes of a part that is no link."""
+    return contents if isinstance(contents, bytes) else contents.read_bytes()
+
+
+def mode_of(path):
+    """The mode of a part that is no link: programs and the shared library can be run."""
+    file = pathlib.PurePath(path)
+    return 0o755 if file.parent.name == "bin" or ".so." in file.name else 0o644
+
+
+def remove(parts, destination=""):
+    """Removes parts, and the folders that held nothing else and are the library's own."""
     own = set()
-    for path, _ in parts(prefix, environment):
+    for path, _ in parts:
         file = pathlib.Path(destination + path)
         if file.is_symlink() or file.exists():
             file.unlink()
@@ -95,3 +111,13 @@ def uninstall(prefix, environment, destination=""):
     for folder in own:
         if folder.is_dir() and not any(folder.iterdir()):
             folder.rmdir()
+
+
+def install(prefix, environment, destination=""):
+    """Writes all parts of the library."""
+    write(parts(prefix, environment), destination)
+
+
+def uninstall(prefix, environment, destination=""):
+    """Removes all parts of the library."""
+    remove(parts(prefix, environment), destination)

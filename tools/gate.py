@@ -7,7 +7,9 @@ failed; where `rt ci` fails, the scripts are run nevertheless, over what it buil
 
     gate.py             runs them, and prints the processor seconds of each part, and of each
                         crate's proof, tests and wrong bodies
-    gate.py --write     the same, and where nothing failed writes that page as docs/GATE.md"""
+    gate.py --write     the same, and where nothing failed writes that page as docs/GATE.md
+
+out/gate.json keeps which tree it ran on, and its last line, for PROOF.txt of `make dist`."""
 import collections
 import datetime
 import os
@@ -20,6 +22,10 @@ import sys
 import threading
 import time
 
+sys.dont_write_bytecode = True
+
+import gate_record
+
 TOP = pathlib.Path(__file__).resolve().parent.parent
 PAGE = TOP / "docs" / "GATE.md"
 # Each runs in the folder of the repository.
@@ -31,6 +37,8 @@ PARTS = (
     ["python3", "tools/c.py", "after-ci"],
     ["python3", "tools/python.py"],
     ["python3", "tools/rust.py"],
+    ["python3", "tools/packages.py"],
+    ["python3", "tools/many.py"],
     ["python3", "tools/fuzz.py", "--regressions"],
 )
 # The most memory that a check was seen to take, and some more.
@@ -68,7 +76,7 @@ class Process:
         self.seconds = (int(told[11]) + int(told[12])) / TICKS
         self.words = (folder / "cmdline").read_bytes().decode(errors="replace").split("\0")
         try:
-            self.folder = os.readlink(folder / "cwd").removesuffix(" (deleted)")
+            self.folder = re.sub(r" \(deleted\)$", "", os.readlink(folder / "cwd"))
         except OSError:
             self.folder = ""
 
@@ -145,12 +153,6 @@ def checks_at_once():
     return max(1, min(len(os.sched_getaffinity(0)), memory // MEMORY_OF_A_CHECK))
 
 
-def toolchain():
-    """What `rt version` prints."""
-    ran = subprocess.run(["rt", "version"], stdout=subprocess.PIPE, text=True, check=False)
-    return ran.stdout.strip()
-
-
 def note_toolchains(here):
     """Says which pages name another toolchain than the one that is here."""
     for page in [TOP / "README.md", *sorted((TOP / "docs").glob("*.md"))]:
@@ -210,7 +212,7 @@ def main(words):
         print(__doc__)
         return 2
     os.environ.setdefault("RT_JOBS", str(checks_at_once()))
-    here = toolchain()
+    here, begun = gate_record.toolchain(), gate_record.begin()
     note_toolchains(here)
     results, parts, sums, began = [], [], collections.Counter(), time.time()
     for part in PARTS:
@@ -233,6 +235,7 @@ def main(words):
         f"- {machine()}; `RT_JOBS={os.environ['RT_JOBS']}`.",
         f"- `{here}`.",
     ]
+    gate_record.end(begun, f"{passed} passed, {failed} failed")
     page = page_of(sums, parts, about)
     print(page)
     if words and not failed:

@@ -1,30 +1,20 @@
 #!/usr/bin/env python3
 """Installs what is built of the present sources: the proved programs, which `make prove` builds,
-and the library for C, which `make c` builds: `make install PREFIX=..`. It reports what is missing.
-With the word `uninstall` it removes what it installed to the same folders.
+with their manual pages and their completion for bash, and the library for C, which `make c` builds:
+`make install PREFIX=..`. It reports what is missing. With the word `uninstall` it removes what it
+installed to the same folders.
 
 GLTF_PREFIX is the folder, relative to the one that make was called in, GLTF_FROM. LIBDIR,
-INCLUDEDIR and MANDIR are folders of the library, by default in that folder. DESTDIR is put in front
-of all."""
+INCLUDEDIR and MANDIR are folders below it, if they are not absolute. DESTDIR is put in front of
+all."""
 import os
-import pathlib
-import shutil
 import sys
 
 sys.dont_write_bytecode = True
 
 import c_install
 import crates
-
-
-def install_program(program, folder):
-    """A program that runs is replaced, and not written over."""
-    folder.mkdir(parents=True, exist_ok=True)
-    part = folder / f".{program}.{os.getpid()}"
-    shutil.copyfile(crates.program(program), part)
-    part.chmod(0o755)
-    part.replace(folder / program)
-    print(folder / program)
+import program_install
 
 
 def install(prefix, destination):
@@ -33,8 +23,7 @@ def install(prefix, destination):
     if not programs and not has_library:
         sys.exit("make install: nothing is built of these sources: make prove proves and builds "
                  "the programs, and make c the library for C")
-    for program in programs:
-        install_program(program, pathlib.Path(f"{destination}{prefix}/bin"))
+    c_install.write(program_install.parts(prefix, os.environ, programs), destination)
     if has_library:
         c_install.install(prefix, os.environ, destination)
     for program in crates.PROGRAMS:
@@ -45,11 +34,7 @@ def install(prefix, destination):
 
 
 def uninstall(prefix, destination):
-    for program in crates.PROGRAMS:
-        file = pathlib.Path(f"{destination}{prefix}/bin/{program}")
-        if file.exists():
-            file.unlink()
-            print(file)
+    c_install.remove(program_install.parts(prefix, os.environ), destination)
     c_install.uninstall(prefix, os.environ, destination)
 
 

@@ -46,7 +46,7 @@ def faults_of(page):
         place = (page.parent / path).resolve() if path else page
         if not place.exists():
             yield f"there is no {target}"
-        elif not place.is_relative_to(TOP):
+        elif TOP not in (place, *place.parents):
             yield f"{target} is outside of the repository"
         elif anchor and (place.suffix != ".md" or anchor not in anchors(place.read_text("utf-8"))):
             yield f"there is no heading {target}"

@@ -411,7 +411,7 @@ def spans(text, module):
         if re.match(r"https?:", to):
             place = to
         elif re.fullmatch(r"[\w:]+(?:\(\))?", to):
-            place = place_of(resolved(module, to.removesuffix("()").split("::")))
+            place = place_of(resolved(module, re.sub(r"\(\)$", "", to).split("::")))
         else:
             return escaped(found[0])
         shown = link(place, inner.strip("`"))
@@ -567,7 +567,7 @@ def definition_texts(file):
 
 def definitions_section(crate):
     """The definitions of a crate that contracts name."""
-    files = sorted({file for file, _ in definitions() if file.is_relative_to(trust.CRATES / crate)})
+    files = sorted({file for file, _ in definitions() if trust.CRATES / crate in file.parents})
     if not files:
         return "", ""
     parts = ['<h2 id="specs">Definitions</h2><p>What the contracts name, in files of '

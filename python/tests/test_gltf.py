@@ -32,6 +32,14 @@ SPARSE = {
     "accessors": [{"componentType": 5121, "count": 3, "type": "VEC2", "normalized": True,
                    "sparse": {"count": 1, "indices": {"bufferView": 0, "componentType": 5121},
                               "values": {"bufferView": 1}}}]}
+# How many mutated files are opened, and in how many rounds.
+MUTATIONS, ROUNDS = int(os.environ.get("GLTF_MUTATIONS", "600")), 6
+
+
+def resident():
+    """The memory that this process holds now, in KiB."""
+    pages = int(pathlib.Path("/proc/self/statm").read_text().split()[1])
+    return pages * resource.getpagesize() // 1024
 
 
 def text_of(document):
@@ -139,6 +147,17 @@ class Files(unittest.TestCase):
         gc.collect()
         self.assertTrue((points == wanted).all())
 
+    def test_a_view_keeps_the_bytes_of_a_closed_document(self):
+        document = gltf.open(EXAMPLES / "box.glb")
+        views = [document.accessors[0].view(), document.images[0].bytes, document.buffers[0].bytes]
+        wanted = [bytes(view) for view in views]
+        document.close()
+        del document
+        gc.collect()
+        [gltf.open(EXAMPLES / "box.glb") for _ in range(50)]  # others take memory that was freed
+        self.assertEqual([bytes(view) for view in views], wanted)
+        self.assertTrue(all(view.readonly for view in views))
+
 
 class Faults(unittest.TestCase):
     """Each fault has its class and its place."""
@@ -240,14 +259,14 @@ class Strangers(unittest.TestCase):
     """Files of strangers, from several threads at once."""
 
     def test_mutated_files_from_four_threads(self):
-        times = int(os.environ.get("GLTF_MUTATIONS", "600"))
+        """No file crashes it, and memory does not grow with the number of files."""
         sources = [path.read_bytes() for path in FILES]
-        faults, opened = [], []
+        faults, opened, held = [], [], []
 
         def work(seed):
             random_ = random.Random(seed)
             try:
-                for turn in range(times // 4):
+                for turn in range(MUTATIONS // ROUNDS // 4 + 1):
                     data = mutated(sources[turn % len(sources)], random_)
                     try:
                         with gltf.open(data, resolver=lambda uri: b"\1" * 4096) as document:
@@ -258,13 +277,17 @@ class Strangers(unittest.TestCase):
             except BaseException as fault:  # all else is a fault of the package
                 faults.append(fault)
 
-        threads = [threading.Thread(target=work, args=(seed,)) for seed in range(4)]
-        for thread in threads:
-            thread.start()
-        for thread in threads:
-            thread.join()
+        for number in range(ROUNDS):
+            threads = [threading.Thread(target=work, args=(4 * number + it,)) for it in range(4)]
+            for thread in threads:
+                thread.start()
+            for thread in threads:
+                thread.join()
+            gc.collect()
+            held.append(resident())
         self.assertEqual(faults, [])
-        self.assertGreater(len(opened), times // 20)
+        self.assertGreater(len(opened), MUTATIONS // 20)
+        self.assertLess(held[-1] - held[1], 2048, "KiB more after the rounds: %s" % held)
 
     def test_one_document_is_read_by_four_threads(self):
         with gltf.open(EXAMPLES / "box.glb") as document:
