@@ -31,9 +31,13 @@ help:
 	@echo '  make case                                  runs the cases alone'
 	@echo '  make fuzz [SECONDS=60]                     runs libFuzzer over the library for C, after make c'
 	@echo '  make soak [FILES=2000]                     runs the programs on broken files, after make prove'
+	@echo '  make peers [FILES=2000]                    the same, with other loaders that Debian has'
 	@echo '  make devices                               runs them where the system fails them'
 	@echo '  make packages [WORDS=--long]               tries what is installed and packed'
 	@echo '  make many [FILES=1000]                     tries the checking of many files'
+	@echo '  make memory [WORDS=--long]                 runs them with each growth of memory refused'
+	@echo '  make stack [WORDS=--measure]               runs them, and the library for C, with little stack'
+	@echo '  make coverage [FILES=400]                  says which code of that library the fuzzer reaches'
 	@echo '  make wrong [NAME=CRATE]                    tries the wrong bodies of a crate'
 	@echo '  make bench [NAME=items|records|import|files|peers|c] [WORDS=..]  runs the benchmarks'
 	@echo '  make test                                  the gate: all proofs and all tests'
@@ -110,16 +114,28 @@ many:
 	@python3 tools/many.py $(FILES)
 
 fuzz:
-	@python3 tools/fuzz.py $(SECONDS)
+	@python3 tools/fuzz.py $(SECONDS) $(WORDS)
 
 soak:
 	@python3 tools/soak.py $(FILES)
 
+peers:
+	@python3 tools/soak.py $(or $(FILES),2000) --peers
+
 devices:
 	@python3 tools/devices.py
+
+memory:
+	@python3 tools/memory.py $(WORDS)
+
+stack:
+	@python3 tools/stack.py $(WORDS)
+
+coverage:
+	@python3 tools/coverage.py $(FILES)
 
 wrong:
 	@tools/wrong.sh $(NAME)
 
 .PHONY: help show prove c install uninstall dist deb reference check case bench test wrong python
-.PHONY: wheel rust packages many fuzz soak devices
+.PHONY: wheel rust packages many fuzz soak peers devices memory stack coverage

@@ -1,6 +1,9 @@
 /* The target of `make fuzz`: opens bytes, makes every call of gltf.h over what they hold, with
  * rooms of many sizes, gives waiting buffers their bytes, and closes the file. It stops the fuzzer
- * where a result is not one that the header names; sanitizers see the rest. */
+ * where a result is not one that the header names; what lies past a block that the library is given
+ * stops it too, and sanitizers see what is freed twice, never, or overlaps. */
+#include "rooms.h"
+
 #include "../c/tests/try.h"
 
 #include <stdio.h>

@@ -296,6 +296,18 @@ def valgrind_sees_no_error(times):
         TRIANGLE, DANGLING, RIG, RICH, RICH_GLB)
 
 
+def makes_every_call(source):
+    """The program makes each call of the header, but for the one that only names the version."""
+    made, is_own = set(), False
+    for line in ran("cc", "-E", f"-I{C}", source).splitlines():
+        mark = re.match(r'# \d+ "([^"]*)"', line)
+        if mark:
+            is_own = not mark[1].startswith("/usr") and not mark[1].endswith("/gltf.h")
+        elif is_own:
+            made |= set(re.findall(r"\bgltf_\w+", line))
+    same(set(c_code.calls()) - made, {"gltf_version"})
+
+
 def each_growth_is_refused_in_turn(is_long):
     wraps = ",".join(f"--wrap={name}" for name in ("malloc", "realloc", "free"))
     program = built("failing", f"-Wl,{wraps}")
@@ -422,7 +434,8 @@ def tests(is_long):
         [a_stack_has_a_quarter_to_spare], [threads_read_one_file],
         [sees_no_race, "helgrind", turns], [sees_no_race, "drd", turns],
         [mutated_files_break_nothing, mutated], [valgrind_sees_no_error, by_valgrind],
-        [each_growth_is_refused_in_turn, is_long], [gltfpack_writes_the_same],
+        [each_growth_is_refused_in_turn, is_long], [makes_every_call, TESTS_OF_C / "failing.c"],
+        [makes_every_call, crates.TOP / "fuzz" / "target.c"], [gltfpack_writes_the_same],
         [is_found_by, "pkg-config"], [is_found_by, "cmake"], [leaves_nothing_when_uninstalled],
         [man_page_is_clean],
     )
@@ -430,7 +443,8 @@ def tests(is_long):
 
 def holds(test, *given):
     """Whether a test passes; None where it is not tried."""
-    name = " ".join([test.__name__.replace("_", " "), *map(str, given)])
+    name = " ".join([test.__name__.replace("_", " "),
+                     *(it.name if isinstance(it, pathlib.Path) else str(it) for it in given)])
     try:
         test(*given)
     except Lacking as why:

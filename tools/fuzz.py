@@ -2,16 +2,21 @@
 """Runs libFuzzer over the whole header of the library for C: `make fuzz [SECONDS=60]`.
 
 It needs Debian's `clang` and `libclang-rt-14-dev`, and the library that `make c` builds. The target
-(`fuzz/target.c`) opens the bytes, makes every call, gives waiting buffers their bytes and closes the
-file, under address and undefined-behaviour sanitizers; the mutations keep the form of a text and of
-a container whole (`fuzz/mutator.c`). What is found is kept in `out/fuzz/`; move it to
-`fuzz/regressions/`, whose files the gate opens.
+(`fuzz/target.c`) opens the bytes, makes every call, gives waiting buffers their bytes and closes
+the file, under address and undefined-behaviour sanitizers, with blocks that end where a page begins
+that nobody may touch (`fuzz/rooms.h`); the mutations keep the form of a text and of a container
+whole (`fuzz/mutator.c`). What is found is kept in `out/fuzz/`; move it to `fuzz/regressions/`,
+whose files the gate opens.
 
-    fuzz.py [SECONDS]       fuzzes on all processors, and prints the closing lines of each
+    fuzz.py [SECONDS]       fuzzes on all processors, or with JOBS processes, and prints the closing
+                            lines of each; with LONGEST, inputs of at most so many bytes
+    fuzz.py SECONDS --keep  the same, and adds the closing lines to fuzz/runs.txt
     fuzz.py --regressions   opens the files of fuzz/regressions alone
-    fuzz.py --planted       plants a fault, and fails where a minute does not find it
+    fuzz.py --planted       plants two faults, and fails where a minute does not find each
 
 The last line is `N executions, nothing found`, or what was found."""
+import datetime
+import hashlib
 import os
 import pathlib
 import re
@@ -19,6 +24,7 @@ import shutil
 import subprocess
 import sys
 import tempfile
+import time
 
 sys.dont_write_bytecode = True
 
@@ -29,7 +35,11 @@ FUZZ, OUT = TOP / "fuzz", TOP / "out" / "fuzz"
 LIBRARY = TOP / "out" / "c" / "libgltf.a"
 SANITIZERS = "address,undefined"
 # An input is longer than no seed by much; a process has so many MB, and an input so many seconds.
-LONGEST, MEMORY, TIME = 65_536, 2_048, 10
+LONGEST, MEMORY, TIME = int(os.environ.get("LONGEST", 65_536)), 2_048, 10
+JOBS = int(os.environ.get("JOBS", os.cpu_count() or 1))
+# The sanitizers keep no trace of where each block was taken, which would take most of the time.
+OPTIONS = {**os.environ, "ASAN_OPTIONS": "malloc_context_size=0:quarantine_size_mb=16"}
+RUNS = FUZZ / "runs.txt"
 
 
 def keywords():
@@ -58,7 +68,7 @@ def seeds(folder):
 
 
 def build(program, *more, target=None):
-    words = ["clang", "-std=c11", "-g", "-O1", f"-fsanitize=fuzzer,{SANITIZERS}",
+    words = ["clang", "-std=c11", "-g", "-O2", f"-fsanitize=fuzzer,{SANITIZERS}",
              "-fno-sanitize-recover=undefined", "-I", TOP / "c", target or FUZZ / "target.c",
              FUZZ / "mutator.c", *more, LIBRARY, "-o", program]
     subprocess.run([os.fspath(word) for word in words], check=True)
@@ -87,8 +97,13 @@ def executions(text):
     return int(found[-1]) if found else 0
 
 
-def run(program, corpus, seconds, jobs):
-    """The closing lines of each process, how many inputs they tried, and what they found."""
+def seed_of(job):
+    """A number that no other process of this day has."""
+    return int(time.time()) % 86_400 * 16 + job + 1
+
+
+def run(program, corpus, seconds, jobs, found=OUT):
+    """How many inputs the processes tried, what they found, and the closing lines of each."""
     OUT.mkdir(parents=True, exist_ok=True)
     dictionary = OUT / "gltf.dict"
     dictionary.write_text("".join(f'"{word}"\n' for word in keywords()))
@@ -96,31 +111,49 @@ def run(program, corpus, seconds, jobs):
     for job in range(jobs):
         log = open(OUT / f"run{job}.log", "w", encoding="utf-8", errors="replace")
         words = [program, corpus, f"-max_total_time={seconds}", f"-dict={dictionary}",
-                 f"-artifact_prefix={OUT}/", "-print_final_stats=1", f"-seed={job + 1}", *limits()]
+                 f"-artifact_prefix={found}/", "-print_final_stats=1", f"-seed={seed_of(job)}",
+                 *limits()]
         processes.append((job, log, subprocess.Popen(
-            [os.fspath(word) for word in words], stdout=log, stderr=log)))
-    total, failed = 0, []
+            [os.fspath(word) for word in words], stdout=log, stderr=log, env=OPTIONS)))
+    total, failed, closing = 0, [], []
     for job, log, process in processes:
         status = process.wait()
         log.close()
         text = pathlib.Path(log.name).read_text("utf-8", "replace")
         total += executions(text)
-        lines = [line for line in text.splitlines() if line.startswith(("stat::", "Done", "#"))]
-        print(f"process {job}: " + "; ".join(lines[-6:]))
+        closing.append(f"{executions(text)} executions, inputs of at most {LONGEST} bytes, status "
+                       f"{status}: {closing_lines(text)}")
+        print(f"process {job}: {closing[-1]}", flush=True)
         if status != 0:
             failed.append(text[-4000:])
-    return total, failed
+    return total, failed, closing
 
 
-def fuzz(seconds):
+def closing_lines(text):
+    """The last line that libFuzzer prints of what it did, and its figures."""
+    lines = [line for line in text.splitlines() if line.startswith(("stat::", "Done", "#"))]
+    return "; ".join(" ".join(line.split()) for line in lines[-7:])
+
+
+def keep(closing):
+    """Adds the closing lines of processes to the file that has those of all runs."""
+    library = hashlib.sha256(LIBRARY.read_bytes()).hexdigest()[:16]
+    with open(RUNS, "a", encoding="utf-8") as runs:
+        for line in closing:
+            runs.write(f"{datetime.date.today()} library {library}: {line}\n")
+
+
+def fuzz(seconds, is_kept):
     OUT.mkdir(parents=True, exist_ok=True)
     program, corpus = OUT / "target", OUT / "corpus"
     corpus.mkdir(exist_ok=True)
     seeds(corpus)
     build(program)
-    total, failed = run(program, corpus, seconds, os.cpu_count() or 1)
+    total, failed, closing = run(program, corpus, seconds, JOBS)
     for text in failed:
         print(text)
+    if is_kept:
+        keep(closing)
     print(f"{total} executions, {'nothing' if not failed else f'{len(failed)} faults'} found")
     return 1 if failed else 0
 
@@ -135,20 +168,19 @@ def regressions():
         return 0
     build(OUT / "target")
     words = [OUT / "target", *limits(), *files]
-    done = subprocess.run([os.fspath(word) for word in words], capture_output=True) if files else None
-    good = done is None or done.returncode == 0
+    words = [os.fspath(word) for word in words]
+    good = not files or subprocess.run(words, capture_output=True).returncode == 0
     print(f"{len(files) if good else 0} passed, {0 if good else 1} failed")
     return 0 if good else 1
 
 
-# A fault in front of the library: one call that takes the index at the length for one below it.
-PLANTED = """
-#define gltf_node_info planted_node_info
-#include "gltf.h"
-#undef gltf_node_info
-extern gltf_status gltf_node_info(const gltf_file *, size_t, gltf_node *);
-gltf_status planted_node_info(const gltf_file *file, size_t index, gltf_node *out)
+# Faults in front of the library: a call that the target makes in the place of the library's own,
+# without the sanitizers, as the library is.
+PLANTED = {
+    "gltf_node_info": """
+static gltf_status planted(const gltf_file *file, size_t index, gltf_node *out)
 {
+    /* The index at the length is taken for one below it. */
     gltf_node last;
     if (index > 0 && index == gltf_count(file, GLTF_NODES)
         && gltf_node_info(file, index - 1, &last) == GLTF_SUCCESS && last.children > 1) {
@@ -157,28 +189,42 @@ gltf_status planted_node_info(const gltf_file *file, size_t index, gltf_node *ou
     }
     return gltf_node_info(file, index, out);
 }
-#include "@TARGET@"
-"""
+""",
+    "gltf_name": """
+__attribute__((no_sanitize("address", "undefined")))
+static gltf_status planted(const gltf_file *file, unsigned int kind, size_t index, char *text,
+                           size_t room, size_t *length)
+{
+    /* A text that is cut is ended a byte past its room. */
+    gltf_status status = gltf_name(file, kind, index, text, room, length);
+    if (status == GLTF_SUCCESS && room > 0 && *length >= room)
+        text[room] = 0;
+    return status;
+}
+""",
+}
 
 
-def planted():
-    """Whether the harness finds a fault that is in the library."""
-    with tempfile.TemporaryDirectory() as room:
-        room = pathlib.Path(room)
+def finds(call, text):
+    """Whether the harness finds a fault of a call within a minute."""
+    with tempfile.TemporaryDirectory() as folder:
+        room = pathlib.Path(folder)
         target, corpus = room / "target.c", room / "corpus"
-        text = PLANTED.replace("@TARGET@", os.fspath(FUZZ / "target.c"))
-        text = text.replace('#include "gltf.h"\n#undef gltf_node_info\n', '#include "gltf.h"\n', 1)
-        target.write_text(text.replace("extern gltf_status gltf_node_info", "#undef gltf_node_info\n"
-                                       "extern gltf_status gltf_node_info")
-                          .replace('#include "' + os.fspath(FUZZ),
-                                   '#define gltf_node_info planted_node_info\n#include "'
-                                   + os.fspath(FUZZ)))
+        target.write_text(f'#define _DEFAULT_SOURCE\n#include "gltf.h"\n{text}\n'
+                          f'#define {call} planted\n#include "{FUZZ}/target.c"\n')
         corpus.mkdir()
         seeds(corpus)
         build(room / "target", target=target)
-        _, failed = run(room / "target", corpus, 60, os.cpu_count() or 1)
-    print("the planted fault was found" if failed else "the planted fault was not found")
-    return 0 if failed else 1
+        began = time.time()
+        failed = run(room / "target", corpus, 60, JOBS, found=room)[1]
+    said = f"found in {time.time() - began:.0f} seconds" if failed else "not found"
+    print(f"the fault planted in {call}: {said}")
+    return bool(failed)
+
+
+def planted():
+    """Whether the harness finds the faults that are planted."""
+    return 0 if all([finds(call, text) for call, text in PLANTED.items()]) else 1
 
 
 def main():
@@ -189,7 +235,9 @@ def main():
         return regressions()
     if words == ["--planted"]:
         return planted()
-    return fuzz(int(words[0]) if words else 60)
+    is_kept = "--keep" in words
+    return fuzz(int(words[0]) if words else 60, is_kept)
 
 
-sys.exit(main())
+if __name__ == "__main__":
+    sys.exit(main())

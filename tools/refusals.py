@@ -15,6 +15,10 @@ import subprocess
 import sys
 import tempfile
 
+sys.dont_write_bytecode = True
+
+import preload
+
 TOP = pathlib.Path(__file__).resolve().parent.parent
 CRATE = TOP / "crates" / "gltf_cases"
 PROGRAM = CRATE / "out" / "gltf_cases"
@@ -26,12 +30,6 @@ ASKING = ("files", "shelf", "folder")
 NOT_READ, NOT_WRITTEN = "not read", "neither read nor written"
 # How the program says that memory ran out, where no line has room for it.
 ENDED = ("Memory", "OutOfMemory")
-
-
-def clang():
-    """The C compiler of the toolchain, beside the page that `rt doc` names."""
-    page = subprocess.run(["rt", "doc"], capture_output=True, text=True, check=True).stdout
-    return pathlib.Path(page.split()[-1]).parent / "toolchain" / "bin" / "clang"
 
 
 def cases():
@@ -62,10 +60,7 @@ class Runs:
 
     def __init__(self, folder):
         self.file = os.path.join(folder, "case.txt")
-        self.library = os.path.join(folder, "refuse.so")
-        source = TOP / "tools" / "refuse.c"
-        words = ["-O1", "-shared", "-fPIC", "-nostdlib", "-fuse-ld=lld", "-o", self.library, source]
-        subprocess.run([clang(), *words], check=True)
+        self.library = preload.library("refuse", folder)
         self.count = 0
 
     def run(self, growth):

@@ -12,9 +12,9 @@ or answers another time otherwise. What fails is kept in `out/soak/`.
     soak.py [FILES] --peers       and through other loaders of Debian, where they are there: which
                                   files they accept and we refuse, and the other way, by reason
 
+JOBS says how many files are tried at once, as many as there are processors where it is not set.
 The last line is `N passed, M failed`."""
 import base64
-import collections
 import concurrent.futures
 import copy
 import json
@@ -22,7 +22,6 @@ import os
 import pathlib
 import random
 import re
-import shutil
 import struct
 import subprocess
 import sys
@@ -31,6 +30,7 @@ import tempfile
 sys.dont_write_bytecode = True
 
 import crates
+import peers
 
 OUT = crates.TOP / "out" / "soak"
 # What a program takes at most: so many seconds, and so many bytes for a byte of the file beside
@@ -203,15 +203,23 @@ def is_report(text):
     return isinstance(report, dict) and "issues" in report
 
 
+def answer(words, room, size, written):
+    """What a call does, and the bytes of the file that it writes."""
+    told = ran(limited(words, size), room)
+    file = room / written if written else None
+    return told, file.read_bytes() if file and file.exists() else None
+
+
 def faults_of(name, words, statuses, room, size, written=None):
-    """What is wrong with a call."""
-    status, out, error = ran(limited(words, size), room)
-    again = ran(limited(words, size), room) if size % 7 == 0 and written is None else None
+    """What is wrong with a call. One in three is made twice."""
+    first = answer(words, room, size, written)
+    again = answer(words, room, size, written) if size % 3 == 0 else first
+    status, out, error = first[0]
     if status not in statuses:
         return [f"{name}: status {status}: {error[-200:]!r}"]
     if b"out of memory" in error:
         return [f"{name}: more memory than stated"]
-    if again is not None and again != (status, out, error):
+    if again != first:
         return [f"{name}: another answer the second time"]
     if "--json" in words and not is_report(out):
         return [f"{name}: no report: {out[:200]!r}"]
@@ -235,37 +243,15 @@ def tried(number, seed, names, examples):
         size = len(data)
         faults = faults_of("inspect", [show, "inspect", file, "--json"], (0, 1, 2), room, size)
         faults += faults_of("check", [show, "check", file], (0, 1), room, size)
-        faults += faults_of("repack", [repack, file, "packed.glb"], (0, 1), room, size, "packed.glb")
-        faults += faults_of("convert", [convert, file, "one.glb"], (0, 1), room, size, "one.glb")
-        if (room / "one.glb").exists():
-            faults += faults_of("check of one.glb", [show, "check", "one.glb"], (0,), room, 3 * size)
+        packed, one = "packed.glb", "one.glb"
+        faults += faults_of("repack", [repack, file, packed], (0, 1), room, size, packed)
+        faults += faults_of("convert", [convert, file, one], (0, 1), room, size, one)
+        if (room / one).exists():
+            faults += faults_of("check of one.glb", [show, "check", one], (0,), room, 3 * size)
         if faults:
             OUT.mkdir(parents=True, exist_ok=True)
             (OUT / f"{seed}-{number}{ending}").write_bytes(data)
     return number, faults, ending, data
-
-
-def by_peers(files):
-    """Of each file whether another loader accepts it, and which of ours do: a table."""
-    if not shutil.which("assimp"):
-        print("assimp: not tried: Debian's package assimp-utils is not there")
-        return
-    show = os.fspath(crates.program("gltf_show"))
-    table = collections.Counter()
-    for ending, data in files:
-        with tempfile.TemporaryDirectory() as room:
-            room = pathlib.Path(room)
-            (room / f"file{ending}").write_bytes(data)
-            ours = ran([show, "check", f"file{ending}"], room)
-            theirs = ran(["assimp", "info", f"file{ending}"], room)
-            reason = ""
-            if ours[0] != 0:
-                reason = re.sub(r"[0-9]+", "N", ours[2].decode("utf-8", "replace"))[:60].strip()
-            table["accepted" if ours[0] == 0 else reason,
-                  "accepted" if theirs[0] == 0 else "refused" if theirs[0] in range(0, 128)
-                  else f"ended by signal {theirs[0]}"] += 1
-    for (ours, theirs), count in table.most_common():
-        print(f"| {count} | {ours} | {theirs} |")
 
 
 def main():
@@ -275,7 +261,8 @@ def main():
     names = names_of_members()
     examples = sorted((crates.TOP / "examples").rglob("*.gl*"))
     failed, files = 0, []
-    with concurrent.futures.ThreadPoolExecutor(os.cpu_count()) as pool:
+    jobs = int(os.environ.get("JOBS", os.cpu_count() or 1))
+    with concurrent.futures.ThreadPoolExecutor(jobs) as pool:
         runs = [pool.submit(tried, number, seed, names, examples) for number in range(count)]
         for run in runs:
             number, faults, ending, data = run.result()
@@ -284,7 +271,7 @@ def main():
             for fault in faults:
                 print(f"file {number}: {fault}")
     if "--peers" in sys.argv:
-        by_peers(files)
+        peers.by_peers(files, jobs)
     print(f"{count - failed} passed, {failed} failed")
     return 1 if failed else 0
 

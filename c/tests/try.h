@@ -31,13 +31,14 @@ static int give_all(gltf_file *file)
         if (gltf_buffer_info(file, i, &it) != GLTF_SUCCESS)
             return 100;
         size = it.byte_length < 65536 ? it.byte_length : 65536;
-        bytes = (unsigned char *)calloc(1, size + 1);
+        bytes = (unsigned char *)VISIT_MALLOC(size);
         if (bytes == NULL)
             return 101;
+        memset(bytes, 0, size);
         if (it.waits && size > 0 && gltf_give(file, i, bytes, size - 1) != GLTF_SHORT_BUFFER)
             return 102;
         status = gltf_give(file, i, bytes, size);
-        free(bytes);
+        VISIT_FREE(bytes);
         if (status != (!it.waits ? (gltf_status)GLTF_NO_SUCH_INDEX
                        : size < it.byte_length ? (gltf_status)GLTF_SHORT_BUFFER
                        : (gltf_status)GLTF_SUCCESS))
@@ -66,7 +67,7 @@ static int try_one(const unsigned char *bytes, size_t size, long *opened)
     gltf_fault fault;
     gltf_file *file;
     gltf_status status;
-    unsigned char *exact = (unsigned char *)malloc(size);
+    unsigned char *exact = (unsigned char *)VISIT_MALLOC(size);
     int wrong = 0;
     if (exact == NULL)
         return 105;
@@ -77,7 +78,7 @@ static int try_one(const unsigned char *bytes, size_t size, long *opened)
     options.extension_count = any(4);
     memset(&fault, 0x5a, sizeof fault);
     status = gltf_open(exact, size, any(2) == 0 ? &options : NULL, &file, &fault);
-    free(exact);
+    VISIT_FREE(exact);
     if (status >= STATUSES || (file == NULL) == (status == GLTF_SUCCESS)
         || !is_fault(status, &fault))
         return 106;

@@ -15,6 +15,10 @@
 #define VISIT_MALLOC malloc
 #define VISIT_FREE free
 #endif
+/* A block for a list, which is no block of 0 bytes: malloc may have none. */
+#ifndef VISIT_LIST
+#define VISIT_LIST(size) VISIT_MALLOC((size) + 1)
+#endif
 
 /* An accessor with more bytes of items than this is not read whole. */
 #define VISIT_MOST ((size_t)1 << 22)
@@ -130,7 +134,7 @@ static void visit_json(visit *v, unsigned int kind, size_t index, size_t part)
 static void visit_list(visit *v, unsigned int what, size_t index, size_t wanted)
 {
     size_t count = 0, again = 0, room = visit_any(v, wanted + 2), i;
-    size_t *list = (size_t *)VISIT_MALLOC(room * sizeof *list + 1);
+    size_t *list = (size_t *)VISIT_LIST(room * sizeof *list);
     if (list == NULL)
         return;
     MUST(v, gltf_list(v->file, what, index, NULL, 0, &count) == GLTF_SUCCESS && count == wanted);
@@ -148,7 +152,7 @@ static void visit_numbers(visit *v, unsigned int what, size_t index)
     double *list;
     MUST(v, gltf_numbers(v->file, what, index, NULL, 0, &count) == GLTF_SUCCESS);
     room = visit_any(v, count + 2);
-    list = (double *)VISIT_MALLOC(room * sizeof *list + 1);
+    list = (double *)VISIT_LIST(room * sizeof *list);
     if (list == NULL)
         return;
     MUST(v, gltf_numbers(v->file, what, index, list, room, &again) == GLTF_SUCCESS
@@ -204,7 +208,7 @@ static void visit_items(visit *v, size_t index, const gltf_accessor *it)
     size_t size = fits ? it->count * it->item_size : VISIT_MOST, i;
     size_t count = fits ? it->count * it->components : VISIT_MOST / 4;
     unsigned char *items = (unsigned char *)VISIT_MALLOC(size + 1);
-    unsigned int *words = (unsigned int *)VISIT_MALLOC(count * sizeof *words + 1);
+    unsigned int *words = (unsigned int *)VISIT_LIST(count * sizeof *words);
     gltf_status status;
     if (items != NULL && words != NULL) {
         items[size] = 0x5a;
