@@ -1,5 +1,6 @@
 -- The sizes of items.
-use Rattle.std.proofs.Common.{◌≡◌, ℕ, ◌*◌, sym, ap, ◌∙◌}
+use Rattle.std.proofs.Common.{◌≡◌, ℕ, ◌+◌, ◌*◌, ◌<◌, ◌≤◌, sym, ap, ◌∙◌, arith}
+use prog.Memory.{up}
 use Rattle.gltf_json_record.specs.declared.validation.Checked.{Checked}
 use Rattle.gltf_json_record.specs.declared.validation.Checked.TheVariants.{Invalid, Valid}
 use Rattle.gltf_json_geometry.specs.declared.accessor.Accessor.{Accessor}
@@ -20,3 +21,7 @@ sized a d s m n =
     ap (λ (k : ℕ). k * code_of (λ c. multiplicity (dimensions c)) a.type_)
     (given data_type component_size a.component_type d m)
     ∙ ap (λ (k : ℕ). component_size d * k) (given dimensions multiplicity a.type_ s n)
+
+-- an item of n bytes fits a type
+pub item_fits : (n : ℕ) → n ≤ 64 → up 1 (0 + n * 1) < 9223372036854775808
+item_fits n h = omega arith
