@@ -1,5 +1,5 @@
 -- There is a reason exactly where the reader's call reads none, by the rows of its table.
-use Rattle.std.proofs.Common.{◌≡◌, ℕ, List, refl, sym, subst}
+use Rattle.std.proofs.Common.{◌≡◌, ℕ, List, refl}
 use Rattle.std.specs.Prelude.{Option, Some, None, option_map, is_some, true}
 use Rattle.gltf_json.specs.declared.root.Root.{Root}
 use Rattle.gltf_json_animation.specs.declared.animation.Property.{Property}

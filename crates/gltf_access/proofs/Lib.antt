@@ -6,3 +6,4 @@ mod Explained
 mod Members
 mod Written
 mod Counts
+mod Flattened

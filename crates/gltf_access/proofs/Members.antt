@@ -1,5 +1,5 @@
 -- From the accessor that a getter gives to the index that the record has.
-use Rattle.std.proofs.Common.{◌≡◌, ℕ, List, refl, sym, ap, subst, ◌∙◌}
+use Rattle.std.proofs.Common.{◌≡◌, ℕ, List, sym, ap, subst, ◌∙◌}
 use Rattle.std.specs.Prelude.{Option, Some, None, is_some, true, option_map}
 use Rattle.gltf_json.specs.declared.root.Root.{Root}
 use Rattle.gltf_json_animation.specs.declared.animation.Animation.{Animation as AnimationRecord}
@@ -15,13 +15,12 @@ use Rattle.gltf_anim.specs.Animations.{IsSampler, IsTarget, sampler_handle, targ
 use Rattle.gltf_anim.specs.declared.animation.Sampler.{Sampler}
 use Rattle.gltf_anim.specs.declared.animation.Target.{Target}
 use Rattle.gltf_data.specs.Answers.{Results, AlwaysAnswers}
-use Rattle.gltf_data.specs.Documents.{accessor_at}
 use Rattle.gltf_read.specs.Channels.{sampler_of, output_of, property_of}
 use Rattle.gltf_read.specs.Colors.{AreColors}
 use Rattle.gltf_read.specs.Indices.{AreIndices}
 use Rattle.gltf_read.specs.Joints.{AreJoints}
 use Rattle.gltf_read.specs.Outputs.{AreOutputs}
-use Rattle.gltf_read.specs.Reading.{Table, IsRead, ReadsMember, AreItems, type_of, dimensions_of}
+use Rattle.gltf_read.specs.Reading.{Table, IsRead, AreItems, type_of, dimensions_of}
 use Rattle.gltf_read.specs.Reading.{meant}
 use Rattle.gltf_read.specs.TexCoords.{AreTexCoords}
 use Rattle.gltf_read.specs.Weights.{AreWeights}

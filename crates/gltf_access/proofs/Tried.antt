@@ -1,6 +1,6 @@
 -- What was tried of an accessor, as a reason.
-use Rattle.std.proofs.Common.{◌≡◌, ℕ, List, [], ◌∷◌, refl, sym, ap, ◌∙◌, inl, inr}
-use Rattle.std.specs.Prelude.{Option, Some, None, Result, Ok, Err, SomeIff, option_map}
+use Rattle.std.proofs.Common.{◌≡◌, List, [], ◌∷◌, refl, sym, ap, ◌∙◌, inl, inr}
+use Rattle.std.specs.Prelude.{Option, Some, Result, Ok, Err, SomeIff, option_map}
 use Rattle.std.specs.Result.{result_ok, result_map_both}
 use Rattle.std.proofs.lemmas.Bool.{cases_Bool}
 use Rattle.gltf_json.specs.declared.root.Root.{Root}

@@ -1,5 +1,5 @@
 -- From the view that a getter gives to that of the record that names it.
-use Rattle.std.proofs.Common.{◌≡◌, ℕ, List, refl, sym, ap, subst, ◌∙◌}
+use Rattle.std.proofs.Common.{◌≡◌, ℕ, List, refl, sym, subst, ◌∙◌}
 use Rattle.std.specs.Prelude.{Option, Some, None, unwrap_or, option_and_then, is_some, false}
 use Rattle.gltf_json.specs.declared.root.Root.{Root}
 use Rattle.gltf_json_geometry.specs.declared.accessor.Accessor.{Accessor}

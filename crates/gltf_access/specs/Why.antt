@@ -2,7 +2,6 @@
 -- be read (glTF 2.0, section 3.6.2, "Accessors").
 use Rattle.std.specs.Prelude.{◌≡◌, ℕ, List, Option, Some, None, Ok, Err, Result, ⊤, is_some, true}
 use Rattle.gltf_json.specs.declared.root.Root.{Root}
-use Rattle.gltf_json_animation.specs.declared.animation.Property.{Property}
 use Rattle.gltf_json_geometry.specs.declared.accessor.Accessor.{Accessor}
 use Rattle.gltf_json_geometry.specs.declared.semantic.Semantic.{Semantic}
 use Rattle.gltf_json_geometry.specs.declared.semantic.Semantic.TheVariants as attributes

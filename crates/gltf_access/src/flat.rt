@@ -1,13 +1,15 @@
 //! The bytes of all items of an accessor, one item after the other.
 
-ghost use Rattle.std.specs.Prelude.{◌≡◌, ◌*◌, ◌≤◌, IfOk, nat_le, option_map};
+ghost use Rattle.std.specs.Prelude.{◌≡◌, ◌*◌, ◌≤◌, IfOk, option_map};
+ghost use Rattle.gltf_data.specs.Answers.{Reads, ReadsAlike};
+ghost use Rattle.gltf_data.specs.Iter.{counted_items};
 ghost use Rattle.gltf_handles.specs.Accessors.{accessor_handle};
 ghost use Rattle.gltf_handles.specs.Sizes.{component_size, item_size, multiplicity};
-ghost use Rattle.gltf_access.specs.Flat.{IsFlat, IsFlatIn};
+ghost use Rattle.gltf_access.specs.Flat.{IsFlat, IsFlatIn, IsWritten};
 
 use crate::item::ItemBytes;
 use crate::write::write_items;
-use gltf_data::accessor::{Accessor, DataType, Dimensions, Iter};
+use gltf_data::accessor::{Accessor, DataType, Dimensions, Item, Iter};
 use gltf_data::buffer::Buffer;
 use std::alloc::{AllocError, Global};
 use std::fmt;
@@ -104,9 +106,12 @@ fn of_type<'s, F: Fn(Buffer) -> Option<&'s [u8]>>(
         (component_size component * multiplicity shape) a.document a.json result out.old out.new }
 {
     match component {
-        DataType::I8 | DataType::U8 => of_bytes(shape, accessor, get_buffer_data, out),
-        DataType::I16 | DataType::U16 => of_halves(shape, accessor, get_buffer_data, out),
-        DataType::U32 | DataType::F32 => of_words(shape, accessor, get_buffer_data, out),
+        DataType::I8 => of_bytes(shape, accessor, get_buffer_data, out),
+        DataType::U8 => of_bytes(shape, accessor, get_buffer_data, out),
+        DataType::I16 => of_halves(shape, accessor, get_buffer_data, out),
+        DataType::U16 => of_halves(shape, accessor, get_buffer_data, out),
+        DataType::U32 => of_words(shape, accessor, get_buffer_data, out),
+        DataType::F32 => of_words(shape, accessor, get_buffer_data, out),
     }
 }
 
@@ -123,12 +128,13 @@ fn of_bytes<'s, F: Fn(Buffer) -> Option<&'s [u8]>>(
         a.json result out.old out.new }
 {
     match shape {
-        Dimensions::Scalar => write_as::<1, F>(accessor, get_buffer_data, out),
-        Dimensions::Vec2 => write_as::<2, F>(accessor, get_buffer_data, out),
-        Dimensions::Vec3 => write_as::<3, F>(accessor, get_buffer_data, out),
-        Dimensions::Vec4 | Dimensions::Mat2 => write_as::<4, F>(accessor, get_buffer_data, out),
-        Dimensions::Mat3 => write_as::<9, F>(accessor, get_buffer_data, out),
-        Dimensions::Mat4 => write_as::<16, F>(accessor, get_buffer_data, out),
+        Dimensions::Scalar => write::<1>(read::<ItemBytes<1>, F>(accessor, get_buffer_data), out),
+        Dimensions::Vec2 => write::<2>(read::<ItemBytes<2>, F>(accessor, get_buffer_data), out),
+        Dimensions::Vec3 => write::<3>(read::<ItemBytes<3>, F>(accessor, get_buffer_data), out),
+        Dimensions::Vec4 => write::<4>(read::<ItemBytes<4>, F>(accessor, get_buffer_data), out),
+        Dimensions::Mat2 => write::<4>(read::<ItemBytes<4>, F>(accessor, get_buffer_data), out),
+        Dimensions::Mat3 => write::<9>(read::<ItemBytes<9>, F>(accessor, get_buffer_data), out),
+        Dimensions::Mat4 => write::<16>(read::<ItemBytes<16>, F>(accessor, get_buffer_data), out),
     }
 }
 
@@ -145,12 +151,13 @@ fn of_halves<'s, F: Fn(Buffer) -> Option<&'s [u8]>>(
         a.json result out.old out.new }
 {
     match shape {
-        Dimensions::Scalar => write_as::<2, F>(accessor, get_buffer_data, out),
-        Dimensions::Vec2 => write_as::<4, F>(accessor, get_buffer_data, out),
-        Dimensions::Vec3 => write_as::<6, F>(accessor, get_buffer_data, out),
-        Dimensions::Vec4 | Dimensions::Mat2 => write_as::<8, F>(accessor, get_buffer_data, out),
-        Dimensions::Mat3 => write_as::<18, F>(accessor, get_buffer_data, out),
-        Dimensions::Mat4 => write_as::<32, F>(accessor, get_buffer_data, out),
+        Dimensions::Scalar => write::<2>(read::<ItemBytes<2>, F>(accessor, get_buffer_data), out),
+        Dimensions::Vec2 => write::<4>(read::<ItemBytes<4>, F>(accessor, get_buffer_data), out),
+        Dimensions::Vec3 => write::<6>(read::<ItemBytes<6>, F>(accessor, get_buffer_data), out),
+        Dimensions::Vec4 => write::<8>(read::<ItemBytes<8>, F>(accessor, get_buffer_data), out),
+        Dimensions::Mat2 => write::<8>(read::<ItemBytes<8>, F>(accessor, get_buffer_data), out),
+        Dimensions::Mat3 => write::<18>(read::<ItemBytes<18>, F>(accessor, get_buffer_data), out),
+        Dimensions::Mat4 => write::<32>(read::<ItemBytes<32>, F>(accessor, get_buffer_data), out),
     }
 }
 
@@ -167,27 +174,42 @@ fn of_words<'s, F: Fn(Buffer) -> Option<&'s [u8]>>(
         a.json result out.old out.new }
 {
     match shape {
-        Dimensions::Scalar => write_as::<4, F>(accessor, get_buffer_data, out),
-        Dimensions::Vec2 => write_as::<8, F>(accessor, get_buffer_data, out),
-        Dimensions::Vec3 => write_as::<12, F>(accessor, get_buffer_data, out),
-        Dimensions::Vec4 | Dimensions::Mat2 => write_as::<16, F>(accessor, get_buffer_data, out),
-        Dimensions::Mat3 => write_as::<36, F>(accessor, get_buffer_data, out),
-        Dimensions::Mat4 => write_as::<64, F>(accessor, get_buffer_data, out),
+        Dimensions::Scalar => write::<4>(read::<ItemBytes<4>, F>(accessor, get_buffer_data), out),
+        Dimensions::Vec2 => write::<8>(read::<ItemBytes<8>, F>(accessor, get_buffer_data), out),
+        Dimensions::Vec3 => write::<12>(read::<ItemBytes<12>, F>(accessor, get_buffer_data), out),
+        Dimensions::Vec4 => write::<16>(read::<ItemBytes<16>, F>(accessor, get_buffer_data), out),
+        Dimensions::Mat2 => write::<16>(read::<ItemBytes<16>, F>(accessor, get_buffer_data), out),
+        Dimensions::Mat3 => write::<36>(read::<ItemBytes<36>, F>(accessor, get_buffer_data), out),
+        Dimensions::Mat4 => write::<64>(read::<ItemBytes<64>, F>(accessor, get_buffer_data), out),
     }
 }
 
-/// The same where an item has N bytes.
-fn write_as<'s, const N: usize, F: Fn(Buffer) -> Option<&'s [u8]>>(
+/// The items of an accessor.
+fn read<'s, T: Item, F: Fn(Buffer) -> Option<&'s [u8]>>(
     accessor: Accessor,
     get_buffer_data: &F,
+) -> Option<Iter<'s, T>>
+    requires { F.IsAlwaysCallable get_buffer_data.now }
+    ensures items { Reads (λ b o. F.post get_buffer_data.now b o) ⟦<T as Item>⟧
+        (accessor_handle accessor.entry).document (accessor_handle accessor.entry).json
+        (option_map (λ it. (counted_items it).items) result) }
+    ensures alike { ReadsAlike (λ b o. F.post get_buffer_data.now b o) ⟦<T as Item>⟧
+        (accessor_handle accessor.entry).document (accessor_handle accessor.entry).json
+        (option_map (λ it. (counted_items it).items) result) }
+{
+    Iter::new(accessor, get_buffer_data)
+}
+
+/// The bytes of these items, where there are items and room for them.
+fn write<const N: usize>(
+    items: Option<Iter<'_, ItemBytes<N>>>,
     out: &mut [u8],
 ) -> Result<usize, NotWritten>
-    requires callable { F.IsAlwaysCallable get_buffer_data.now }
     requires small { N ≤ 64 }
-    ensures { let a = accessor_handle accessor.entry in
-        IsFlatIn (λ b o. F.post get_buffer_data.now b o) N a.document a.json result out.old out.new }
+    ensures { IsWritten N (option_map (λ it. (counted_items it).items) items.entry) result out.old
+        out.new }
 {
-    let Some(items) = Iter::<ItemBytes<N>>::new(accessor, get_buffer_data) else {
+    let Some(items) = items else {
         return Err(NotWritten::Unreadable);
     };
     match items.len().checked_mul(N) {
