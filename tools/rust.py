@@ -143,7 +143,9 @@ def structs_lie_in_rust_as_in_c():
 # ---- The crate.
 
 def tests_pass():
-    print(cargo("test"), end="")
+    passed = sum(map(int, re.findall(r"test result: ok\. (\d+) passed", cargo("test"))))
+    assert passed > 30, passed
+    print(f"{passed} tests of the crate passed")
 
 
 def tests_pass_over_the_archive():

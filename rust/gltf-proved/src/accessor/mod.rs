@@ -97,6 +97,9 @@ impl<'a> Accessor<'a> {
     /// begins at i * [`Accessor::stride`]. None where the items are not in the file as they are:
     /// they are sparse or padded inside, or have no view that holds them.
     pub fn bytes(&self) -> Option<&'a [u8]> {
+        if self.info.data.is_null() {
+            return None;
+        }
         let size = match self.info.count {
             0 => 0,
             count => (count - 1) * self.info.stride + self.info.item_size,
