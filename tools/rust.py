@@ -5,6 +5,7 @@ It compares the declarations of `rust/gltf-proved/src/sys.rs` with `c/gltf.h`, r
 crate, its lints and its pages, compares what it reads of files with what Python reads of them, and
 runs its example and the code that the READMEs show. A test whose tool is not there is reported as
 not tried, and counts neither as passed nor as failed. The last line is `N passed, M failed`."""
+import contextlib
 import os
 import pathlib
 import re
@@ -44,7 +45,9 @@ FACTORS = {2: "diffuse_factor specular_glossiness_factor glossiness_factor",
 def known(**more):
     """The variables that cargo is run with: it finds the library, and so do the programs."""
     return {**os.environ, "CARGO_TARGET_DIR": str(OUT), "GLTF_LIB_DIR": str(c.OUT),
-            "LD_LIBRARY_PATH": str(c.OUT), "CARGO_TERM_COLOR": "never", **more}
+            "LD_LIBRARY_PATH": str(c.OUT), "CARGO_TERM_COLOR": "never",
+            # Half of the time goes into what debuggers read.
+            "CARGO_PROFILE_DEV_DEBUG": "0", "CARGO_INCREMENTAL": "0", **more}
 
 
 def cargo(*words, cwd=CRATE, **more):
@@ -93,7 +96,7 @@ def c_type(kind):
 def functions():
     """The functions of sys.rs, each as C declares it."""
     block = declared().partition('extern "C" {')[2]
-    for name, inner, result in re.findall(r"pub fn (\w+)\(([^)]*)\)(?: -> (\w+))?;", block):
+    for name, inner, result in re.findall(r"pub fn (\w+)\(([^)]*)\)(?:\s*-> (\w+))?;", block):
         kinds = [pair.partition(": ")[2] for pair in inner.split(",") if pair.strip()]
         result = c_type(result) if result else "void"
         yield name, f"extern {result} {name}({', '.join(map(c_type, kinds)) or 'void'});"
@@ -140,7 +143,9 @@ def structs_lie_in_rust_as_in_c():
 # ---- The crate.
 
 def tests_pass():
-    print(cargo("test"), end="")
+    passed = sum(map(int, re.findall(r"test result: ok\. (\d+) passed", cargo("test"))))
+    assert passed > 30, passed
+    print(f"{passed} tests of the crate passed")
 
 
 def tests_pass_over_the_archive():
@@ -268,24 +273,46 @@ def snippet(page):
                 if "gltf_proved" in it)
 
 
+def package(room, code):
+    """Makes a folder a package that depends on the crate."""
+    (room / "src").mkdir(exist_ok=True)
+    (room / "src" / "main.rs").write_text(code)
+    (room / "Cargo.toml").write_text(
+        '[package]\nname = "shown"\nversion = "0.1.0"\nedition = "2021"\n\n[dependencies]\n'
+        f'gltf-proved = {{ path = "{CRATE}" }}\n')
+
+
 def page_shows_code_that_runs(page):
-    """In a package that depends on the crate, in a folder with the examples."""
+    """In a package of its own, in a folder with the example."""
     with tempfile.TemporaryDirectory() as name:
-        room = pathlib.Path(name)
-        (room / "src").mkdir()
-        (room / "src" / "main.rs").write_text(snippet(page))
-        (room / "Cargo.toml").write_text(
-            '[package]\nname = "shown"\nversion = "0.1.0"\nedition = "2021"\n\n[dependencies]\n'
-            f'gltf-proved = {{ path = "{CRATE}" }}\n')
-        shutil.copy(c_tests.BOX, room)
-        same(cargo("run", cwd=room), "24 points, the first [0.5, -0.5, -0.5]\n")
+        package(pathlib.Path(name), snippet(page))
+        shutil.copy(c_tests.BOX, name)
+        same(cargo("run", cwd=name), "24 points, the first [0.5, -0.5, -0.5]\n")
+
+
+def handles_end_with_their_document():
+    """The programs of the pages that must not compile fail for the reason that they are to."""
+    text = (CRATE / "src" / "lib.rs").read_text("utf-8")
+    found = re.findall(r"//! ```compile_fail,(E\d+)\n((?://!.*\n)*?)//! ```", text)
+    same(len(found), 2)
+    for code, lines in found:
+        with tempfile.TemporaryDirectory() as name:
+            inner = re.sub(r"(?m)^//! ?", "", lines)
+            package(pathlib.Path(name), f"fn main() {{\n{inner}}}\n")
+            try:
+                cargo("check", cwd=name)
+            except AssertionError as why:
+                same(re.findall(r"error\[(E\d+)\]", str(why)), [code])
+            else:
+                raise AssertionError(f"it compiles:\n{inner}")
 
 
 def is_found_by_pkg_config():
     """The installed library, with no variable that names its folder."""
     need("pkg-config")
     with tempfile.TemporaryDirectory() as name:
-        c_install.install(f"{name}/usr", {})
+        with contextlib.redirect_stdout(None):
+            c_install.install(f"{name}/usr", {})
         given = known(PKG_CONFIG_PATH=f"{name}/usr/lib/pkgconfig",
                       LD_LIBRARY_PATH=f"{name}/usr/lib", CARGO_TARGET_DIR=f"{name}/target")
         del given["GLTF_LIB_DIR"]
@@ -318,7 +345,8 @@ TESTS = (
     [tests_pass_over_the_archive], [pages_are_made_without_a_warning], [lints_find_nothing],
     [reads_what_python_reads], [displays_the_box],
     [page_shows_code_that_runs, "rust/gltf-proved/README.md"],
-    [page_shows_code_that_runs, "README.md"], [is_found_by_pkg_config],
+    [page_shows_code_that_runs, "README.md"], [handles_end_with_their_document],
+    [is_found_by_pkg_config],
     [says_what_to_do_without_the_library],
 )
 

@@ -14,7 +14,10 @@ fn print_mesh(mesh: &gltf::Mesh, buffers: &[gltf::buffer::Data], indent: &str) {
         println!("{indent}- primitive #{}: {:?}", primitive.index(), primitive.mode());
         for (semantic, accessor) in primitive.attributes() {
             let (count, dimensions) = (accessor.count(), accessor.dimensions());
-            println!("{indent}  {semantic:?}: {count} of {dimensions:?} {:?}", accessor.data_type());
+            println!(
+                "{indent}  {semantic:?}: {count} of {dimensions:?} {:?}",
+                accessor.data_type()
+            );
         }
         let reader = primitive.reader(|buffer| Some(&buffers[buffer.index()]));
         if let Some(position) = reader.read_positions().and_then(|mut it| it.next()) {

@@ -54,8 +54,8 @@ impl<'a> Buffer<'a> {
         self.info.byte_length
     }
 
-    /// Its bytes, in place, filled up with zeros to a multiple of four. Each buffer of a document has
-    /// them; the crate `gltf` wants an `Option` in closures.
+    /// Its bytes, in place, filled up with zeros to a multiple of four. Each buffer of a document
+    /// has them; the crate `gltf` wants an `Option` in closures.
     pub fn bytes(&self) -> Option<&'a [u8]> {
         // SAFETY: gltf.h says that there are `size` bytes at the pointer.
         unsafe { self.document.file().lent(self.info.bytes, self.info.size) }

@@ -122,9 +122,10 @@ impl Document {
     pub(crate) fn material(&self, index: Option<usize>) -> &sys::gltf_material {
         let file = self.file();
         match index {
-            Some(index) => self.held.materials.get(file.count(sys::GLTF_MATERIALS), index, || {
-                Box::new(file.info(index))
-            }),
+            Some(index) => self
+                .held
+                .materials
+                .get(file.count(sys::GLTF_MATERIALS), index, || Box::new(file.info(index))),
             None => self.held.default_material.get_or_init(|| Box::new(file.info(sys::GLTF_NONE))),
         }
     }

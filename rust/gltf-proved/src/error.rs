@@ -93,8 +93,8 @@ pub enum Error {
     ExternalFile(Fault, io::Error),
     /// A URI has a scheme that is neither `data` nor `file`.
     UnsupportedScheme(Fault),
-    /// The items of an accessor cannot be read, since they are not inside their view, or the view is
-    /// not inside its buffer.
+    /// The items of an accessor cannot be read, since they are not inside their view, or the view
+    /// is not inside its buffer.
     Unreadable(Fault),
     /// The items of an accessor are not of the type that was asked for.
     OtherType(Fault),

@@ -8,8 +8,8 @@ use std::ptr::{self, NonNull};
 use crate::error::{Error, Result};
 use crate::sys::{self, gltf_file, gltf_status};
 
-/// The version of the library: major, minor, patch. It works with this crate if its major version is
-/// 2 and it is not older than 2.0.0.
+/// The version of the library: major, minor, patch. It works with this crate if its major version
+/// is 2 and it is not older than 2.0.0.
 pub fn library_version() -> (u32, u32, u32) {
     // SAFETY: the call takes nothing and changes nothing.
     let number = unsafe { sys::gltf_version() };
@@ -137,9 +137,7 @@ impl File {
     /// Supplies the bytes of a buffer that waits.
     pub(crate) fn give(&mut self, buffer: usize, bytes: &[u8]) -> gltf_status {
         // SAFETY: the file is open and nothing else uses it; the bytes are copied by the call.
-        unsafe {
-            sys::gltf_give(self.at.as_ptr(), buffer, bytes.as_ptr().cast(), bytes.len())
-        }
+        unsafe { sys::gltf_give(self.at.as_ptr(), buffer, bytes.as_ptr().cast(), bytes.len()) }
     }
 
     /// How many records of a kind there are.
@@ -303,8 +301,8 @@ impl File {
 
     /// Lends bytes of the file; none where the pointer is NULL.
     ///
-    /// # Safety
-    /// The pointer is NULL, or a pointer that the library gave of this file, to so many bytes there.
+    /// # Safety The pointer is NULL, or a pointer that the library gave of this file, to so many
+    /// bytes there.
     pub(crate) unsafe fn lent(&self, bytes: *const u8, size: usize) -> Option<&[u8]> {
         // SAFETY: gltf.h says that they stay until gltf_close, which comes after all borrows of
         // `self`. They are not written: gltf_give only adds bytes to buffers that had none.
@@ -322,18 +320,17 @@ fn found<T>(status: gltf_status, value: T) -> Option<T> {
 }
 
 /// The text that a call copies. The call gets the room for it, twice.
-fn text_of_call(
-    call: impl Fn(*mut c_char, usize, *mut usize) -> gltf_status,
-) -> Option<String> {
+fn text_of_call(call: impl Fn(*mut c_char, usize, *mut usize) -> gltf_status) -> Option<String> {
     let mut length = 0;
     found(call(ptr::null_mut(), 0, &mut length), ())?;
     let mut text = vec![0; length + 1];
     done(call(text.as_mut_ptr().cast(), text.len(), &mut length));
     text.truncate(length);
     // The texts of the library are UTF-8.
-    Some(String::from_utf8(text).unwrap_or_else(|why| {
-        String::from_utf8_lossy(why.as_bytes()).into_owned()
-    }))
+    Some(
+        String::from_utf8(text)
+            .unwrap_or_else(|why| String::from_utf8_lossy(why.as_bytes()).into_owned()),
+    )
 }
 
 /// The list that a call copies.

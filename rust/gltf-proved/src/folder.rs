@@ -5,8 +5,8 @@ use std::path::{Component, Path, PathBuf};
 
 /// Gives the bytes of the files in a folder, by the URIs of a document.
 ///
-/// A URI leads no further up than the folder, also through a symbolic link: `..`, absolute paths and
-/// schemes are refused, unless what is outside is allowed. Escapes as `%20` are decoded first.
+/// A URI leads no further up than the folder, also through a symbolic link: `..`, absolute paths
+/// and schemes are refused, unless what is outside is allowed. Escapes as `%20` are decoded first.
 #[derive(Clone, Debug)]
 pub struct Folder {
     path: PathBuf,

@@ -1,6 +1,6 @@
-//! Reads glTF 2.0 files by a loader that is proved: no file can crash it, and it accepts exactly the
-//! files that its definition of the format accepts. The loader is a library for C, `libgltf`; this
-//! crate is safe Rust over it, with the names of the crate `gltf`.
+//! Reads glTF 2.0 files by a loader that is proved: no file can crash it, and it accepts exactly
+//! the files that its definition of the format accepts. The loader is a library for C, `libgltf`;
+//! this crate is safe Rust over it, with the names of the crate `gltf`.
 //!
 //! ```no_run
 //! use gltf_proved as gltf;

@@ -29,8 +29,8 @@ impl Options {
         Options::default()
     }
 
-    /// The name of an extension that the caller handles: a file that requires it is accepted. A name
-    /// with a zero byte is that of no extension.
+    /// The name of an extension that the caller handles: a file that requires it is accepted. A
+    /// name with a zero byte is that of no extension.
     pub fn extension(mut self, name: &str) -> Options {
         self.extensions.extend(CString::new(name));
         self
@@ -56,8 +56,8 @@ impl Options {
         File::open(bytes, false, &self.extensions).map(Document::of_file)
     }
 
-    /// Opens a file that is in memory. Of each buffer in another file, `resolve` gets the URI, as it
-    /// is in the file, and returns the bytes. [`Folder`] is one that reads them. An error of the
+    /// Opens a file that is in memory. Of each buffer in another file, `resolve` gets the URI, as
+    /// it is in the file, and returns the bytes. [`Folder`] is one that reads them. An error of the
     /// kind [`io::ErrorKind::PermissionDenied`] that is not the system's means that the file must
     /// not be read.
     pub fn from_slice_with<F>(&self, bytes: &[u8], mut resolve: F) -> Result<Document>
@@ -79,8 +79,7 @@ impl Options {
 
 /// The error of a buffer whose file was not read.
 fn not_read(buffer: usize, uri: &str, why: io::Error) -> Error {
-    let is_refused =
-        why.kind() == io::ErrorKind::PermissionDenied && why.raw_os_error().is_none();
+    let is_refused = why.kind() == io::ErrorKind::PermissionDenied && why.raw_os_error().is_none();
     if is_refused {
         let message = format!("buffer {buffer}: `{uri}` is not read: {why}");
         return Error::ExternalReference(Fault::of_buffer(

@@ -1,7 +1,7 @@
 //! What the handles of all kinds of records have.
 
-/// Makes the handle of a kind of records: its type, the struct of the library that it holds, and the
-/// number of the kind.
+/// Makes the handle of a kind of records: its type, the struct of the library that it holds, and
+/// the number of the kind.
 macro_rules! record {
     ($(#[$about:meta])* $name:ident: $info:ident, $kind:ident) => {
         $(#[$about])*

@@ -1,6 +1,6 @@
 //! `gltf.h`, the header of the library for C, version 2: its structs, numbers and calls by their
-//! names there. This is the one place where they are declared. `tools/rust.py` compares each of them
-//! with the header.
+//! names there. This is the one place where they are declared. `tools/rust.py` compares each of
+//! them with the header.
 #![allow(non_camel_case_types)]
 // All of the header is here, whether this crate uses it or not.
 #![allow(dead_code)]
@@ -376,36 +376,182 @@ pub struct gltf_light {
 
 extern "C" {
     pub fn gltf_version() -> u32;
-    pub fn gltf_open(bytes: *const c_void, size: usize, options: *const gltf_open_options, file: *mut *mut gltf_file, fault: *mut gltf_fault) -> gltf_status;
-    pub fn gltf_give(file: *mut gltf_file, index: usize, bytes: *const c_void, size: usize) -> gltf_status;
+    pub fn gltf_open(
+        bytes: *const c_void,
+        size: usize,
+        options: *const gltf_open_options,
+        file: *mut *mut gltf_file,
+        fault: *mut gltf_fault,
+    ) -> gltf_status;
+    pub fn gltf_give(
+        file: *mut gltf_file,
+        index: usize,
+        bytes: *const c_void,
+        size: usize,
+    ) -> gltf_status;
     pub fn gltf_close(file: *mut gltf_file);
     pub fn gltf_count(file: *const gltf_file, kind: u32) -> usize;
-    pub fn gltf_name(file: *const gltf_file, kind: u32, index: usize, text: *mut c_char, room: usize, length: *mut usize) -> gltf_status;
-    pub fn gltf_text(file: *const gltf_file, what: u32, index: usize, text: *mut c_char, room: usize, length: *mut usize) -> gltf_status;
-    pub fn gltf_json(file: *const gltf_file, kind: u32, index: usize, part: usize, extension: *const c_char, extension_size: usize, text: *mut c_char, room: usize, length: *mut usize) -> gltf_status;
-    pub fn gltf_list(file: *const gltf_file, what: u32, index: usize, out: *mut usize, room: usize, count: *mut usize) -> gltf_status;
-    pub fn gltf_numbers(file: *const gltf_file, what: u32, index: usize, out: *mut f64, room: usize, count: *mut usize) -> gltf_status;
-    pub fn gltf_buffer_info(file: *const gltf_file, index: usize, out: *mut gltf_buffer) -> gltf_status;
-    pub fn gltf_buffer_view_info(file: *const gltf_file, index: usize, out: *mut gltf_buffer_view) -> gltf_status;
-    pub fn gltf_accessor_info(file: *const gltf_file, index: usize, out: *mut gltf_accessor) -> gltf_status;
-    pub fn gltf_accessor_read(file: *const gltf_file, index: usize, out: *mut c_void, room: usize) -> gltf_status;
-    pub fn gltf_accessor_read_u32(file: *const gltf_file, index: usize, out: *mut u32, room: usize) -> gltf_status;
-    pub fn gltf_mesh_info(file: *const gltf_file, index: usize, out: *mut gltf_mesh) -> gltf_status;
-    pub fn gltf_primitive_info(file: *const gltf_file, mesh: usize, primitive: usize, out: *mut gltf_primitive) -> gltf_status;
-    pub fn gltf_attribute_info(file: *const gltf_file, mesh: usize, primitive: usize, target: usize, position: usize, out: *mut gltf_attribute) -> gltf_status;
-    pub fn gltf_attribute_name(file: *const gltf_file, mesh: usize, primitive: usize, target: usize, position: usize, text: *mut c_char, room: usize, length: *mut usize) -> gltf_status;
-    pub fn gltf_attribute_find(file: *const gltf_file, mesh: usize, primitive: usize, target: usize, meaning: u32, set: u32, accessor: *mut usize) -> gltf_status;
-    pub fn gltf_variant_material(file: *const gltf_file, mesh: usize, primitive: usize, variant: usize, material: *mut usize) -> gltf_status;
-    pub fn gltf_material_info(file: *const gltf_file, index: usize, out: *mut gltf_material) -> gltf_status;
-    pub fn gltf_sampler_info(file: *const gltf_file, index: usize, out: *mut gltf_sampler) -> gltf_status;
-    pub fn gltf_texture_info(file: *const gltf_file, index: usize, out: *mut gltf_texture) -> gltf_status;
-    pub fn gltf_image_info(file: *const gltf_file, index: usize, out: *mut gltf_image) -> gltf_status;
+    pub fn gltf_name(
+        file: *const gltf_file,
+        kind: u32,
+        index: usize,
+        text: *mut c_char,
+        room: usize,
+        length: *mut usize,
+    ) -> gltf_status;
+    pub fn gltf_text(
+        file: *const gltf_file,
+        what: u32,
+        index: usize,
+        text: *mut c_char,
+        room: usize,
+        length: *mut usize,
+    ) -> gltf_status;
+    pub fn gltf_json(
+        file: *const gltf_file,
+        kind: u32,
+        index: usize,
+        part: usize,
+        extension: *const c_char,
+        extension_size: usize,
+        text: *mut c_char,
+        room: usize,
+        length: *mut usize,
+    ) -> gltf_status;
+    pub fn gltf_list(
+        file: *const gltf_file,
+        what: u32,
+        index: usize,
+        out: *mut usize,
+        room: usize,
+        count: *mut usize,
+    ) -> gltf_status;
+    pub fn gltf_numbers(
+        file: *const gltf_file,
+        what: u32,
+        index: usize,
+        out: *mut f64,
+        room: usize,
+        count: *mut usize,
+    ) -> gltf_status;
+    pub fn gltf_buffer_info(
+        file: *const gltf_file,
+        index: usize,
+        out: *mut gltf_buffer,
+    ) -> gltf_status;
+    pub fn gltf_buffer_view_info(
+        file: *const gltf_file,
+        index: usize,
+        out: *mut gltf_buffer_view,
+    ) -> gltf_status;
+    pub fn gltf_accessor_info(
+        file: *const gltf_file,
+        index: usize,
+        out: *mut gltf_accessor,
+    ) -> gltf_status;
+    pub fn gltf_accessor_read(
+        file: *const gltf_file,
+        index: usize,
+        out: *mut c_void,
+        room: usize,
+    ) -> gltf_status;
+    pub fn gltf_accessor_read_u32(
+        file: *const gltf_file,
+        index: usize,
+        out: *mut u32,
+        room: usize,
+    ) -> gltf_status;
+    pub fn gltf_mesh_info(file: *const gltf_file, index: usize, out: *mut gltf_mesh)
+        -> gltf_status;
+    pub fn gltf_primitive_info(
+        file: *const gltf_file,
+        mesh: usize,
+        primitive: usize,
+        out: *mut gltf_primitive,
+    ) -> gltf_status;
+    pub fn gltf_attribute_info(
+        file: *const gltf_file,
+        mesh: usize,
+        primitive: usize,
+        target: usize,
+        position: usize,
+        out: *mut gltf_attribute,
+    ) -> gltf_status;
+    pub fn gltf_attribute_name(
+        file: *const gltf_file,
+        mesh: usize,
+        primitive: usize,
+        target: usize,
+        position: usize,
+        text: *mut c_char,
+        room: usize,
+        length: *mut usize,
+    ) -> gltf_status;
+    pub fn gltf_attribute_find(
+        file: *const gltf_file,
+        mesh: usize,
+        primitive: usize,
+        target: usize,
+        meaning: u32,
+        set: u32,
+        accessor: *mut usize,
+    ) -> gltf_status;
+    pub fn gltf_variant_material(
+        file: *const gltf_file,
+        mesh: usize,
+        primitive: usize,
+        variant: usize,
+        material: *mut usize,
+    ) -> gltf_status;
+    pub fn gltf_material_info(
+        file: *const gltf_file,
+        index: usize,
+        out: *mut gltf_material,
+    ) -> gltf_status;
+    pub fn gltf_sampler_info(
+        file: *const gltf_file,
+        index: usize,
+        out: *mut gltf_sampler,
+    ) -> gltf_status;
+    pub fn gltf_texture_info(
+        file: *const gltf_file,
+        index: usize,
+        out: *mut gltf_texture,
+    ) -> gltf_status;
+    pub fn gltf_image_info(
+        file: *const gltf_file,
+        index: usize,
+        out: *mut gltf_image,
+    ) -> gltf_status;
     pub fn gltf_default_scene(file: *const gltf_file, scene: *mut usize) -> gltf_status;
-    pub fn gltf_scene_info(file: *const gltf_file, index: usize, out: *mut gltf_scene) -> gltf_status;
-    pub fn gltf_node_info(file: *const gltf_file, index: usize, out: *mut gltf_node) -> gltf_status;
-    pub fn gltf_skin_info(file: *const gltf_file, index: usize, out: *mut gltf_skin) -> gltf_status;
-    pub fn gltf_animation_info(file: *const gltf_file, index: usize, out: *mut gltf_animation) -> gltf_status;
-    pub fn gltf_channel_info(file: *const gltf_file, animation: usize, channel: usize, out: *mut gltf_channel) -> gltf_status;
-    pub fn gltf_camera_info(file: *const gltf_file, index: usize, out: *mut gltf_camera) -> gltf_status;
-    pub fn gltf_light_info(file: *const gltf_file, index: usize, out: *mut gltf_light) -> gltf_status;
+    pub fn gltf_scene_info(
+        file: *const gltf_file,
+        index: usize,
+        out: *mut gltf_scene,
+    ) -> gltf_status;
+    pub fn gltf_node_info(file: *const gltf_file, index: usize, out: *mut gltf_node)
+        -> gltf_status;
+    pub fn gltf_skin_info(file: *const gltf_file, index: usize, out: *mut gltf_skin)
+        -> gltf_status;
+    pub fn gltf_animation_info(
+        file: *const gltf_file,
+        index: usize,
+        out: *mut gltf_animation,
+    ) -> gltf_status;
+    pub fn gltf_channel_info(
+        file: *const gltf_file,
+        animation: usize,
+        channel: usize,
+        out: *mut gltf_channel,
+    ) -> gltf_status;
+    pub fn gltf_camera_info(
+        file: *const gltf_file,
+        index: usize,
+        out: *mut gltf_camera,
+    ) -> gltf_status;
+    pub fn gltf_light_info(
+        file: *const gltf_file,
+        index: usize,
+        out: *mut gltf_light,
+    ) -> gltf_status;
 }

@@ -138,10 +138,7 @@ fn the_triangle_has_sparse_corners() {
     assert_eq!(mesh.weights(), Some(&[0.0][..]));
     assert_eq!(document.meshes().nth(1).unwrap().weights(), None);
     let node = document.nodes().nth(1).unwrap();
-    assert!(matches!(
-        node.transform(),
-        Transform::Decomposed { translation: [2.0, 0.0, 0.0], .. }
-    ));
+    assert!(matches!(node.transform(), Transform::Decomposed { translation: [2.0, 0.0, 0.0], .. }));
 }
 
 #[test]

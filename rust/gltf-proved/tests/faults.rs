@@ -171,13 +171,19 @@ fn an_accessor_that_does_not_fit_is_told() {
 
 #[test]
 fn a_count_without_bytes_is_no_memory() {
-    let members = r#","bufferViews":[{"buffer":0,"byteLength":4},{"buffer":0,"byteLength":4}],
-        "accessors":[{"componentType":5126,"count":4503599627370496,"type":"MAT4","sparse":{
-            "count":1,"indices":{"bufferView":0,"componentType":5121},
-            "values":{"bufferView":1}}}]"#;
-    let document = document_of(members, &[0; 4]).unwrap();
-    let accessor = document.accessors().next().unwrap();
-    assert!(matches!(accessor.read_bytes(), Err(Error::NoMemory)));
-    assert!(matches!(accessor.read::<[f32; 16]>(), Err(Error::NoMemory)));
-    assert!(accessor.items::<[f32; 16]>().is_none());
+    for count in ["4503599627370496", "18446744073709551615"] {
+        let members = format!(
+            r#","bufferViews":[{{"buffer":0,"byteLength":4}},{{"buffer":0,"byteLength":4}}],
+            "accessors":[{{"componentType":5126,"count":{count},"type":"MAT4","sparse":{{
+            "count":1,"indices":{{"bufferView":0,"componentType":5121}},
+            "values":{{"bufferView":1}}}}}}]"#
+        );
+        let document = document_of(&members, &[0; 4]).unwrap();
+        let accessor = document.accessors().next().unwrap();
+        assert!(accessor.bytes().is_none() && accessor.slice::<[f32; 16]>().is_none());
+        assert!(matches!(accessor.read_bytes(), Err(Error::NoMemory)));
+        assert!(matches!(accessor.read::<[f32; 16]>(), Err(Error::NoMemory)));
+        assert!(matches!(accessor.read_u32(), Err(Error::NoMemory)));
+        assert!(accessor.items::<[f32; 16]>().is_none());
+    }
 }

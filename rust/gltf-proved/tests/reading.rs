@@ -24,7 +24,8 @@ fn attribute(name: &str, component_type: u32, kind: &str, data: &[u8], more: &st
 
 #[test]
 fn colours_are_cast() {
-    let document = attribute("COLOR_1", 5121, "VEC3", &[0, 128, 255, 7, 1, 2, 3, 9], ",\"byteStride\":4");
+    let document =
+        attribute("COLOR_1", 5121, "VEC3", &[0, 128, 255, 7, 1, 2, 3, 9], ",\"byteStride\":4");
     let primitive = document.meshes().next().unwrap().primitives().next().unwrap();
     let reader = primitive.reader(|buffer| buffer.bytes());
     let colors = reader.read_colors(1).unwrap();
@@ -190,13 +191,14 @@ fn lists_are_iterators_of_known_length() {
     let document = Document::open(example("triangle.gltf")).unwrap();
     let mut nodes = document.nodes();
     assert_eq!((nodes.len(), nodes.size_hint()), (2, (2, Some(2))));
-    assert_eq!(nodes.clone().rev().next().unwrap().name(), Some("Raised"));
+    assert_eq!(nodes.clone().next_back().unwrap().name(), Some("Raised"));
     assert_eq!(nodes.nth(1).unwrap().name(), Some("Raised"));
     assert_eq!((nodes.len(), nodes.next().is_none()), (0, true));
     let roots: Vec<_> = document.scenes().next().unwrap().nodes().map(|it| it.index()).collect();
     assert_eq!(roots, [0, 1]);
     let document = Document::from_slice(&file("c/tests/rig.gltf")).unwrap();
-    let children: Vec<_> = document.nodes().next().unwrap().children().map(|it| it.index()).collect();
+    let children: Vec<_> =
+        document.nodes().next().unwrap().children().map(|it| it.index()).collect();
     assert_eq!(children, [2, 1]);
     assert_eq!(document.scenes().next().unwrap().name(), Some("Bühne"));
     assert_eq!(document.nodes().nth(2).unwrap().weights(), Some(&[0.25, 1.0][..]));

@@ -61,14 +61,10 @@ fn mutated(bytes: &[u8], numbers: &mut Numbers) -> Vec<u8> {
 
 #[test]
 fn mutated_files_are_read_from_four_threads() {
-    let sources: Vec<Vec<u8>> = [
-        "examples/box.glb",
-        "examples/triangle.gltf",
-        "c/tests/rig.gltf",
-        "c/tests/surface.gltf",
-    ]
-    .map(file)
-    .into();
+    let sources: Vec<Vec<u8>> =
+        ["examples/box.glb", "examples/triangle.gltf", "c/tests/rig.gltf", "c/tests/surface.gltf"]
+            .map(file)
+            .into();
     let read: usize = thread::scope(|scope| {
         let work = |seed: u64| {
             let (sources, mut numbers) = (&sources, Numbers(seed * 7919 + 1));

@@ -9,8 +9,8 @@ mod sealed {
     pub trait Plain {}
 }
 
-/// What an item can be read as: a number of a component type, or an array of them. Those of matrices
-/// are arrays of columns.
+/// What an item can be read as: a number of a component type, or an array of them. Those of
+/// matrices are arrays of columns.
 pub trait Item: Copy + sealed::Plain {
     /// The type of the components.
     const DATA_TYPE: DataType;

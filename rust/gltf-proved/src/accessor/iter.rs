@@ -59,8 +59,8 @@ impl<'a> Items<'a> {
     }
 }
 
-/// Visits the items of an accessor, with the sparse ones applied. Nothing is copied where they are in
-/// the file as they are.
+/// Visits the items of an accessor, with the sparse ones applied. Nothing is copied where they are
+/// in the file as they are.
 #[derive(Clone)]
 pub struct Iter<'a, T> {
     items: Items<'a>,
@@ -77,8 +77,8 @@ impl<'a, T: Item> Iter<'a, T> {
         CastingIter::new(self.items, cast)
     }
 
-    /// The items of an accessor; None where they are of another type or cannot be read. The bytes are
-    /// those of the document: the function is never called, and is there for programs that were
+    /// The items of an accessor; None where they are of another type or cannot be read. The bytes
+    /// are those of the document: the function is never called, and is there for programs that were
     /// written for the crate `gltf`.
     pub fn new<'s, F>(accessor: Accessor<'a>, _get_buffer_data: F) -> Option<Self>
     where

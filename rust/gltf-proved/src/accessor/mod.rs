@@ -52,8 +52,8 @@ impl<'a> Accessor<'a> {
         self.info.stride
     }
 
-    /// How many items there are, as the file says it. An accessor that is sparse and has no view may
-    /// state any number: look at it before you read all items of a file that you do not trust.
+    /// How many items there are, as the file says it. An accessor that is sparse and has no view
+    /// may state any number: look at it before you read all items of a file that you do not trust.
     pub fn count(&self) -> usize {
         self.info.count
     }
@@ -93,10 +93,13 @@ impl<'a> Accessor<'a> {
         (self.info.sparse > 0).then_some(Sparse { count: self.info.sparse })
     }
 
-    /// The bytes of the file from the first item to the end of the last one, in place. Item i begins
-    /// at i * [`Accessor::stride`]. None where the items are not in the file as they are: they are
-    /// sparse or padded inside, or have no view that holds them.
+    /// The bytes of the file from the first item to the end of the last one, in place. Item i
+    /// begins at i * [`Accessor::stride`]. None where the items are not in the file as they are:
+    /// they are sparse or padded inside, or have no view that holds them.
     pub fn bytes(&self) -> Option<&'a [u8]> {
+        if self.info.data.is_null() {
+            return None;
+        }
         let size = match self.info.count {
             0 => 0,
             count => (count - 1) * self.info.stride + self.info.item_size,

@@ -28,7 +28,8 @@ pub enum Rotations<'a> {
     F32(Iter<'a, [f32; 4]>),
 }
 
-/// Weights of morph targets, as the file stores them: for each keyframe as many as there are targets.
+/// Weights of morph targets, as the file stores them: for each keyframe as many as there are
+/// targets.
 #[derive(Clone, Debug)]
 pub enum MorphTargetWeights<'a> {
     /// Of 8 bits.

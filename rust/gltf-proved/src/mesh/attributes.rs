@@ -181,12 +181,7 @@ pub struct MorphTargets<'a> {
 }
 
 impl<'a> MorphTargets<'a> {
-    pub(super) fn new(
-        document: &'a Document,
-        mesh: usize,
-        primitive: usize,
-        count: usize,
-    ) -> Self {
+    pub(super) fn new(document: &'a Document, mesh: usize, primitive: usize, count: usize) -> Self {
         MorphTargets { document, mesh, primitive, left: 0..count }
     }
 }

@@ -114,8 +114,8 @@ impl<'a> Primitive<'a> {
         self.index
     }
 
-    /// The least and the greatest position, as the accessor of the positions states them. None where
-    /// it does not: no rule asks for them.
+    /// The least and the greatest position, as the accessor of the positions states them. None
+    /// where it does not: no rule asks for them.
     pub fn bounding_box(&self) -> Option<BoundingBox> {
         let accessor = self.get(&Semantic::Positions)?;
         let floats = |numbers: Vec<f64>| match numbers[..] {

@@ -7,8 +7,8 @@ use super::{Primitive, Semantic};
 use crate::Buffer;
 
 /// Reads the attributes and the indices of a primitive. A method returns None where the primitive
-/// has not what it reads, where that is of a type that the format does not allow there, and where it
-/// cannot be read ([`Accessor::read`](crate::Accessor::read) says why).
+/// has not what it reads, where that is of a type that the format does not allow there, and where
+/// it cannot be read ([`Accessor::read`](crate::Accessor::read) says why).
 #[derive(Clone, Debug)]
 pub struct Reader<'a> {
     primitive: Primitive<'a>,

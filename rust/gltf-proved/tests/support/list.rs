@@ -1,5 +1,5 @@
-//! Prints all that a file holds, a line each, as c/tests/expected.py has it: `list FILE`. Floats are
-//! printed as the digits of their bits. tools/rust.py compares the lines.
+//! Prints all that a file holds, a line each, as c/tests/expected.py has it: `list FILE`. Floats
+//! are printed as the digits of their bits. tools/rust.py compares the lines.
 use gltf_proved as gltf;
 use gltf_proved::animation::{Interpolation, Property};
 use gltf_proved::camera::Projection;
