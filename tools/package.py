@@ -58,8 +58,8 @@ def proof(words):
     last = gate_record.result(sources)
     if NO_GATE not in words and not gate_record.has_passed(last):
         raise Refused(
-            f"the gate has not passed on this tree ({last or 'it was not run'}): make test runs it. "
-            f"WORDS={NO_GATE} packs nevertheless, and PROOF.txt says so")
+            f"the gate has not passed on this tree ({last or 'it was not run'}): make test runs "
+            f"it. WORDS={NO_GATE} packs nevertheless, and PROOF.txt says so")
     return PROOF.format(version=version(), tree=tree, gate=last or "was not run on this tree",
                         toolchain=gate_record.toolchain() or "there is no rt").encode()
 

@@ -509,7 +509,8 @@ def holds(test, *given):
     except Lacking as why:
         print(f"packages: {name}: not tried, since {why}", flush=True)
         return None
-    except (AssertionError, subprocess.CalledProcessError, LookupError, TypeError, OSError) as why:
+    except (AssertionError, subprocess.SubprocessError, package.Refused, LookupError, TypeError,
+            OSError) as why:
         print(f"packages: {name}: FAILED: {why}", flush=True)
         return False
     print(f"packages: {name}: ok", flush=True)
