@@ -22,6 +22,7 @@ import argparse
 import collections
 import concurrent.futures
 import csv
+import importlib.util
 import json
 import os
 import pathlib
@@ -80,11 +81,13 @@ def by_dask(paths, address, workers):
         cluster = LocalCluster(n_workers=workers, threads_per_worker=1, dashboard_address=None)
     client = Client(address or cluster)
     try:
-        tasks = client.map(check, paths, retries=TRIES - 1, pure=False)
+        # A worker has a folder of its own.
+        places = [os.path.abspath(path) for path in paths]
+        tasks = client.map(check, places, retries=TRIES - 1, pure=False)
         path_of = {task.key: path for task, path in zip(tasks, paths)}
         for task, line in as_completed(tasks, with_results=True, raise_errors=False):
-            is_lost = task.status != "finished"
-            yield without_report(path_of[task.key], task.exception()) if is_lost else line
+            path, is_done = path_of[task.key], task.status == "finished"
+            yield [path, *line[1:]] if is_done else without_report(path, task.exception())
     finally:
         client.close()
         if cluster is not None:
@@ -142,6 +145,9 @@ def main():
     words = reader.parse_args()
     if not words.places and not words.list:
         reader.error("a folder or a file is missing")
+    is_here = not (words.reports or words.dask or words.dask_workers)
+    if is_here and importlib.util.find_spec("gltf") is None:
+        reader.error("the package gltf is not installed")
     paths, began = paths_of(words.places, words.list), time.perf_counter()
     if words.reports:
         lines = by_reports(paths, words.reports)

@@ -5,9 +5,9 @@
 
 It has the programs, the library for C, manual pages and completion below bin/, lib/, include/ and
 share/, which can be copied to any prefix; README.md, docs/, examples/ and the licences; PROOF.txt,
-which says what was proved by what; and SHA256SUMS of all. It is refused where something is not built of the
-present sources, or the gate has not passed on them; with --no-gate PROOF.txt says so instead. The
-same tree, with the same programs and library, gives the same bytes."""
+which says what was proved by what; and SHA256SUMS of all. It is refused where something is not
+built of the present sources, or the gate has not passed on them; with --no-gate PROOF.txt says so
+instead. The same tree, with the same programs and library, gives the same bytes."""
 import gzip
 import hashlib
 import io

@@ -1,7 +1,8 @@
 """What is known of the last run of the gate: out/gate.json, which tools/gate.py writes at its end.
 
-It has the tree that the gate ran on, the toolchain, and the gate's last line. A tree is named as git
-names it: that of the files as they are, committed or not, without those that .gitignore names."""
+It has the tree that the gate ran on, the toolchain, and the gate's last line. A tree is named as
+git names it: that of the files as they are, committed or not, without those that .gitignore names.
+"""
 import json
 import os
 import re
@@ -11,7 +12,7 @@ import tempfile
 import crates
 
 RECORD = crates.TOP / "out" / "gate.json"
-# The page that the gate itself writes, after its tests: a tree that differs in it alone is the same.
+# The page that the gate itself writes, after its tests: trees that differ in it alone are the same.
 PAGE = "docs/GATE.md"
 
 

@@ -22,9 +22,9 @@ tree:      {tree}
 gate:      {gate}
 
 `toolchain` is what `rt version` prints. `tree` is the tree of the sources, as `git rev-parse
-HEAD^{{tree}}` prints it. `gate` is the last line of `make test` on that tree by that toolchain,
-which proves everything from nothing and runs all tests. docs/PROVED.md of the sources says what is
-proved, and docs/TRUST.md what has to be believed.
+HEAD^{{tree}}` prints it. `gate` is the last line of tools/gate.py on that tree by that toolchain:
+`make test` runs it, and it proves all crates and runs all tests. docs/PROVED.md of the sources says
+what is proved, and docs/TRUST.md what has to be believed.
 """
 
 
@@ -58,8 +58,8 @@ def proof(words):
     last = gate_record.result(sources)
     if NO_GATE not in words and not gate_record.has_passed(last):
         raise Refused(
-            f"the gate has not passed on this tree ({last or 'it was not run'}): make test runs it. "
-            f"WORDS={NO_GATE} packs nevertheless, and PROOF.txt says so")
+            f"the gate has not passed on this tree ({last or 'it was not run'}): make test runs "
+            f"it. WORDS={NO_GATE} packs nevertheless, and PROOF.txt says so")
     return PROOF.format(version=version(), tree=tree, gate=last or "was not run on this tree",
                         toolchain=gate_record.toolchain() or "there is no rt").encode()
 

@@ -1,4 +1,4 @@
-"""Where the proved programs are installed, each with its manual page and its completion for bash."""
+"""Where the proved programs are installed, each with its manual page and completion for bash."""
 import c_install
 import crates
 
