@@ -52,9 +52,14 @@ def names_of_members():
     return sorted(names)
 
 
+# Three positions, three indices, of each vertex its joints and their weights, and of each joint its
+# inverse matrix.
+DATA = struct.pack("<9f3HH", *range(9), 0, 1, 2, 0) + bytes(12) + struct.pack("<4f", 1, 0, 0, 0) * 3
+DATA += struct.pack("<16f", 1, 0, 0, 0, 0, 1, 0, 0, 0, 0, 1, 0, 0, 0, 0, 1) * 2
+
+
 def whole():
     """A document with nearly every kind of record, and a buffer."""
-    data = struct.pack("<9f", *range(9)) + struct.pack("<3H", 0, 1, 2) + b"\0\0"
     return {
         "asset": {"version": "2.0", "generator": "soak"},
         "scene": 0,
@@ -62,8 +67,9 @@ def whole():
         "nodes": [{"mesh": 0, "children": [1, 2]}, {"camera": 0, "translation": [1, 2, 3]},
                   {"skin": 0, "mesh": 0, "matrix": [1, 0, 0, 0, 0, 1, 0, 0, 0, 0, 1, 0, 0, 0, 0, 1]}],
         "cameras": [{"type": "perspective", "perspective": {"yfov": 1, "znear": 0.1}}],
-        "skins": [{"joints": [1, 2]}],
-        "meshes": [{"primitives": [{"attributes": {"POSITION": 0}, "indices": 1, "material": 0,
+        "skins": [{"joints": [1, 2], "inverseBindMatrices": 5}],
+        "meshes": [{"primitives": [{"attributes": {"POSITION": 0, "JOINTS_0": 3, "WEIGHTS_0": 4},
+                                    "indices": 1, "material": 0,
                                     "targets": [{"POSITION": 0}]}], "weights": [0.5]}],
         "materials": [{"pbrMetallicRoughness": {"baseColorTexture": {"index": 0}},
                        "normalTexture": {"index": 0, "scale": 2},
@@ -81,11 +87,17 @@ def whole():
              "max": [2], "sparse": {
                  "count": 1, "indices": {"bufferView": 1, "componentType": 5123},
                  "values": {"bufferView": 0}}},
+            {"bufferView": 2, "componentType": 5121, "count": 3, "type": "VEC4"},
+            {"bufferView": 3, "componentType": 5126, "count": 3, "type": "VEC4"},
+            {"bufferView": 4, "componentType": 5126, "count": 2, "type": "MAT4"},
         ],
         "bufferViews": [{"buffer": 0, "byteLength": 36},
-                        {"buffer": 0, "byteOffset": 36, "byteLength": 6, "target": 34963}],
-        "buffers": [{"byteLength": 44, "uri": "data:application/octet-stream;base64,"
-                     + base64.b64encode(data).decode()}],
+                        {"buffer": 0, "byteOffset": 36, "byteLength": 6, "target": 34963},
+                        {"buffer": 0, "byteOffset": 44, "byteLength": 12},
+                        {"buffer": 0, "byteOffset": 56, "byteLength": 48},
+                        {"buffer": 0, "byteOffset": 104, "byteLength": 128}],
+        "buffers": [{"byteLength": len(DATA), "uri": "data:application/octet-stream;base64,"
+                     + base64.b64encode(DATA).decode()}],
         "extensionsUsed": ["KHR_materials_ior"],
     }
 
@@ -170,7 +182,7 @@ def made(number, seed, names, examples):
         if first and isinstance(first[0], dict):
             first[0].pop("uri", None)
             text = json.dumps(document).encode()
-    return ".glb", container(text, some.choice((None, bytes(44), bytes(range(44)))), some)
+    return ".glb", container(text, some.choice((None, bytes(len(DATA)), DATA)), some)
 
 
 def ran(words, room):
