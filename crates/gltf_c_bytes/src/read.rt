@@ -25,7 +25,7 @@ pub fn read(file: &File, index: usize, out: &mut [u8]) -> Status
 
 /// How a call of C reports whether items were written.
 fn status(written: Result<usize, NotWritten>) -> Status
-    ensures { result ≡ status_of written.entry }
+    ensures { result ≡ status_of written }
 {
     match written {
         Ok(_) => Status::Success,
