@@ -18,7 +18,7 @@ help:
 	@echo '  make show [CALL=chunks|check] [FILE=PATH]  shows the chunks of a GLB file, or checks a file'
 	@echo '  make prove                                 proves and builds the programs'
 	@echo '  make c [WORDS=--long]                      proves, builds and tests the library for C'
-	@echo '  make python [WORDS=--long]                 tries the package for Python, after make c'
+	@echo '  make python                                tries the package for Python, after make c'
 	@echo '  make wheel                                 writes the wheel of it to out/dist'
 	@echo '  make install [PREFIX=FOLDER] [DESTDIR=..] [LIBDIR=..] [INCLUDEDIR=..] [MANDIR=..]'
 	@echo '                                             installs the programs and that library'
@@ -94,7 +94,7 @@ test:
 	@python3 tools/gate.py
 
 python:
-	@python3 tools/python.py $(WORDS)
+	@python3 tools/python.py
 
 wheel:
 	@python3 tools/wheel.py

@@ -3,9 +3,8 @@
 
 It runs the tests of python/tests, makes the wheel, installs it into a fresh virtual environment,
 and runs there what python/README.md shows, in a folder with a copy of the examples. Tests with
-NumPy run where a Python with NumPy is found. With --long 10,000 mutated files are opened from four
-threads in place of 600. What a machine has no tool for is reported as not tried, and counts neither
-as passed nor as failed. The last line is `N passed, M failed`."""
+NumPy run where a Python with NumPy is found. What a machine has no tool for is reported as not
+tried, and counts neither as passed nor as failed. The last line is `N passed, M failed`."""
 import os
 import pathlib
 import re
@@ -46,12 +45,10 @@ def pythons():
     return found
 
 
-def test_package(is_long):
+def test_package():
     """The tests of python/tests, by each Python."""
     known = dict(os.environ, GLTF_LIBRARY=str(LIBRARY), PYTHONPATH=str(TOP / "python"),
                  PYTHONDONTWRITEBYTECODE="1")
-    if is_long:
-        known["GLTF_MUTATIONS"] = "10000"
     if PROGRAM.is_file():
         known["GLTF_SHOW"] = str(PROGRAM)
     for python in pythons():
@@ -103,7 +100,7 @@ def main():
         print("python.py: there is no out/c/libgltf.so.2; `make c` builds it", file=sys.stderr)
         print("0 passed, 1 failed")
         return 1
-    test_package("--long" in sys.argv[1:])
+    test_package()
     test_wheel()
     print(f"{counts['passed']} passed, {counts['failed']} failed")
     return 1 if counts["failed"] else 0

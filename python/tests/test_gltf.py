@@ -33,7 +33,7 @@ SPARSE = {
                    "sparse": {"count": 1, "indices": {"bufferView": 0, "componentType": 5121},
                               "values": {"bufferView": 1}}}]}
 # How many mutated files are opened, and in how many rounds.
-MUTATIONS, ROUNDS = int(os.environ.get("GLTF_MUTATIONS", "600")), 6
+MUTATIONS, ROUNDS = int(os.environ.get("GLTF_MUTATIONS", "10000")), 6
 
 
 def resident():
