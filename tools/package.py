@@ -22,9 +22,9 @@ tree:      {tree}
 gate:      {gate}
 
 `toolchain` is what `rt version` prints. `tree` is the tree of the sources, as `git rev-parse
-HEAD^{{tree}}` prints it. `gate` is the last line of `make test` on that tree by that toolchain,
-which proves everything from nothing and runs all tests. docs/PROVED.md of the sources says what is
-proved, and docs/TRUST.md what has to be believed.
+HEAD^{{tree}}` prints it. `gate` is the last line of tools/gate.py on that tree by that toolchain:
+`make test` runs it, and it proves all crates and runs all tests. docs/PROVED.md of the sources says
+what is proved, and docs/TRUST.md what has to be believed.
 """
 
 
