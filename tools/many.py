@@ -41,7 +41,7 @@ BROKEN = (
     (".gltf", document(buffers=buffers((5, FOUR[1]))), "BUFFER_BYTE_LENGTH_MISMATCH",
      "/buffers/0"),
     (".gltf", drawn(3, 0, 1, 3), "ACCESSOR_INDEX_OOB", INDICES),
-    # A report of 60 kB: lines of several processes must not mix.
+    # A report of some 100 kB.
     (".gltf", document(nodes=[{"mesh": 3}] * 400), "UNRESOLVED_REFERENCE", "/nodes/0/mesh"),
 )
 FINE = (
@@ -173,14 +173,16 @@ def test_xargs(room, wanted):
         not_tried("xargs", "there is no xargs or no find")
         return
     page = (crates.TOP / "docs" / "MANY-FILES.md").read_text("utf-8")
-    command = re.search(r"^\$ (find .*?reports\.jsonl)$", page, re.MULTILINE | re.DOTALL)[1]
-    command = command.replace("\n> ", "\n").replace("find assets", 'find "$0/files"')
+    shown = re.search(r"^\$ (mkdir reports\n.*?) sh\n\$ (cat .*?)$", page, re.MULTILINE | re.DOTALL)
+    command = re.sub(r"^[$>] ", "", f"{shown[1]} sh", flags=re.MULTILINE)
+    command = command.replace("find assets", 'find "$0/files"')
     known = environment(PATH=f"{PROGRAM.parent}:{os.environ['PATH']}")
     ran = subprocess.run(["sh", "-c", command, room], cwd=room, env=known, check=False,
                          stdout=subprocess.DEVNULL)
+    faults = [] if ran.returncode == 123 else [f"status {ran.returncode}"]
+    subprocess.run(["sh", "-c", shown[2]], cwd=room, check=True)
     reports = room / "reports.jsonl"
     lines = reports.read_text("utf-8").splitlines()
-    faults = [] if ran.returncode == 123 else [f"status {ran.returncode}"]
     if {json.loads(line)["uri"] for line in lines} != set(wanted) or len(lines) != len(wanted):
         faults.append("the reports are not one line of each file")
     note("reports by xargs", faults)
