@@ -22,6 +22,7 @@ import argparse
 import collections
 import concurrent.futures
 import csv
+import importlib.util
 import json
 import os
 import pathlib
@@ -142,6 +143,9 @@ def main():
     words = reader.parse_args()
     if not words.places and not words.list:
         reader.error("a folder or a file is missing")
+    is_here = not (words.reports or words.dask or words.dask_workers)
+    if is_here and importlib.util.find_spec("gltf") is None:
+        reader.error("the package gltf is not installed")
     paths, began = paths_of(words.places, words.list), time.perf_counter()
     if words.reports:
         lines = by_reports(paths, words.reports)
