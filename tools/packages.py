@@ -265,16 +265,17 @@ def installs_below_destdir():
 
 
 def is_built_and_run(root, prefix=""):
-    """A program in C is built over what is below a root by pkg-config and runs by the shared
-    library; so do the programs."""
+    """A program in C is built over what is below a root, by the shared library that pkg-config
+    names and by the archive, and runs; so do the programs."""
     need("pkg-config", "cc")
     lib = next(file.parent for file in pathlib.Path(f"{root}{prefix}").rglob("libgltf.so"))
     known = {**os.environ, "PKG_CONFIG_PATH": f"{lib}/pkgconfig", "LD_LIBRARY_PATH": str(lib),
              "PKG_CONFIG_ALLOW_SYSTEM_CFLAGS": "1", "PKG_CONFIG_ALLOW_SYSTEM_LIBS": "1"}
     same(ran("pkg-config", "--modversion", "gltf", env=known), package.version() + "\n")
-    flags = ran("pkg-config", "--cflags", "--libs", "gltf", env=known).split()
-    for how in ([], ["-static"]):
-        ran("cc", c_code.C / "show.c", *flags, *how, "-o", f"{root}/show", env=known)
+    include, link = (ran("pkg-config", it, "gltf", env=known).split() for it in
+                     ("--cflags", "--libs"))
+    for library in link, [f"{lib}/libgltf.a"]:
+        ran("cc", c_code.C / "show.c", *include, *library, "-o", f"{root}/show", env=known)
         same(ran(f"{root}/show", BOX, env=known), SHOWN)
     os.unlink(f"{root}/show")
     for name in crates.PROGRAMS:
@@ -435,9 +436,12 @@ def dpkg_installs_and_removes():
         root = pathlib.Path(room, "root")
         (root / "var/lib/dpkg/info").mkdir(parents=True)
         (root / "var/lib/dpkg/updates").mkdir()
-        about = ran("dpkg-query", "--status", "libc6").strip()
+        came = subprocess.run(["dpkg-query", "--status", "libc6"], stdout=subprocess.PIPE,
+                              stderr=subprocess.DEVNULL, text=True, check=False)
+        if came.returncode:
+            raise Lacking("dpkg knows no libc6")
         about = re.sub(r"^(Conffiles|Depends|Recommends|Suggests|Breaks|Replaces):.*\n(?: .*\n)*",
-                       "", about + "\n", flags=re.MULTILINE)
+                       "", came.stdout.strip() + "\n", flags=re.MULTILINE)
         (root / "var/lib/dpkg/status").write_text(about + "\n")
         (root / "var/lib/dpkg/info/format").write_text("1\n")
         (root / "var/lib/dpkg/info/libc6:amd64.list").write_text("/.\n")
