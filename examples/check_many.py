@@ -81,11 +81,13 @@ def by_dask(paths, address, workers):
         cluster = LocalCluster(n_workers=workers, threads_per_worker=1, dashboard_address=None)
     client = Client(address or cluster)
     try:
-        tasks = client.map(check, paths, retries=TRIES - 1, pure=False)
+        # A worker has a folder of its own.
+        places = [os.path.abspath(path) for path in paths]
+        tasks = client.map(check, places, retries=TRIES - 1, pure=False)
         path_of = {task.key: path for task, path in zip(tasks, paths)}
         for task, line in as_completed(tasks, with_results=True, raise_errors=False):
-            is_lost = task.status != "finished"
-            yield without_report(path_of[task.key], task.exception()) if is_lost else line
+            path, is_done = path_of[task.key], task.status == "finished"
+            yield [path, *line[1:]] if is_done else without_report(path, task.exception())
     finally:
         client.close()
         if cluster is not None:

@@ -60,6 +60,15 @@ case $name in
 esac
 exec "$GLTF_REAL" "$@"
 """
+# A cluster of two processes. It prints its address, and ends with its input.
+CLUSTER = """from dask.distributed import LocalCluster
+
+if __name__ == "__main__":
+    cluster = LocalCluster(n_workers=2, threads_per_worker=1, dashboard_address=None)
+    print(cluster.scheduler_address, flush=True)
+    input()
+    cluster.close()
+"""
 counts = {"passed": 0, "failed": 0}
 
 
@@ -111,11 +120,11 @@ def environment(**more):
             "PYTHONPATH": str(crates.TOP / "python"), "PYTHONDONTWRITEBYTECODE": "1", **more}
 
 
-def checked(words, table, python=sys.executable, **more):
+def checked(words, table, python=sys.executable, cwd=None):
     """What the script said, with the table that it wrote."""
     ran = subprocess.run([python, str(SCRIPT), *map(str, words), "--out", str(table)], check=False,
-                         env=environment(**more), stdout=subprocess.PIPE, stderr=subprocess.PIPE,
-                         text=True)
+                         env=environment(), cwd=cwd, stdout=subprocess.PIPE,
+                         stderr=subprocess.PIPE, text=True)
     lines = []
     if table.is_file():
         with open(table, newline="", encoding="utf-8") as held:
@@ -199,17 +208,28 @@ def test_dask(room, wanted, rates):
     for count in (1, 2, 4) if rates else (2,):
         ran, lines = checked([room / "files", "--dask-workers", count], room / "table.csv", python)
         note(f"the table by a Dask cluster of {count}", faults_of(ran, lines, wanted))
-    program, marks, flaky = room / "flaky.sh", room / "marks", room / "flaky"
-    program.write_text(FLAKY)
-    program.chmod(0o755)
-    marks.mkdir()
-    flaky.mkdir()
-    wanted = {}
+    test_tries(room, python)
+
+
+def test_tries(room, python):
+    """Checks that fail once, by a cluster that is there already and has another folder."""
+    for name, text in {"flaky.sh": FLAKY, "cluster.py": CLUSTER}.items():
+        (room / name).write_text(text)
+        (room / name).chmod(0o755)
+    wanted, marks = {}, room / "marks"
+    for folder in (marks, room / "flaky", room / "elsewhere"):
+        folder.mkdir()
     for name in [*(f"flaky{number}.glb" for number in range(8)), "killer.glb"]:
-        (flaky / name).write_bytes(BOX)
-        wanted[str(flaky / name)] = ["ok", "", ""]
-    ran, lines = checked([flaky, "--dask-workers", 2], room / "table.csv", python,
-                         GLTF_SHOW=str(program), GLTF_REAL=str(PROGRAM), GLTF_MARKS=str(marks))
+        (room / "flaky" / name).write_bytes(BOX)
+        wanted[f"flaky/{name}"] = ["ok", "", ""]
+    known = environment(GLTF_SHOW=str(room / "flaky.sh"), GLTF_REAL=str(PROGRAM),
+                        GLTF_MARKS=str(marks))
+    with subprocess.Popen([python, str(room / "cluster.py")], cwd=room / "elsewhere", env=known,
+                          stdin=subprocess.PIPE, stdout=subprocess.PIPE, text=True,
+                          stderr=subprocess.DEVNULL) as cluster:
+        address = cluster.stdout.readline().strip()
+        ran, lines = checked(["flaky", "--dask", address], room / "table.csv", python, cwd=room)
+        cluster.communicate("\n")
     faults = faults_of(ran, lines, wanted)
     note("Dask tries again what failed, and what a lost worker had",
          faults + ([] if len(os.listdir(marks)) == len(wanted) else ["not each failed once"]))
