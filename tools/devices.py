@@ -2,7 +2,7 @@
 """Runs the programs where the system fails them: a folder or a device for a file, a file that is
 cut while it is read, a pipe that ends early or that nobody reads, a closed output, a full disk, too
 little memory, a name that is too long, no permission. A row is a call with its status and its
-error; what a program writes is whole or not there. `make test` calls it after `rt ci`.
+error; what a program writes is whole or not there.
 
 A row whose device cannot be had on this machine is reported as not tried, and counts neither as
 passed nor as failed. The last line is `N passed, M failed`."""

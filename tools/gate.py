@@ -28,10 +28,7 @@ PARTS = (
     ["python3", "tools/refusals.py"],
     ["python3", "tools/programs.py"],
     ["python3", "tools/findings.py"],
-    ["python3", "tools/devices.py"],
-    ["python3", "tools/memory.py"],
     ["python3", "tools/c.py", "after-ci"],
-    ["python3", "tools/stack.py"],
     ["python3", "tools/python.py"],
     ["python3", "tools/fuzz.py", "--regressions"],
 )

@@ -1,5 +1,5 @@
 #!/usr/bin/env python3
-"""Runs the programs with too little memory: `make test` calls it after `rt ci`.
+"""Runs the programs with too little memory, after `rt ci`.
 
 - Each call on small files, once, and once for each growth of memory, with that growth refused: it
   gives its own answer, or says that memory ran out.

@@ -115,7 +115,7 @@ def ran(call, file, room, kib):
 def least(call, file, room):
     """The least KiB with which a call has the answer that it has with enough; and its status."""
     wanted = ran(call, file, room, ENOUGH)
-    low, high = 0, ENOUGH
+    low, high = 0, PROGRAM if ran(call, file, room, PROGRAM) == wanted else ENOUGH
     while high - low > STEP:
         middle = (low + high) // 2 // STEP * STEP
         if ran(call, file, room, middle) == wanted:
@@ -126,13 +126,14 @@ def least(call, file, room):
 
 
 def measured(room):
-    """The table of the programs."""
+    """The table of the programs. A status other than 0 stands behind the number."""
     print("| KiB of stack | " + " | ".join(CALLS) + " |")
     print("|---" * (len(CALLS) + 1) + "|")
     made = files(room)
     for file in made:
         found = [least(call, file, room) for call in CALLS.values()]
-        print(f"| {file.name} | " + " | ".join(f"{kib}" for kib, _ in found) + " |", flush=True)
+        cells = [f"{kib}" if status == 0 else f"{kib} ({status})" for kib, status in found]
+        print(f"| {file.name} | " + " | ".join(cells) + " |", flush=True)
     print(of_library(room, made)[1])
 
 
