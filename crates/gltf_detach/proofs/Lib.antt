@@ -1,0 +1,2 @@
+mod Removed
+mod Lists

@@ -1,0 +1,5 @@
+mod Rows
+mod Named
+mod Alike
+mod Uris
+mod Files
