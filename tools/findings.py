@@ -83,7 +83,7 @@ def in_view(color, offset=0, **view):
     placed = accessor("VEC3", color, normalized=True, bufferView=0, byteOffset=offset)
     return attributes(COLOR_0=placed) | {
         "buffers": [{"byteLength": 64, "uri": ZEROS}],
-        "bufferViews": [{"buffer": 0, "byteLength": 64} | view]}
+        "bufferViews": [{"buffer": 0, "byteLength": 64, "target": 34962} | view]}
 
 
 UNALIGNED = [("MESH_PRIMITIVE_ACCESSOR_UNALIGNED", f"{ATTRIBUTES}/COLOR_0")]
@@ -95,6 +95,36 @@ ROWS += [
     (in_view(U8, offset=4, byteStride=4), []),
     (in_view(U16, byteStride=8), []),
     (in_view(U16), UNALIGNED),
+]
+
+I8, I16 = 5120, 5122
+QUANTIZED = {"extensionsUsed": ["KHR_mesh_quantization"]}
+UNKNOWN = [("UNSUPPORTED_EXTENSION", "/extensionsUsed/0")]
+
+
+def quantized(**attributes):
+    return mesh(attributes) | QUANTIZED
+
+
+BYTES, SHORTS = accessor("VEC3", I8, normalized=True), accessor("VEC3", I16)
+# The formats that KHR_mesh_quantization adds.
+ROWS += [
+    (quantized(POSITION=accessor("VEC3", U16, **BOUNDS)), UNKNOWN),
+    (quantized(POSITION=accessor("VEC3", I8, normalized=True, **BOUNDS)), UNKNOWN),
+    (quantized(POSITION=accessor("VEC3", U32, **BOUNDS)), UNKNOWN + bad_format("POSITION")),
+    (quantized(POSITION=accessor("VEC2", U16, **BOUNDS)), UNKNOWN + bad_format("POSITION")),
+    (quantized(POSITION=POSITIONS, NORMAL=BYTES), UNKNOWN),
+    (quantized(POSITION=POSITIONS, NORMAL=SHORTS), UNKNOWN + bad_format("NORMAL")),
+    (attributes(NORMAL=BYTES), bad_format("NORMAL")),
+    (quantized(POSITION=POSITIONS, NORMAL=BYTES, TANGENT=accessor("VEC4", I16, normalized=True)),
+     UNKNOWN),
+    (quantized(POSITION=POSITIONS, NORMAL=BYTES, TANGENT=accessor("VEC4", U8, normalized=True)),
+     UNKNOWN + bad_format("TANGENT")),
+    (quantized(POSITION=POSITIONS, TEXCOORD_0=accessor("VEC2", I16)), UNKNOWN),
+    (quantized(POSITION=POSITIONS, TEXCOORD_0=accessor("VEC2", U32)),
+     UNKNOWN + bad_format("TEXCOORD_0")),
+    (quantized(POSITION=POSITIONS, COLOR_0=accessor("VEC3", I8, normalized=True)),
+     UNKNOWN + bad_format("COLOR_0")),
 ]
 
 PAIR, JOINT, WEIGHT = accessor("VEC2"), accessor("VEC4", U8), accessor("VEC4")
@@ -112,6 +142,50 @@ ROWS += [
     (attributes(JOINTS_1=JOINT, WEIGHTS_0=WEIGHT), GAP),
 ]
 
+
+FEW = [("MESH_PRIMITIVE_TOO_FEW_TEXCOORDS", f"{PRIMITIVE}/material")]
+USES = {"extensionsUsed": ["KHR_texture_transform", "KHR_materials_specular"]}
+
+
+PICTURE = {"textures": [{"source": 0}], "images": [{"uri": "a.png"}]}
+
+
+def textured(sets, **material):
+    """A primitive with so many sets of texture coordinates, and its material."""
+    made = attributes(**{f"TEXCOORD_{n}": PAIR for n in range(sets)}) | USES
+    made["meshes"][0]["primitives"][0]["material"] = 0
+    return made | {"materials": [material]} | PICTURE
+
+
+def texture(n, **members):
+    return {"index": 0, "texCoord": n, **members}
+
+
+def moved(n, **members):
+    """A texture with a transform that names a set."""
+    return texture(n, extensions={"KHR_texture_transform": members})
+
+
+# The sets of texture coordinates that materials use (3.9.2).
+ROWS += [
+    (textured(0), []),
+    (textured(1, emissiveTexture=texture(0)), []),
+    (textured(0, emissiveTexture=texture(0)), FEW),
+    (textured(1, emissiveTexture={"index": 0}), []),
+    (textured(0, emissiveTexture={"index": 0}), FEW),
+    (textured(2, pbrMetallicRoughness={"baseColorTexture": texture(1)}), []),
+    (textured(1, pbrMetallicRoughness={"baseColorTexture": texture(1)}), FEW),
+    (textured(1, pbrMetallicRoughness={"metallicRoughnessTexture": texture(1)}), FEW),
+    (textured(1, normalTexture=texture(0), occlusionTexture=texture(0)), []),
+    (textured(1, normalTexture=texture(1), occlusionTexture=texture(0)), FEW),
+    (textured(1, normalTexture=texture(0), occlusionTexture=texture(1)), FEW),
+    (textured(1, emissiveTexture=moved(1, texCoord=0)), []),
+    (textured(1, emissiveTexture=moved(0, texCoord=1)), FEW),
+    (textured(1, emissiveTexture=moved(1)), FEW),
+    (textured(1, extensions={"KHR_materials_specular": {"specularTexture": texture(0)}}), []),
+    (textured(1, extensions={"KHR_materials_specular": {"specularTexture": texture(1)}}), FEW),
+    (textured(1, extensions={"KHR_materials_specular": {"specularColorTexture": texture(1)}}), FEW),
+]
 
 def drawn(mode, count):
     return mesh({"POSITION": accessor("VEC3", count=count, **BOUNDS)}, mode)

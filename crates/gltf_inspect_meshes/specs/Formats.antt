@@ -1,12 +1,13 @@
 -- The formats of attributes (glTF 2.0, section 3.7.2.1), and where they may lie (section 3.6.2.4).
 use Rattle.std.specs.Prelude.{ℕ, ◌%◌, ◌==◌, ◌&&◌, ◌||◌, Bool, true, false, not, slice_get, List, [], ◌∷◌}
+use Rattle.std.specs.Prelude.{codes}
 use Rattle.gltf_json.specs.declared.root.Root.{Root}
 use Rattle.gltf_json_record.specs.Place.{keyed}
 use Rattle.gltf_json_record.specs.declared.validation.Checked.{Checked}
 use Rattle.gltf_json_record.specs.declared.validation.Checked.TheVariants.{Valid}
 use Rattle.gltf_json_geometry.specs.Semantics.{semantic_name}
 use Rattle.gltf_json_geometry.specs.declared.accessor.ComponentType.{ComponentType}
-use Rattle.gltf_json_geometry.specs.declared.accessor.ComponentType.TheVariants.{U8, U16, F32}
+use Rattle.gltf_json_geometry.specs.declared.accessor.ComponentType.TheVariants.{I8, U8, I16, U16, F32}
 use Rattle.gltf_json_geometry.specs.declared.accessor.«Type».{«Type»}
 use Rattle.gltf_json_geometry.specs.declared.accessor.«Type».TheVariants.{Scalar, Vec2, Vec3, Vec4}
 use Rattle.gltf_json_geometry.specs.declared.accessor.Accessor.{Accessor}
@@ -17,6 +18,7 @@ use Rattle.gltf_findings.specs.declared.code.Code.TheVariants.{AttributeInvalidF
 use Rattle.gltf_findings.specs.Checks.{Checks, Nothing, Condition, At, ◌&◌, optional_checks}
 use Rattle.gltf_inspect_meshes.specs.Facts.{or_zero}
 use Rattle.gltf_inspect_meshes.specs.Items.{stride_in}
+use Rattle.gltf_inspect_meshes.specs.Names.{is_among}
 
 -- the number of components of a scalar or vector
 abbrev pub width : Checked «Type» → ℕ
@@ -55,6 +57,38 @@ is_allowed (meaning.TexCoords set) w c normalized = w == 2 && is_fraction c norm
 is_allowed (meaning.Joints set) w c normalized = w == 4 && is_whole c normalized
 is_allowed (meaning.Weights set) w c normalized = w == 4 && is_fraction c normalized
 
+-- "byte, byte normalized, unsigned byte, unsigned byte normalized, short, short normalized, unsigned
+-- short, unsigned short normalized"
+abbrev pub is_small : Checked ComponentType → Bool
+is_small (Valid I8) = true
+is_small (Valid U8) = true
+is_small (Valid I16) = true
+is_small (Valid U16) = true
+is_small _ = false
+
+-- "byte normalized, short normalized"
+abbrev pub is_signed_fraction : Checked ComponentType → Bool → Bool
+is_signed_fraction (Valid I8) normalized = normalized
+is_signed_fraction (Valid I16) normalized = normalized
+is_signed_fraction _ normalized = false
+
+-- the formats that the extension KHR_mesh_quantization adds to the table ("Extending Mesh
+-- Attributes")
+abbrev pub is_quantized : Semantic → ℕ → Checked ComponentType → Bool → Bool
+is_quantized meaning.Positions w c normalized = w == 3 && is_small c
+is_quantized meaning.Normals w c normalized = w == 3 && is_signed_fraction c normalized
+is_quantized meaning.Tangents w c normalized = w == 4 && is_signed_fraction c normalized
+is_quantized (meaning.TexCoords set) w c normalized = w == 2 && is_small c
+is_quantized _ w c normalized = false
+
+-- a document declares that extension
+abbrev pub declares_quantization : Root → Bool
+declares_quantization r = is_among r.extensions_used.items (codes "KHR_mesh_quantization")
+
+abbrev pub is_format : Bool → Semantic → ℕ → Checked ComponentType → Bool → Bool
+is_format quantized semantic w c normalized =
+    is_allowed semantic w c normalized || quantized && is_quantized semantic w c normalized
+
 -- "for performance and compatibility reasons, each element of a vertex attribute MUST be aligned to
 -- 4-byte boundaries inside a bufferView (that is, accessor.byteOffset and bufferView.byteStride MUST
 -- be multiples of 4)"
@@ -66,15 +100,15 @@ aligned_checks a v =
 abbrev pub aligned_index_checks : Root → Accessor → ℕ → Checks
 aligned_index_checks r a i = optional_checks (aligned_checks a) (slice_get r.buffer_views.items i)
 
-abbrev pub format_checks : Root → Semantic → Accessor → Checks
-format_checks r semantic a =
-    Condition (is_allowed semantic (width a.type_) a.component_type a.normalized)
+abbrev pub format_checks : Root → Bool → Semantic → Accessor → Checks
+format_checks r quantized semantic a =
+    Condition (is_format quantized semantic (width a.type_) a.component_type a.normalized)
     AttributeInvalidFormat
     & optional_checks (aligned_index_checks r a) a.buffer_view
 
-abbrev pub formats_checks : Root → List (Semantic × ℕ) → Checks
-formats_checks r [] = Nothing
-formats_checks r (entry ∷ entries) =
+abbrev pub formats_checks : Root → Bool → List (Semantic × ℕ) → Checks
+formats_checks r quantized [] = Nothing
+formats_checks r quantized (entry ∷ entries) =
     At (keyed (semantic_name entry.0))
-    (optional_checks (format_checks r entry.0) (slice_get r.accessors.items entry.1))
-    & formats_checks r entries
+    (optional_checks (format_checks r quantized entry.0) (slice_get r.accessors.items entry.1))
+    & formats_checks r quantized entries

@@ -2,8 +2,10 @@ pub mod Facts
 pub mod Items
 pub mod Meanings
 pub mod Sets
+pub mod Names
 pub mod Formats
 pub mod Modes
+pub mod Coords
 pub mod Targets
 pub mod Weights
 pub mod Meshes

@@ -5,8 +5,11 @@ ghost use Rattle.gltf_findings.specs.Checks.{told_after, optional_checks};
 ghost use Rattle.gltf_inspect_meshes.specs.Formats.{width, is_float, is_fraction, is_whole};
 ghost use Rattle.gltf_inspect_meshes.specs.Formats.{is_allowed, aligned_checks, format_checks};
 ghost use Rattle.gltf_inspect_meshes.specs.Formats.{formats_checks, aligned_index_checks};
+ghost use Rattle.gltf_inspect_meshes.specs.Formats.{is_small, is_signed_fraction, is_quantized};
+ghost use Rattle.gltf_inspect_meshes.specs.Formats.{is_format, declares_quantization};
 
 use crate::item::{component_size, item_size, or_zero};
+use crate::names::is_among;
 use gltf_findings::code::Code;
 use gltf_findings::findings::Findings;
 use gltf_json::root::Root;
@@ -20,20 +23,28 @@ use gltf_validation::location::Location;
 use std::alloc::AllocError;
 use std::collections::BTreeMap;
 
+/// Whether a document declares the extension `KHR_mesh_quantization`.
+pub(crate) fn declares_quantization(root: &Root) -> bool
+    ensures { result ≡ declares_quantization root.now }
+{
+    is_among("KHR_mesh_quantization", root.extensions_used.as_slice())
+}
+
 /// Tells what is found in the format of each attribute, in the order of their meanings.
 pub(crate) fn tell_formats(
     root: &Root,
+    quantized: bool,
     attributes: &BTreeMap<Semantic, Index<kinds::Accessor>>,
     location: &Location<'_>,
     findings: &mut Findings,
 ) -> Result<(), AllocError>
     ensures { OnOk result (findings.new ≡ told_after findings.old (places_of location.now)
-        (formats_checks root.now attributes.now.entries)) }
+        (formats_checks root.now quantized attributes.now.entries)) }
 {
     for (semantic, index) in attributes {
         let at = Location::Attribute(&*location, semantic);
         if let Some(accessor) = root.accessors.as_slice().get(index.value()) {
-            tell_format(root, semantic, accessor, &at, findings)?;
+            tell_format(root, quantized, semantic, accessor, &at, findings)?;
         }
     }
     Ok(())
@@ -41,15 +52,17 @@ pub(crate) fn tell_formats(
 
 fn tell_format(
     root: &Root,
+    quantized: bool,
     semantic: &Semantic,
     accessor: &Accessor,
     location: &Location<'_>,
     findings: &mut Findings,
 ) -> Result<(), AllocError>
     ensures { OnOk result (findings.new ≡ told_after findings.old (places_of location.now)
-        (format_checks root.now semantic.now accessor.now)) }
+        (format_checks root.now quantized semantic.now accessor.now)) }
 {
-    let is_format = is_allowed(
+    let is_format = is_format(
+        quantized,
         semantic,
         width(accessor.type_),
         accessor.component_type,
@@ -80,6 +93,36 @@ fn tell_alignment(
     };
     let is_aligned = or_zero(accessor.byte_offset) % 4 == 0 && stride % 4 == 0;
     findings.tell(is_aligned, Code::AttributeUnaligned, location)
+}
+
+fn is_format(
+    quantized: bool,
+    semantic: &Semantic,
+    width: u8,
+    component: Checked<ComponentType>,
+    normalized: bool,
+) -> bool
+    ensures { result ≡ is_format quantized semantic.now width component normalized }
+{
+    is_allowed(semantic, width, component, normalized)
+        || quantized && fits_quantized(semantic, width, component, normalized)
+}
+
+fn fits_quantized(
+    semantic: &Semantic,
+    width: u8,
+    component: Checked<ComponentType>,
+    normalized: bool,
+) -> bool
+    ensures { result ≡ is_quantized semantic.now width component normalized }
+{
+    match semantic {
+        Semantic::Positions => width == 3 && is_small(component),
+        Semantic::Normals => width == 3 && is_signed_fraction(component, normalized),
+        Semantic::Tangents => width == 4 && is_signed_fraction(component, normalized),
+        Semantic::TexCoords(_) => width == 2 && is_small(component),
+        _ => false,
+    }
 }
 
 fn is_allowed(
@@ -138,4 +181,24 @@ fn is_whole(component: Checked<ComponentType>, normalized: bool) -> bool
         component,
         Checked::Valid(ComponentType::U8 | ComponentType::U16)
     ) && !normalized
+}
+
+fn is_small(component: Checked<ComponentType>) -> bool
+    ensures { result ≡ is_small component }
+{
+    matches!(
+        component,
+        Checked::Valid(
+            ComponentType::I8 | ComponentType::U8 | ComponentType::I16 | ComponentType::U16
+        )
+    )
+}
+
+fn is_signed_fraction(component: Checked<ComponentType>, normalized: bool) -> bool
+    ensures { result ≡ is_signed_fraction component normalized }
+{
+    matches!(
+        component,
+        Checked::Valid(ComponentType::I8 | ComponentType::I16)
+    ) && normalized
 }

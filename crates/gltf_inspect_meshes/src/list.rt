@@ -10,35 +10,38 @@ use std::alloc::AllocError;
 
 /// What has checks of its own, in a document.
 pub(crate) trait Inspect {
+    ghost use Rattle.std.specs.Prelude.{Bool};
     ghost use Rattle.gltf_json.specs.declared.root.Root.{Root};
     ghost use Rattle.gltf_findings.specs.Checks.{Checks};
 
-    /// The checks of a value, in this document.
-    ghost checks: { Root → Self → Checks };
+    /// The checks of a value, in this document, which may declare `KHR_mesh_quantization`.
+    ghost checks: { Root → Bool → Self → Checks };
 
     /// Tells what is found in a value, in order. Takes memory only for a finding.
     fn inspect(
         &self,
         root: &Root,
+        is_quantized: bool,
         location: &Location<'_>,
         findings: &mut Findings,
     ) -> Result<(), AllocError>
         ensures { OnOk result (findings.new
-            ≡ told_after findings.old (places_of location.now) (checks root.now self.now)) };
+            ≡ told_after findings.old (places_of location.now) (checks root.now is_quantized self.now)) };
 }
 
 /// Tells what is found in each element of a list.
 pub(crate) fn inspect_each<T: Inspect>(
     values: &[T],
     root: &Root,
+    is_quantized: bool,
     location: &Location<'_>,
     findings: &mut Findings,
 ) -> Result<(), AllocError>
     ensures { OnOk result (findings.new ≡ told_after findings.old (places_of location.now)
-        (list_checks (T.checks root.now) values.now)) }
+        (list_checks (T.checks root.now is_quantized) values.now)) }
 {
     for (i, value) in values.iter().enumerate() {
-        value.inspect(root, &Location::Item(&*location, i), findings)?;
+        value.inspect(root, is_quantized, &Location::Item(&*location, i), findings)?;
     }
     Ok(())
 }
@@ -48,11 +51,13 @@ pub(crate) fn inspect_list<T: Inspect>(
     values: &[T],
     name: &'static str,
     root: &Root,
+    is_quantized: bool,
     location: &Location<'_>,
     findings: &mut Findings,
 ) -> Result<(), AllocError>
     ensures { OnOk result (findings.new ≡ told_after findings.old (places_of location.now)
-        (member name.now (list_checks (T.checks root.now) values.now))) }
+        (member name.now (list_checks (T.checks root.now is_quantized) values.now))) }
 {
-    inspect_each(values, root, &Location::Member(location, name), findings)
+    let at = Location::Member(location, name);
+    inspect_each(values, root, is_quantized, &at, findings)
 }

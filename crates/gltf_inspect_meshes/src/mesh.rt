@@ -4,6 +4,7 @@ ghost use Rattle.gltf_validation.specs.Locations.{places_of};
 ghost use Rattle.gltf_findings.specs.Checks.{told_after, optional_checks};
 ghost use Rattle.gltf_inspect_meshes.specs.Meshes.{primitive_checks, mesh_checks, weights_checks};
 
+use crate::coords::tell_coords;
 use crate::format::tell_formats;
 use crate::list::{Inspect, inspect_each};
 use crate::mode::tell_mode;
@@ -18,11 +19,12 @@ use gltf_validation::location::Location;
 use std::alloc::AllocError;
 
 impl Inspect for Mesh {
-    ghost checks = { λ r m. mesh_checks r m };
+    ghost checks = { λ r q m. mesh_checks r q m };
 
     fn inspect(
         &self,
         root: &Root,
+        is_quantized: bool,
         location: &Location<'_>,
         findings: &mut Findings,
     ) -> Result<(), AllocError> {
@@ -31,7 +33,7 @@ impl Inspect for Mesh {
         let at = Location::Member(location, "primitives");
         let are_equal = have_targets(count, primitives);
         findings.tell(are_equal, Code::UnequalTargetsCount, &at)?;
-        inspect_each(primitives, root, &at, findings)?;
+        inspect_each(primitives, root, is_quantized, &at, findings)?;
         let at = Location::Member(location, "weights");
         tell_weights(self, count, &at, findings)
     }
@@ -56,19 +58,21 @@ fn tell_weights(
 }
 
 impl Inspect for Primitive {
-    ghost checks = { λ r p. primitive_checks r p };
+    ghost checks = { λ r q p. primitive_checks r q p };
 
     fn inspect(
         &self,
         root: &Root,
+        is_quantized: bool,
         location: &Location<'_>,
         findings: &mut Findings,
     ) -> Result<(), AllocError> {
         let at = Location::Member(location, "attributes");
         tell_sets(&self.attributes, &at, findings)?;
-        tell_formats(root, &self.attributes, &at, findings)?;
+        tell_formats(root, is_quantized, &self.attributes, &at, findings)?;
         let accessors = root.accessors.as_slice();
         tell_mode(accessors, self, location, findings)?;
+        tell_coords(root, self, location, findings)?;
         let at = Location::Member(location, "targets");
         tell_targets(accessors, self, &at, findings)
     }

@@ -83,7 +83,7 @@ one-more count named marks c h = record {
 }
 
 -- marking them one by one
-more : (count : ℕ) (named : List ℕ) (marks : List Bool) (ks : List ℕ)
+pub more : (count : ℕ) (named : List ℕ) (marks : List Bool) (ks : List ℕ)
     → AreMarks count named marks → AreMarks count (named ++ ks) (marked marks ks)
 more count named marks [] h = rw (append-nil named) h
 more count named marks (c ∷ cs) h =

@@ -1,3 +1,6 @@
 pub mod Named
 pub mod Marks
 pub mod Graphs
+pub mod ViewTargets
+pub mod ViewMarks
+pub mod Roots

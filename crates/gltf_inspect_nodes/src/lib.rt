@@ -1,5 +1,6 @@
 //! What the standard says of the nodes of a document as a graph: roots of scenes, empty nodes, lists
-//! that name a node twice, and targets that are animated twice.
+//! that name a node twice, targets that are animated twice, loops, and joints without a common root; and
+//! of the views of vertices.
 #![tactic(auto)]
 
 mod entry;
@@ -7,3 +8,5 @@ pub mod graph;
 mod marks;
 mod named;
 mod repeats;
+pub mod roots;
+pub mod view;

@@ -7,6 +7,6 @@ use Rattle.gltf_inspect_meshes.proofs.list.inspect_each.Given as goal
 abbrev pub invariant-loop-i : goal.invariant-loop-i
 invariant-loop-i g l =
     told_after l.findings (places_of l.location)
-    (elements_checks (g.T.Inspect.checks l.root) l.i (drop l.i l.values))
+    (elements_checks (g.T.Inspect.checks l.root l.is_quantized) l.i (drop l.i l.values))
     ≡ told_after l.initial.findings (places_of l.location)
-    (elements_checks (g.T.Inspect.checks l.root) 0 l.values)
+    (elements_checks (g.T.Inspect.checks l.root l.is_quantized) 0 l.values)

@@ -1,0 +1,14 @@
+use Rattle.std.proofs.Common.{◌≡◌, drop}
+use Rattle.gltf_validation.specs.Locations.{places_of}
+use Rattle.gltf_findings.specs.Checks.{told_after}
+use Rattle.gltf_inspect_nodes.specs.Marks.{is_marked}
+use Rattle.gltf_inspect_nodes.specs.Roots.{loop_checks}
+use Rattle.gltf_inspect_nodes.proofs.roots.tell_marked.Given as goal
+
+-- what is left of the walk, after what was reported so far, is the whole of it
+abbrev pub invariant-loop-i : goal.invariant-loop-i
+invariant-loop-i l =
+    told_after l.findings (places_of l.location)
+    (loop_checks (is_marked l.are_ends) (is_marked l.are_children) l.i (drop l.i l.nodes))
+    ≡ told_after l.initial.findings (places_of l.location)
+    (loop_checks (is_marked l.are_ends) (is_marked l.are_children) 0 l.nodes)

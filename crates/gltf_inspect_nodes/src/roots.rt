@@ -1,0 +1,249 @@
+//! Where nodes lead to by steps to their parents: loops among nodes, and the common roots of joints
+//! (glTF 2.0, sections 3.5.2 and 3.7.3.2).
+ghost use Rattle.std.specs.Prelude.{◌≡◌, OnOk, IfOk, map};
+ghost use Rattle.gltf_validation.specs.Locations.{places_of};
+ghost use Rattle.gltf_findings.specs.Checks.{told_after};
+ghost use Rattle.gltf_inspect_nodes.specs.Marks.{is_marked, marked, AreMarks};
+ghost use Rattle.gltf_inspect_nodes.specs.Roots.{numbers, with_parent, with_parents, parents_of};
+ghost use Rattle.gltf_inspect_nodes.specs.Roots.{led, are_fixed, twice, times_16, times_65536};
+ghost use Rattle.gltf_inspect_nodes.specs.Roots.{ends_of, loop_checks, lead_to, first_end};
+ghost use Rattle.gltf_inspect_nodes.specs.Roots.{lead_together, skins_checks, roots_checks};
+ghost use Rattle.gltf_inspect_nodes.specs.Roots.{is_end_in, is_child_of};
+
+use crate::marks::{is_marked, mark, marks_of, no_marks};
+use gltf_findings::code::Code;
+use gltf_findings::findings::Findings;
+use gltf_json::root::Root;
+use gltf_json_record::index::Index;
+use gltf_json_record::kinds;
+use gltf_json_scene::scene::Node;
+use gltf_json_scene::skin::Skin;
+use gltf_validation::location::Location;
+use std::alloc::{AllocError, Global};
+
+/// Tells each node that stands on a loop, and each skin whose joints have no common root. Takes time
+/// n log n for so many nodes, 18 bytes a node, and memory for a finding; fails where there is none.
+pub fn inspect_roots(
+    alloc: Global,
+    root: &Root,
+    location: &Location<'_>,
+    findings: &mut Findings,
+) -> Result<(), AllocError>
+    ensures { OnOk result (findings.new ≡ told_after findings.old (places_of location.now)
+        (roots_checks root.now)) }
+{
+    let nodes = root.nodes.as_slice();
+    let ends = ends_of(alloc, nodes)?;
+    let at = Location::Member(location, "nodes");
+    tell_loops(alloc, &ends, nodes, &at, findings)?;
+    let at = Location::Member(location, "skins");
+    tell_skins(&ends, root.skins.as_slice(), &at, findings)
+}
+
+fn tell_loops(
+    alloc: Global,
+    ends: &[usize],
+    nodes: &[Node],
+    location: &Location<'_>,
+    findings: &mut Findings,
+) -> Result<(), AllocError>
+    ensures { OnOk result (findings.new ≡ told_after findings.old (places_of location.now)
+        (loop_checks (is_end_in nodes.now ends.now) (is_child_of nodes.now) 0 nodes.now)) }
+{
+    let are_ends = marks_at(alloc, nodes.len(), ends)?;
+    let are_children = marks_of(alloc, nodes.len(), nodes)?;
+    tell_marked(&are_ends, &are_children, nodes, location, findings)
+}
+
+/// The marks of these numbers, of so many.
+fn marks_at(alloc: Global, count: usize, numbers: &[usize]) -> Result<Vec<bool>, AllocError>
+    ensures { IfOk result (λ marks. AreMarks count numbers.now marks.items) }
+{
+    let mut marks = no_marks(alloc, count)?;
+    mark_numbers(&mut marks, numbers);
+    Ok(marks)
+}
+
+fn mark_numbers(marks: &mut Vec<bool>, numbers: &[usize])
+    ensures { marks.new.items ≡ marked marks.old.items numbers.now }
+{
+    for number in numbers {
+        let _was = mark(marks, *number);
+    }
+}
+
+fn tell_marked(
+    are_ends: &[bool],
+    are_children: &[bool],
+    nodes: &[Node],
+    location: &Location<'_>,
+    findings: &mut Findings,
+) -> Result<(), AllocError>
+    ensures { OnOk result (findings.new ≡ told_after findings.old (places_of location.now)
+        (loop_checks (is_marked are_ends.now) (is_marked are_children.now) 0 nodes.now)) }
+{
+    for (i, _node) in nodes.iter().enumerate() {
+        let is_on_loop = is_marked(are_ends, i) && is_marked(are_children, i);
+        let at = Location::Item(&*location, i);
+        findings.tell(!is_on_loop, Code::NodeLoop, &at)?;
+    }
+    Ok(())
+}
+
+/// Tells each skin whose joints lead to several roots.
+fn tell_skins(
+    ends: &[usize],
+    skins: &[Skin],
+    location: &Location<'_>,
+    findings: &mut Findings,
+) -> Result<(), AllocError>
+    ensures { OnOk result (findings.new ≡ told_after findings.old (places_of location.now)
+        (skins_checks ends.now skins.now)) }
+{
+    for (i, skin) in skins.iter().enumerate() {
+        let at = Location::Item(&*location, i);
+        let have_root = lead_together(ends, skin.joints.as_slice());
+        findings.tell_member(have_root, Code::SkinNoCommonRoot, "joints", &at)?;
+    }
+    Ok(())
+}
+
+fn lead_together(ends: &[usize], joints: &[Index<kinds::Node>]) -> bool
+    ensures { result ≡ lead_together ends.now joints.now }
+{
+    match first_end(ends, joints) {
+        Some(end) => lead_to(ends, end, joints),
+        None => true,
+    }
+}
+
+fn first_end(ends: &[usize], joints: &[Index<kinds::Node>]) -> Option<usize>
+    ensures { result ≡ first_end ends.now joints.now }
+{
+    for joint in joints {
+        if joint.value() < ends.len() {
+            return Some(led(ends, joint.value()));
+        }
+    }
+    None
+}
+
+fn lead_to(ends: &[usize], end: usize, joints: &[Index<kinds::Node>]) -> bool
+    ensures { result ≡ lead_to ends.now end joints.now }
+{
+    for joint in joints {
+        if joint.value() < ends.len() && led(ends, joint.value()) != end {
+            return false;
+        }
+    }
+    true
+}
+
+fn led(table: &[usize], node: usize) -> usize
+    ensures { result ≡ led table.now node }
+{
+    if node < table.len() {
+        table[node]
+    } else {
+        node
+    }
+}
+
+fn ends_of(alloc: Global, nodes: &[Node]) -> Result<Vec<usize>, AllocError>
+    ensures { IfOk result (λ ends. ends.items ≡ ends_of nodes.now) }
+{
+    let mut table = parents_of(alloc, nodes)?;
+    times_65536(alloc, &mut table)?;
+    times_65536(alloc, &mut table)?;
+    times_65536(alloc, &mut table)?;
+    times_65536(alloc, &mut table)?;
+    Ok(table)
+}
+
+fn times_65536(alloc: Global, table: &mut Vec<usize>) -> Result<(), AllocError>
+    ensures { OnOk result (table.new.items ≡ times_65536 table.old.items) }
+{
+    times_16(alloc, table)?;
+    times_16(alloc, table)?;
+    times_16(alloc, table)?;
+    times_16(alloc, table)
+}
+
+fn times_16(alloc: Global, table: &mut Vec<usize>) -> Result<(), AllocError>
+    ensures { OnOk result (table.new.items ≡ times_16 table.old.items) }
+{
+    twice(alloc, table)?;
+    twice(alloc, table)?;
+    twice(alloc, table)?;
+    twice(alloc, table)
+}
+
+/// Twice as many steps. Takes no memory where that changes nothing.
+fn twice(alloc: Global, table: &mut Vec<usize>) -> Result<(), AllocError>
+    ensures { OnOk result (table.new.items ≡ twice table.old.items) }
+{
+    if are_fixed(table) {
+        return Ok(());
+    }
+    let next = mapped(alloc, table)?;
+    *table = next;
+    Ok(())
+}
+
+fn are_fixed(table: &[usize]) -> bool
+    ensures { result ≡ are_fixed table.now table.now }
+{
+    for node in table {
+        if led(table, *node) != *node {
+            return false;
+        }
+    }
+    true
+}
+
+fn mapped(alloc: Global, table: &[usize]) -> Result<Vec<usize>, AllocError>
+    ensures { IfOk result (λ next. next.items ≡ map (led table.now) table.now) }
+{
+    let mut next = Vec::with_capacity(alloc, table.len())?;
+    for node in table {
+        next.push(led(table, *node))?;
+    }
+    Ok(next)
+}
+
+fn parents_of(alloc: Global, nodes: &[Node]) -> Result<Vec<usize>, AllocError>
+    ensures { IfOk result (λ parents. parents.items ≡ parents_of nodes.now) }
+{
+    let mut parents = numbers(alloc, nodes)?;
+    set_parents(&mut parents, nodes);
+    Ok(parents)
+}
+
+fn numbers(alloc: Global, nodes: &[Node]) -> Result<Vec<usize>, AllocError>
+    ensures { IfOk result (λ found. found.items ≡ numbers 0 nodes.now) }
+{
+    let mut found = Vec::with_capacity(alloc, nodes.len())?;
+    for (i, _node) in nodes.iter().enumerate() {
+        found.push(i)?;
+    }
+    Ok(found)
+}
+
+fn set_parents(parents: &mut Vec<usize>, nodes: &[Node])
+    ensures { parents.new.items ≡ with_parents parents.old.items 0 nodes.now }
+{
+    for (i, node) in nodes.iter().enumerate() {
+        set_parent(parents, i, node.children.as_slice());
+    }
+}
+
+fn set_parent(parents: &mut Vec<usize>, parent: usize, children: &[Index<kinds::Node>])
+    ensures { parents.new.items ≡ with_parent parents.old.items parent children.now }
+{
+    for child in children {
+        let child = child.value();
+        if child < parents.len() {
+            parents[child] = parent;
+        }
+    }
+}
