@@ -1,26 +1,20 @@
-/* Prints the first point of a file's first accessor: `show FILE`. */
+/* Prints the first point of a file's first accessor, which has 1,024 points at most: `show FILE`. */
 #include "contents.h"
 #include "gltf.h"
 
 #include <stdio.h>
 #include <stdlib.h>
-#include <string.h>
 
 /* The use that the README shows. */
 static int show(const unsigned char *bytes, size_t size)
 {
     gltf_file *file;
     gltf_fault fault;
-    gltf_accessor points;
-    float point[3];
+    float points[1024][3];
     if (gltf_open(bytes, size, NULL, &file, &fault) != GLTF_SUCCESS)
         return printf("%s: %s\n", fault.path, fault.text), 1;
-    if (gltf_accessor_info(file, 0, &points) == GLTF_SUCCESS && points.data != NULL
-        && points.component_type == GLTF_F32 && points.components == 3) {
-        memcpy(point, points.data, sizeof point);
-        printf("%lu points, the first %g %g %g\n", (unsigned long)points.count, point[0], point[1],
-               point[2]);
-    }
+    if (gltf_accessor_read(file, 0, points, sizeof points) == GLTF_SUCCESS)
+        printf("the first point is %g %g %g\n", points[0][0], points[0][1], points[0][2]);
     gltf_close(file);
     return 0;
 }

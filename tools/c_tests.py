@@ -28,7 +28,7 @@ RICH, RICH_GLB, VALID, PLAIN = (OUT / "files" / name for name in
                                 ("rich.gltf", "rich.glb", "valid.glb", "plain.gltf"))
 FINE = [BOX, TRIANGLE, SQUARE, RIG, SURFACE, RICH, RICH_GLB, VALID, PLAIN]
 MESSAGE = programs.DANGLING.rstrip("\n")
-SHOWN = "24 points, the first 0.5 -0.5 -0.5\n"
+SHOWN = "the first point is 0.5 -0.5 -0.5\n"
 STRICT = ["-Wall", "-Wextra", "-Wconversion", "-pedantic", "-Werror", "-O2"]
 # The compilers, each with the languages that the headers are tried in.
 LANGUAGES = {"gcc": ("c89", "c99", "c11"), "g++": ("c++98", "c++17"),

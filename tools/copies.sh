@@ -11,12 +11,13 @@ for file in examples/*; do
     done
 done
 python3 - crates/gltf_tests/src/tests/first_steps.rt c/show.c <<'END' || status=1
-import pathlib, re, sys
+import pathlib, re, sys, textwrap
 
+# The lines of C are the body of a function.
 readme = pathlib.Path("README.md").read_text("utf-8")
-for language, place in zip(("rust", "c"), sys.argv[1:]):
+for language, before, place in zip(("rust", "c"), ("", "    "), sys.argv[1:]):
     code = re.search(f"```{language}\n(.*?)```", readme, re.DOTALL)[1]
-    if code not in pathlib.Path(place).read_text("utf-8"):
+    if textwrap.indent(code, before) not in pathlib.Path(place).read_text("utf-8"):
         sys.exit(f"the code of README.md is not in {place}")
 END
 python3 - crates/gltf_guide/src/*.rt crates/gltf_tests/src/tests/first_steps.rt <<'END' || status=1

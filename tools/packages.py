@@ -38,7 +38,7 @@ TOP = crates.TOP
 PAGES = {name: TOP / "packages" / "man" / f"{name}.1" for name in crates.PROGRAMS}
 COMPLETION = TOP / "packages" / "completion.bash"
 BOX = TOP / "examples" / "box.glb"
-SHOWN = "24 points, the first 0.5 -0.5 -0.5\n"
+SHOWN = "the first point is 0.5 -0.5 -0.5\n"
 LIBDIR = deb.LIBDIR
 
 
