@@ -44,6 +44,9 @@ PARTS = (
 # The most memory that a check was seen to take, and some more.
 MEMORY_OF_A_CHECK = 4 << 30
 RESULT = re.compile(r"(\d+) passed, (\d+) failed")
+# What a line of a part says where something failed. The last of them are printed once more at the end.
+FAULT = re.compile(r"FAILED|NOT PROVED|NOT TRIED|WRONG|Error|error:|expected|differs| is not ")
+MOST_FAULTS, LONGEST = 6, 300
 TOOLCHAIN = re.compile(r"rattle-kit-\S+ logic [0-9a-f]+")
 KINDS = ("proof", "tests", "wrong bodies", "builds")
 # How often the processes are looked at, in seconds. What one uses after the last look is not seen,
@@ -130,20 +133,22 @@ def seconds_of_children():
 
 
 def counts_of(words):
-    """How many passed and failed in one part, whose text is passed on."""
+    """How many passed and failed in one part, whose text is passed on, and its lines on failures."""
     print(f"== {' '.join(words)}", flush=True)
     how = {"stdout": subprocess.PIPE, "stderr": subprocess.STDOUT, "errors": "replace"}
     part = subprocess.Popen(words, cwd=TOP, **how)
-    last = ""
+    last, faults = "", collections.deque(maxlen=MOST_FAULTS)
     for line in part.stdout:
         last = line.strip() or last
+        if FAULT.search(line):
+            faults.append(line.rstrip()[:LONGEST])
         print(line, end="", flush=True)
     status = part.wait()
     result = RESULT.fullmatch(last)
     if not result:
-        return 0, 1
+        return 0, 1, [*faults, f"the last line: {last[:LONGEST]}"]
     passed, failed = (int(count) for count in result.groups())
-    return passed, failed or int(status != 0)
+    return passed, failed or int(status != 0), list(faults)
 
 
 def checks_at_once():
@@ -238,6 +243,10 @@ def main(words):
     gate_record.end(begun, f"{passed} passed, {failed} failed")
     page = page_of(sums, parts, about)
     print(page)
+    for part, (good, bad, faults) in zip(PARTS, results):
+        print(f"{' '.join(part)}: {good} passed, {bad} failed")
+        if bad:
+            print("\n".join(faults))
     if words and not failed:
         PAGE.write_text(page, encoding="utf-8")
         print(f"{PAGE.relative_to(TOP)} has what each part used")
