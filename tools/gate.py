@@ -45,7 +45,7 @@ PARTS = (
 MEMORY_OF_A_CHECK = 4 << 30
 RESULT = re.compile(r"(\d+) passed, (\d+) failed")
 # What a line of a part has where something failed. The last of them are printed once more.
-FAULT = re.compile(r"FAILED|NOT PROVED|NOT TRIED|WRONG|Error|error:|expected|differs|failed:")
+FAULT = re.compile(r"FAILED|NOT PROVED|NOT TRIED|WRONG|Error|error:|expected|differs|failed:|growth \d+ refused:")
 MOST_FAULTS, LONGEST = 6, 300
 TOOLCHAIN = re.compile(r"rattle-kit-\S+ logic [0-9a-f]+")
 KINDS = ("proof", "tests", "wrong bodies", "builds")
