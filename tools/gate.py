@@ -37,7 +37,6 @@ PARTS = (
     ["python3", "tools/c.py", "after-ci"],
     ["python3", "tools/python.py"],
     ["python3", "tools/rust.py"],
-    ["python3", "tools/packages.py"],
     ["python3", "tools/many.py"],
     ["python3", "tools/fuzz.py", "--regressions"],
 )

@@ -1,5 +1,5 @@
 //! Files that are refused as they stand, and read as they are mended.
-use gltf::{Document, Primitive};
+use gltf::{Document, Mesh, Primitive};
 use gltf_extensions::supported;
 use gltf_lenient::{Mends, Options, from_slice_with};
 use std::alloc::{AllocError, Global};
@@ -33,24 +33,34 @@ fn mends_of(word: &str) -> Mends<'static> {
 
 fn write_document(document: &Document, line: &mut String) -> Result<(), AllocError> {
     line.push_str("images")?;
-    for texture in document.textures() {
+    let mut textures = document.textures();
+    while let Some(texture) = textures.next() {
         write!(line, " {}", texture.source().index())?;
     }
     line.push_str(", channels")?;
-    for animation in document.animations() {
+    let mut animations = document.animations();
+    while let Some(animation) = animations.next() {
         write!(line, " {}", animation.channels().count())?;
     }
-    for mesh in document.meshes() {
-        for primitive in mesh.primitives() {
-            write_attributes(&primitive, line)?;
-        }
+    let mut meshes = document.meshes();
+    while let Some(mesh) = meshes.next() {
+        write_primitives(&mesh, line)?;
+    }
+    Ok(())
+}
+
+fn write_primitives(mesh: &Mesh<'_>, line: &mut String) -> Result<(), AllocError> {
+    let mut primitives = mesh.primitives();
+    while let Some(primitive) = primitives.next() {
+        write_attributes(&primitive, line)?;
     }
     Ok(())
 }
 
 fn write_attributes(primitive: &Primitive<'_>, line: &mut String) -> Result<(), AllocError> {
     line.push_str(", attributes")?;
-    for (semantic, _) in primitive.attributes() {
+    let mut attributes = primitive.attributes();
+    while let Some((semantic, _)) = attributes.next() {
         write!(line, " {semantic}")?;
     }
     Ok(())
