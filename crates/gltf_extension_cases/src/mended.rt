@@ -59,8 +59,7 @@ fn write_primitives(mesh: &Mesh<'_>, line: &mut String) -> Result<(), AllocError
 
 fn write_attributes(primitive: &Primitive<'_>, line: &mut String) -> Result<(), AllocError> {
     line.push_str(", attributes")?;
-    let mut attributes = primitive.attributes();
-    while let Some((semantic, _)) = attributes.next() {
+    for (semantic, _) in primitive.attributes() {
         write!(line, " {semantic}")?;
     }
     Ok(())
