@@ -126,7 +126,7 @@ def least(call, file, room):
 
 
 def measured(room):
-    """The table of the programs. A status other than 0 stands behind the number."""
+    """Prints the table of the programs. A status other than 0 follows the number."""
     print("| KiB of stack | " + " | ".join(CALLS) + " |")
     print("|---" * (len(CALLS) + 1) + "|")
     made = files(room)

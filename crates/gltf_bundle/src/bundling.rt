@@ -26,11 +26,11 @@ use std::borrow::CowSlice;
 /// The file at a path as one GLB container (glTF 2.0, section 4.4) that needs no other file, where
 /// files are asked of a source as [`gltf::import_from`] asks them.
 ///
-/// Each image with a URI is taken in: its bytes are those that its URI leads to, as that of a buffer
-/// does, and the source is asked once for each image. It goes into a buffer and a view of its own,
-/// behind those of the file, and names that view with its media type, in place of its URI. The media
-/// type is that which a `data:` URI names, where it is PNG, JPEG, WebP or KTX2; else the image's
-/// member `mimeType`; else the one of these four whose files begin as its bytes do. With
+/// Each image with a URI is taken in: its bytes are those that its URI leads to, as that of a
+/// buffer does, and the source is asked once for each image. It goes into a buffer and a view of
+/// its own, behind those of the file, and names that view with its media type, in place of its URI.
+/// The media type is that which a `data:` URI names, where it is PNG, JPEG, WebP or KTX2; else the
+/// image's member `mimeType`; else the one of these four whose files begin as its bytes do. With
 /// [`BundleOptions::keep_images`] images are not touched: those with URIs keep them.
 ///
 /// The one buffer of the container has the bytes of all buffers, as they are imported, and of these

@@ -25,8 +25,8 @@ pub enum BundleError {
         /// What is wrong with its URI.
         cause: Error,
     },
-    /// The image at this index has a URI, which leads to bytes of no known media type, and it has no
-    /// member `mimeType`.
+    /// The image at this index has a URI, which leads to bytes of no known media type, and it has
+    /// no member `mimeType`.
     ImageType(usize),
     /// The one buffer would have more than 4294967295 bytes.
     TooLong,

@@ -34,8 +34,8 @@ pub fn items_are_kept<T: Item>()
     gltf_moved::laws::items_are_kept::<T>();
 }
 
-/// Each image of the file that has a URI is, in a bundle where images are not kept, in a view of the
-/// bytes that the URI leads to.
+/// Each image of the file that has a URI is, in a bundle where images are not kept, in a view of
+/// the bytes that the URI leads to.
 pub fn images_are_shown()
     ensures { ShowsImages }
 {

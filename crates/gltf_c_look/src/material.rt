@@ -273,7 +273,8 @@ fn emissive_strength_of(stated: Option<&extended::EmissiveStrength>) -> f64
 }
 
 fn glossiness_in(material: &Material) -> Glossiness
-    ensures { result ≡ glossiness_of (option_and_then (λ e. e.pbr_specular_glossiness) material.now.extensions) }
+    ensures { result ≡ glossiness_of
+        (option_and_then (λ e. e.pbr_specular_glossiness) material.now.extensions) }
 {
     match lent(&material.extensions) {
         Some(extensions) => glossiness_of(extensions.pbr_specular_glossiness.as_ref()),
@@ -282,7 +283,8 @@ fn glossiness_in(material: &Material) -> Glossiness
 }
 
 fn transmission_in(material: &Material) -> Transmission
-    ensures { result ≡ transmission_of (option_and_then (λ e. e.transmission) material.now.extensions) }
+    ensures { result ≡ transmission_of
+        (option_and_then (λ e. e.transmission) material.now.extensions) }
 {
     match lent(&material.extensions) {
         Some(extensions) => transmission_of(extensions.transmission.as_ref()),
@@ -300,7 +302,8 @@ fn ior_in(material: &Material) -> f64
 }
 
 fn emissive_strength_in(material: &Material) -> f64
-    ensures { result ≡ emissive_strength_of (option_and_then (λ e. e.emissive_strength) material.now.extensions) }
+    ensures { result ≡ emissive_strength_of
+        (option_and_then (λ e. e.emissive_strength) material.now.extensions) }
 {
     match lent(&material.extensions) {
         Some(extensions) => emissive_strength_of(extensions.emissive_strength.as_ref()),

@@ -16,13 +16,13 @@ the bytes of an image cannot be read, nothing is written. With --keep-images ima
 one that has a URI keeps it, and stays where it is.
 
 The bytes go to OUT.glb.part, a new file, which takes the name OUT.glb once it is whole; so OUT.glb
-may be IN. Where a write fails, OUT.glb is what it was before, and the new file is removed. Where the
-program is stopped, or the new file cannot be removed, it is left behind with a part of the bytes;
-the program writes to no such file that is there already.
+may be IN. Where a write fails, OUT.glb is what it was before, and the new file is removed. Where
+the program is stopped, or the new file cannot be removed, it is left behind with a part of the
+bytes; the program writes to no such file that is there already.
 
 An OUT.glb that is there has to be a regular file, or a symbolic link to one, which is then replaced
-in its place. The new file has its mode. It belongs to whoever runs the program, and no other name of
-the old file, a hard link, leads to it.";
+in its place. The new file has its mode. It belongs to whoever runs the program, and no other name
+of the old file, a hard link, leads to it.";
 
 /// Why nothing was converted.
 #[derive(Debug, Drop)]

@@ -1,2 +1,1 @@
-mod Removed
 mod Lists

@@ -1,14 +1,14 @@
 //! The JSON value of a document whose buffers and images are in files of their own.
 ghost use Rattle.std.specs.Prelude.{◌≡◌, IfOk, option_map, drop, option_copied, string_bytes};
 ghost use Rattle.serde_json.specs.View.{view};
-ghost use Rattle.gltf_detach.specs.Detached.{detached, list_elsewhere, all_elsewhere, elsewhere, first, texts};
+ghost use Rattle.gltf_detach.specs.Detached.{detached, list_elsewhere, all_elsewhere, elsewhere};
+ghost use Rattle.gltf_detach.specs.Detached.{first, texts};
 ghost use Rattle.gltf_detach.specs.Naming.{buffer_uris, image_uris};
 
-use crate::members::without_member;
 use crate::naming::{buffer_uris, image_uris};
 use crate::owner::Owner;
 use crate::part::Part;
-use gltf_edit::with_some;
+use gltf_edit::{with_some, without_member};
 use serde_json::Value;
 use std::alloc::{AllocError, Global};
 
@@ -38,7 +38,8 @@ fn with_uris(
     buffers: &[Option<String>],
     images: &[Option<String>],
 ) -> Result<Value, AllocError>
-    ensures { IfOk result (λ v. view v ≡ detached (texts buffers.now) (texts images.now) (view document)) }
+    ensures { IfOk result (λ v. view v
+        ≡ detached (texts buffers.now) (texts images.now) (view document)) }
 {
     let buffers = list_elsewhere(alloc, &document, Owner::Buffer, buffers)?;
     let images = list_elsewhere(alloc, &document, Owner::Image, images)?;

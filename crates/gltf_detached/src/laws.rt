@@ -1,6 +1,7 @@
 //! The laws of reading. Each is a statement over definitions, proved as the contract of a function
 //! that does nothing.
-ghost use Rattle.gltf_detached.specs.Laws.{KeepsItems, NamesBuffers, NamesImages, LeadToNames, ReadsFiles};
+ghost use Rattle.gltf_detached.specs.Laws.{KeepsItems, NamesBuffers, NamesImages, LeadToNames};
+ghost use Rattle.gltf_detached.specs.Laws.{ReadsFiles};
 
 use gltf_data::laws::alike_documents_are_read_alike;
 use gltf_items::Item;
@@ -31,8 +32,8 @@ pub fn uris_lead_to_names()
     ensures { LeadToNames }
 {}
 
-/// Where each buffer of a document names a file, and a source has these files, the buffers are their
-/// bytes, with zeros up to a multiple of four.
+/// Where each buffer of a document names a file, and a source has these files, the buffers are
+/// their bytes, with zeros up to a multiple of four.
 pub fn files_are_read()
     ensures { ReadsFiles }
 {

@@ -4,9 +4,9 @@ use gltf_extensions::supported;
 use gltf_lenient::{Mends, Options, from_slice_with};
 use std::alloc::{AllocError, Global};
 
-/// Writes the images of the textures of a file and how many channels its animations have, with what
-/// the word before its text asks for: `channels`, `sources`, `both`, `attributes` or `nothing`. After
-/// them come the attributes of its primitives.
+/// Writes the images of the textures of a file, how many channels its animations have, and the
+/// attributes of its primitives, with what the word before its text asks for: `channels`,
+/// `sources`, `both`, `attributes` or `nothing`.
 pub(crate) fn write(alloc: Global, case: &str, line: &mut String) -> Result<(), AllocError> {
     let (word, text) = case.split_once(" ").unwrap_or((case, ""));
     let options = Options {
