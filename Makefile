@@ -4,7 +4,7 @@ CALL ?= chunks
 FILE ?= examples/box.glb
 PREFIX ?= /usr/local
 NAME :=
-BENCHES := items records import files peers c
+BENCHES := items records import files convert peers c
 
 # The scripts in tools/ take the words from the environment, unchanged: a path may have any
 # character. The caller's folder is another one under `make -C`.
@@ -39,7 +39,7 @@ help:
 	@echo '  make stack [WORDS=--measure]               runs them, and the library for C, with little stack'
 	@echo '  make coverage [FILES=400]                  says which code of that library the fuzzer reaches'
 	@echo '  make wrong [NAME=CRATE]                    tries the wrong bodies of a crate'
-	@echo '  make bench [NAME=items|records|import|files|peers|c] [WORDS=..]  runs the benchmarks'
+	@echo '  make bench [NAME=items|records|import|files|convert|peers|c] [WORDS=..]  runs the benchmarks'
 	@echo '  make test                                  the gate: all proofs and all tests'
 
 show:

@@ -27,9 +27,10 @@
  * Records. Each kind of record has one struct, and one call that fills it. A member that is absent
  * in the file has the default of glTF 2.0. A number is the double nearest to the one in the file. A
  * member that should be a number, or a list of so many numbers, and is not, has its default too: no
- * rule refuses it. Members called `reserved` are 0. Later libraries with the same major version may
- * use them, where 0 will mean what this version does. They add calls, enumerators and bits, and
- * change nothing else.
+ * rule refuses it. (The calls for extensions at the end of this header return GLTF_BAD_EXTENSION
+ * there.) Members called `reserved` are 0. Later libraries with the same major version may use
+ * them, where 0 will mean what this version does. They add calls, enumerators and bits, and change
+ * nothing else.
  *
  * Texts are UTF-8. They are copied to `text`, which has room for `room` bytes, are cut to `room` -
  * 1 bytes, and end with a zero byte. A cut may split a character. `*length` receives the length of
@@ -65,7 +66,7 @@
 #include <stddef.h>
 
 /* The version of this header: major * 10000 + minor * 100 + patch. */
-#define GLTF_VERSION 20000
+#define GLTF_VERSION 20100
 
 #if defined(__GNUC__) || defined(__clang__)
 #define GLTF_CHECKED __attribute__((warn_unused_result))
@@ -108,7 +109,9 @@ enum {
     GLTF_UNREADABLE = 13,        /* the accessor does not fit its buffer views, or they do not fit
                                     their buffers, as one that waits for gltf_give */
     GLTF_NO_ROOM = 14,           /* the items do not fit into `out` */
-    GLTF_OTHER_TYPE = 16         /* the accessor's components are not of the type of this call */
+    GLTF_OTHER_TYPE = 16,        /* the accessor's components are not of the type of this call */
+    GLTF_BAD_EXTENSION = 17      /* the extension has a member that is missing or of another kind,
+                                    an index out of range, or an unknown word */
 };
 
 /* Why gltf_open failed. */
@@ -221,10 +224,10 @@ GLTF_API gltf_status gltf_text(const gltf_file *file, unsigned int what, size_t 
  * its `extensions` under that name, which has `extension_size` bytes (3.12). `part` is the position
  * of a primitive in its mesh, or of a channel or sampler in its animation; for other kinds it is
  * not looked at. The text means the same as the text in the file, and need not be spelled alike.
- * Returns GLTF_NO_SUCH_INDEX if there is none. So it does for an extension that this header has a
- * struct member or a call for, at the records where it has it; and for all extensions of channels,
- * animation samplers, lights and variants, which are not kept. It may return
- * GLTF_NO_MEMORY. */
+ * Returns GLTF_NO_SUCH_INDEX if there is none. So it does for KHR_lights_punctual,
+ * KHR_materials_variants, KHR_texture_transform and those of `gltf_material.has`, at the records
+ * where they belong; and for all extensions of channels, animation samplers, lights and variants,
+ * which are not kept. It may return GLTF_NO_MEMORY. */
 GLTF_API gltf_status gltf_json(const gltf_file *file, unsigned int kind, size_t index, size_t part,
                                const char *extension, size_t extension_size, char *text,
                                size_t room, size_t *length) GLTF_CHECKED GLTF_NONNULL((9));
@@ -425,7 +428,8 @@ enum {
 };
 enum { GLTF_OPAQUE = 0, GLTF_MASK = 1, GLTF_BLEND = 2 };
 
-/* Other extensions of materials (clearcoat, sheen, iridescence ..) come from gltf_json. */
+/* Clearcoat, sheen, iridescence, anisotropy, dispersion and diffuse transmission have structs of
+ * their own, at the end of this header. Other extensions come from gltf_json. */
 typedef struct gltf_material {
     unsigned int alpha_mode;   /* GLTF_OPAQUE .. GLTF_BLEND */
     unsigned int double_sided; /* 1 or 0 */
@@ -619,6 +623,155 @@ typedef struct gltf_light {
 
 GLTF_API gltf_status gltf_light_info(const gltf_file *file, size_t index, gltf_light *out)
     GLTF_CHECKED GLTF_NONNULL((3));
+
+/* ---- Extensions (3.12) ----------------------------------------------------------------------- */
+
+/* Each of these calls reads an extension from its JSON value when it is called. Returns
+ * GLTF_NO_SUCH_INDEX if there is no such record, or it has no such extension; and
+ * GLTF_BAD_EXTENSION if the extension is no object, a required member is missing, a member is of
+ * another kind than the extension asks for, an index is not below the number of its records, or a
+ * word is unknown. Members that are absent or null have the defaults of the extension, and members
+ * that it does not define are ignored. They may return GLTF_NO_MEMORY.
+ *
+ * gltf_open looks at none of this. It accepts a file that requires one of these extensions if its
+ * name is in `extensions` of the options. */
+
+/* KHR_materials_clearcoat: a clear layer above a surface, such as lacquer. */
+typedef struct gltf_clearcoat {
+    double clearcoat_factor;
+    double clearcoat_roughness_factor;
+    gltf_texture_use clearcoat;           /* in red */
+    gltf_texture_use clearcoat_roughness; /* in green */
+    gltf_texture_use clearcoat_normal;    /* a normal texture: `scale` is its scale */
+    size_t reserved[4];
+} gltf_clearcoat;
+
+GLTF_API gltf_status gltf_clearcoat_info(const gltf_file *file, size_t material,
+                                         gltf_clearcoat *out) GLTF_CHECKED GLTF_NONNULL((3));
+
+/* KHR_materials_sheen: the soft reflection of cloth. */
+typedef struct gltf_sheen {
+    double sheen_color_factor[3];
+    double sheen_roughness_factor;
+    gltf_texture_use sheen_color;
+    gltf_texture_use sheen_roughness; /* in alpha */
+    size_t reserved[4];
+} gltf_sheen;
+
+GLTF_API gltf_status gltf_sheen_info(const gltf_file *file, size_t material, gltf_sheen *out)
+    GLTF_CHECKED GLTF_NONNULL((3));
+
+/* KHR_materials_iridescence: a thin film, whose colour depends on the angle of view. */
+typedef struct gltf_iridescence {
+    double iridescence_factor;
+    double iridescence_ior;
+    double iridescence_thickness_minimum;   /* in nanometres, as the next */
+    double iridescence_thickness_maximum;
+    gltf_texture_use iridescence;           /* in red */
+    gltf_texture_use iridescence_thickness; /* in green */
+    size_t reserved[4];
+} gltf_iridescence;
+
+GLTF_API gltf_status gltf_iridescence_info(const gltf_file *file, size_t material,
+                                           gltf_iridescence *out) GLTF_CHECKED GLTF_NONNULL((3));
+
+/* KHR_materials_anisotropy: reflections that are stretched, as those of brushed metal. */
+typedef struct gltf_anisotropy {
+    double anisotropy_strength;
+    double anisotropy_rotation;  /* in radians, from the tangent, counter-clockwise */
+    gltf_texture_use anisotropy; /* the direction in red and green, the strength in blue */
+    size_t reserved[4];
+} gltf_anisotropy;
+
+GLTF_API gltf_status gltf_anisotropy_info(const gltf_file *file, size_t material,
+                                          gltf_anisotropy *out) GLTF_CHECKED GLTF_NONNULL((3));
+
+/* KHR_materials_dispersion: how a volume parts the colours of light. */
+typedef struct gltf_dispersion {
+    double dispersion; /* 20 divided by the Abbe number */
+    size_t reserved[4];
+} gltf_dispersion;
+
+GLTF_API gltf_status gltf_dispersion_info(const gltf_file *file, size_t material,
+                                          gltf_dispersion *out) GLTF_CHECKED GLTF_NONNULL((3));
+
+/* KHR_materials_diffuse_transmission: light that goes through a surface and is scattered, as
+ * through a leaf. */
+typedef struct gltf_diffuse_transmission {
+    double diffuse_transmission_factor;
+    double diffuse_transmission_color_factor[3];
+    gltf_texture_use diffuse_transmission; /* in alpha */
+    gltf_texture_use diffuse_transmission_color;
+    size_t reserved[4];
+} gltf_diffuse_transmission;
+
+GLTF_API gltf_status gltf_diffuse_transmission_info(const gltf_file *file, size_t material,
+                                                    gltf_diffuse_transmission *out)
+    GLTF_CHECKED GLTF_NONNULL((3));
+
+/* An image of a texture in another format, for those who can decode it. The `image` of gltf_texture
+ * is for the others. */
+typedef struct gltf_texture_source {
+    size_t image; /* an image, or GLTF_NONE */
+    size_t reserved[3];
+} gltf_texture_source;
+
+/* KHR_texture_basisu: a KTX2 image with Basis Universal. */
+GLTF_API gltf_status gltf_basisu_info(const gltf_file *file, size_t texture,
+                                      gltf_texture_source *out) GLTF_CHECKED GLTF_NONNULL((3));
+
+/* EXT_texture_webp: a WebP image. */
+GLTF_API gltf_status gltf_webp_info(const gltf_file *file, size_t texture,
+                                    gltf_texture_source *out) GLTF_CHECKED GLTF_NONNULL((3));
+
+/* EXT_mesh_gpu_instancing: instances of the mesh of a node. Each of the accessors has an item for
+ * each instance. No rule says that it is there, or that their counts and types are the right ones:
+ * gltf_accessor_info has both. */
+typedef struct gltf_instancing {
+    size_t translation; /* an accessor, or GLTF_NONE, as the next two */
+    size_t rotation;    /* unit quaternions: x, y, z, w */
+    size_t scale;
+    size_t reserved[5];
+} gltf_instancing;
+
+GLTF_API gltf_status gltf_instancing_info(const gltf_file *file, size_t node, gltf_instancing *out)
+    GLTF_CHECKED GLTF_NONNULL((3));
+
+/* KHR_node_visibility. A node that has no such extension is visible. */
+typedef struct gltf_visibility {
+    unsigned int visible; /* 1, or 0: neither the node nor those below it are shown */
+    unsigned int reserved_word;
+    size_t reserved[3];
+} gltf_visibility;
+
+GLTF_API gltf_status gltf_visibility_info(const gltf_file *file, size_t node, gltf_visibility *out)
+    GLTF_CHECKED GLTF_NONNULL((3));
+
+enum { GLTF_MESHOPT_ATTRIBUTES = 0, GLTF_MESHOPT_TRIANGLES = 1, GLTF_MESHOPT_INDICES = 2 };
+enum { GLTF_MESHOPT_NO_FILTER = 0, GLTF_MESHOPT_OCTAHEDRAL = 1, GLTF_MESHOPT_QUATERNION = 2,
+       GLTF_MESHOPT_EXPONENTIAL = 3 };
+
+/* EXT_meshopt_compression: where the compressed bytes of a buffer view are, and how they are
+ * decompressed. Nothing is decompressed here, and no rule says that they lie in their buffer. */
+typedef struct gltf_meshopt {
+    size_t buffer;
+    size_t byte_offset;
+    size_t byte_length;
+    size_t byte_stride;  /* bytes of a decompressed item */
+    size_t count;        /* the number of items */
+    unsigned int mode;   /* GLTF_MESHOPT_ATTRIBUTES .. GLTF_MESHOPT_INDICES */
+    unsigned int filter; /* GLTF_MESHOPT_NO_FILTER .. GLTF_MESHOPT_EXPONENTIAL */
+    size_t reserved[2];
+} gltf_meshopt;
+
+GLTF_API gltf_status gltf_meshopt_info(const gltf_file *file, size_t view, gltf_meshopt *out)
+    GLTF_CHECKED GLTF_NONNULL((3));
+
+/* KHR_xmp_json_ld: the packet of metadata that describes a record, by its position in the list
+ * `packets` that gltf_json copies for GLTF_ROOT, index 0 and this extension. `kind`, `index` and
+ * `part` are those of gltf_json. A packet past the end of that list is a GLTF_BAD_EXTENSION. */
+GLTF_API gltf_status gltf_xmp_packet(const gltf_file *file, unsigned int kind, size_t index,
+                                     size_t part, size_t *packet) GLTF_CHECKED GLTF_NONNULL((5));
 
 #ifdef __cplusplus
 }

@@ -149,6 +149,28 @@ public:
 #undef GLTF_RECORD
 #undef GLTF_PART
 
+    // Fills in an extension of a record; returns false if the record has none. An extension that is
+    // not of its form is an error: GLTF_BAD_EXTENSION.
+#define GLTF_EXTENSION(kind, type) \
+    bool kind(std::size_t index, gltf_##type &out) const \
+    { \
+        gltf_status status = gltf_##kind##_info(file_, index, &out); \
+        check_found(status); \
+        return status == GLTF_SUCCESS; \
+    }
+    GLTF_EXTENSION(clearcoat, clearcoat)
+    GLTF_EXTENSION(sheen, sheen)
+    GLTF_EXTENSION(iridescence, iridescence)
+    GLTF_EXTENSION(anisotropy, anisotropy)
+    GLTF_EXTENSION(dispersion, dispersion)
+    GLTF_EXTENSION(diffuse_transmission, diffuse_transmission)
+    GLTF_EXTENSION(basisu, texture_source)
+    GLTF_EXTENSION(webp, texture_source)
+    GLTF_EXTENSION(instancing, instancing)
+    GLTF_EXTENSION(visibility, visibility)
+    GLTF_EXTENSION(meshopt, meshopt)
+#undef GLTF_EXTENSION
+
     // The accessor of an attribute of a primitive, or of a morph target of it, or GLTF_NONE.
     std::size_t attribute(std::size_t mesh, std::size_t primitive, unsigned int meaning,
                           unsigned int set = 0, std::size_t target = GLTF_NONE) const

@@ -118,7 +118,7 @@ size_t gltf_count(const gltf_file *file, unsigned int kind)
         return core_##name arguments; \
     }
 
-/* One that fills in the struct of the record at an index. */
+/* One that fills in the struct of the record at an index, or of an extension of it. */
 #define INFO(kind) \
     CALL(kind##_info, (core_file *, size_t, gltf_##kind *), \
          (const gltf_file *file, size_t index, gltf_##kind *out), (&handle, index, out))
@@ -134,6 +134,23 @@ INFO(skin)
 INFO(animation)
 INFO(camera)
 INFO(light)
+INFO(clearcoat)
+INFO(sheen)
+INFO(iridescence)
+INFO(anisotropy)
+INFO(dispersion)
+INFO(diffuse_transmission)
+INFO(instancing)
+INFO(visibility)
+INFO(meshopt)
+
+CALL(basisu_info, (core_file *, size_t, gltf_texture_source *),
+     (const gltf_file *file, size_t index, gltf_texture_source *out), (&handle, index, out))
+CALL(webp_info, (core_file *, size_t, gltf_texture_source *),
+     (const gltf_file *file, size_t index, gltf_texture_source *out), (&handle, index, out))
+CALL(xmp_packet, (core_file *, unsigned int, size_t, size_t, size_t *),
+     (const gltf_file *file, unsigned int kind, size_t index, size_t part, size_t *packet),
+     (&handle, kind, index, part, packet))
 
 /* GltfBytes in the code: bytes of a buffer, by the address of its first byte. That the offset and
  * the size lie in the buffer is proved; the sum is made here. */

@@ -66,13 +66,22 @@ _gltf_repack() {
     ((COMP_CWORD <= 2)) && _gltf_files "${COMP_WORDS[COMP_CWORD]}" glb gltf
 }
 
+# The flags of `gltf_convert` that fit the second name and are not there yet.
+_gltf_flags() {
+    local word given=" ${COMP_WORDS[*]:3} "
+    for word in --keep-images --pretty; do
+        [[ $given == *" $word "* ]] && continue
+        [[ $word == --pretty && ${COMP_WORDS[2],,} != *.gltf ]] && continue
+        echo "$word"
+    done
+}
+
 _gltf_convert() {
     local word=${COMP_WORDS[COMP_CWORD]}
     COMPREPLY=()
     case $COMP_CWORD in
-        1) _gltf_files "$word" glb gltf ;;
-        2) _gltf_files "$word" glb ;;
-        3) _gltf_words "$word" --keep-images ;;
+        1 | 2) _gltf_files "$word" glb gltf ;;
+        *) _gltf_words "$word" "$(_gltf_flags)" ;;
     esac
 }
 

@@ -2,8 +2,9 @@
 """Builds the library for C and tries it: `make c`, and, after `rt ci`, `make test`.
 
 The prover proves `crates/gltf_c` before a byte of it is built: the exports, over the calls in
-`crates/gltf_c_calls`. `out/c/libgltf.a` is that library, the few lines of C in `c/gltf_shim.c` and
-those of the toolchain over malloc, joined, and shows the calls of `c/gltf.h` alone.
+`crates/gltf_c_calls` and `gltf_c_rooms`. `out/c/libgltf.a` is that library, the few lines of C in
+`c/gltf_shim.c` and those of the toolchain over malloc, joined, and shows the calls of `c/gltf.h`
+alone.
 `out/c/libgltf.so` is the same as a shared library.
 
 With the word `after-ci` it uses the libraries as `rt ci` left them, and proves only the exports

@@ -35,7 +35,8 @@ MEMBERS = {("gltf_light", "type_"): "type", ("gltf_buffer", "no_bytes"): "bytes"
 # The enums of the code that C has as enumerators, each with the beginning of their names there:
 # those of which a call gives the number, and those of which it takes the number.
 GIVEN = {"Status": "", "ComponentType": "", "Mode": "", "Semantic": "", "AlphaMode": "",
-         "Interpolation": "", "Property": "PATH_", "Type": ""}
+         "Interpolation": "", "Property": "PATH_", "Type": "", "MeshoptMode": "MESHOPT_",
+         "MeshoptFilter": "MESHOPT_"}
 TAKEN = {"Kind": "", "Semantic": "", "TextMember": "ASSET_", "NodeList": "", "NumberList": "",
          "Place": ""}
 # The enumerators that C has by other names.
@@ -48,6 +49,7 @@ ENUMERATORS = {
     ("Semantic", "TexCoords"): "TEXCOORD",
     ("Semantic", "Extras"): "CUSTOM",
     ("Property", "MorphTargetWeights"): "PATH_WEIGHTS",
+    ("MeshoptFilter", "None"): "MESHOPT_NO_FILTER",
     ("TextMember", "BufferUri"): "BUFFER_URI",
     ("TextMember", "ImageUri"): "IMAGE_URI",
     ("TextMember", "ImageMimeType"): "IMAGE_MIME_TYPE",

@@ -23,10 +23,11 @@ BOX, TRIANGLE, DANGLING = (EXAMPLES / name for name in
                            ("box.glb", "triangle.gltf", "dangling.gltf"))
 SQUARE = EXAMPLES / "two files" / "square.gltf"
 RIG, SURFACE = TESTS_OF_C / "rig.gltf", TESTS_OF_C / "surface.gltf"
-# What rich.py writes.
-RICH, RICH_GLB, VALID, PLAIN = (OUT / "files" / name for name in
-                                ("rich.gltf", "rich.glb", "valid.glb", "plain.gltf"))
-FINE = [BOX, TRIANGLE, SQUARE, RIG, SURFACE, RICH, RICH_GLB, VALID, PLAIN]
+# What rich.py writes, and extended.py.
+RICH, RICH_GLB, VALID, PLAIN, EXTENDED = (
+    OUT / "files" / name for name in
+    ("rich.gltf", "rich.glb", "valid.glb", "plain.gltf", "extended.gltf"))
+FINE = [BOX, TRIANGLE, SQUARE, RIG, SURFACE, RICH, RICH_GLB, VALID, PLAIN, EXTENDED]
 MESSAGE = programs.DANGLING.rstrip("\n")
 SHOWN = "the first point is 0.5 -0.5 -0.5\n"
 STRICT = ["-Wall", "-Wextra", "-Wconversion", "-pedantic", "-Werror", "-O2"]
@@ -162,6 +163,8 @@ def lists_by(compiler):
     for language in ("c++11", "c++17", "c++20"):
         compiled(TESTS_OF_C / "list.cpp", program, by=compiler, language=language)
         same(ran(program, BOX, DANGLING), wanted)
+        same(ran(program, SURFACE), "sheen: 1\nno film: 17\nscene -1, version 2.0, no buffer ``\n"
+             "12 : gltf: a call returned status 12\n")
 
 
 # URIs of a buffer of eight bytes in below/file.gltf, with what gltf_load gives of them.
@@ -287,6 +290,8 @@ def mutated_files_break_nothing(times):
     # A finding ends the program, also one of undefined behaviour.
     program = built("mutate", "-g", "-fsanitize=address,undefined", "-fno-sanitize-recover=all")
     print(ran(program, str(times), BOX, TRIANGLE, DANGLING, RIG, RICH, RICH_GLB), end="")
+    # A tenth as often, since it is read for longer than the others together.
+    print(ran(program, str(times // 10), EXTENDED), end="")
 
 
 def valgrind_sees_no_error(times):
@@ -386,11 +391,11 @@ def by_cmake(room):
                       for kind in ("gltf", "shared", "static"))
     text = ("cmake_minimum_required(VERSION 3.10)\nproject(show C)\n"
             "find_package(gltf {} REQUIRED)\n" + targets)
-    for version in ("3.0", "2.1", "1.9", "2.0.0", "2.0"):
+    for version in ("3.0", "2.2", "1.9", "2.1", "2.0.0", "2.0"):
         (room / "CMakeLists.txt").write_text(text.format(version))
         words = ["cmake", f"-DCMAKE_PREFIX_PATH={room}/usr", "-S", room,
                  "-B", room / f"built{version}"]
-        is_wanted = version.startswith("2.0")
+        is_wanted = version.startswith(("2.0", "2.1"))
         came = subprocess.run(words, stdout=subprocess.DEVNULL, stderr=subprocess.DEVNULL)
         same(came.returncode == 0, is_wanted)
     ran("cmake", "--build", room / "built2.0")
@@ -459,5 +464,6 @@ def holds(test, *given):
 
 def results(is_long):
     (OUT / "files").mkdir(parents=True, exist_ok=True)
-    ran(sys.executable, TESTS_OF_C / "rich.py", OUT / "files")
+    for name in ("rich.py", "extended.py"):
+        ran(sys.executable, TESTS_OF_C / name, OUT / "files")
     return [holds(*row) for row in tests(is_long)]

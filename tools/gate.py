@@ -33,6 +33,7 @@ PARTS = (
     ["rt", "ci"],
     ["python3", "tools/refusals.py"],
     ["python3", "tools/programs.py"],
+    ["python3", "tools/conversions.py"],
     ["python3", "tools/findings.py"],
     ["python3", "tools/c.py", "after-ci"],
     ["python3", "tools/python.py"],

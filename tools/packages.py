@@ -76,13 +76,13 @@ def plain(text):
 
 
 def calls_of(text):
-    """The calls that a usage line lists, each with the program's name."""
-    program, _, calls = text[len("usage: "):].partition(" ")
-    return [f"{program} {call}" for call in calls.split(" | ")]
+    """The calls that the usage lines list, each with the program's name."""
+    lines = [line.strip().partition(" ") for line in text[len("usage: "):].splitlines()]
+    return [f"{program} {call}" for program, _, calls in lines for call in calls.split(" | ")]
 
 
 def page_says_what_help_says(program):
-    """The synopsis has the calls of the usage line, and the page each further paragraph."""
+    """The synopsis has the calls of the usage lines, and the page each further paragraph."""
     usage, *paragraphs = help_of(program).split("\n\n")
     page = PAGES[program].read_text("utf-8")
     synopsis = re.search(r"^\.SH SYNOPSIS\n\.nf\n(.*?)^\.fi$", page, re.DOTALL | re.MULTILINE)[1]
@@ -149,9 +149,12 @@ COMPLETED = [
     (["gltf_repack", "scene.gltf", "b"], ["box.glb"]),
     (["gltf_repack", "scene.gltf", "box.glb", ""], []),
     (["gltf_convert", ""], FILES),
-    (["gltf_convert", "scene.gltf", ""], CONTAINERS),
+    (["gltf_convert", "scene.gltf", ""], FILES),
     (["gltf_convert", "scene.gltf", "box.glb", ""], ["--keep-images"]),
     (["gltf_convert", "scene.gltf", "box.glb", "--keep-images", ""], []),
+    (["gltf_convert", "box.glb", "scene.gltf", ""], ["--keep-images", "--pretty"]),
+    (["gltf_convert", "box.glb", "scene.gltf", "--pretty", ""], ["--keep-images"]),
+    (["gltf_convert", "box.glb", "scene.gltf", "--keep-images", "--pretty", ""], []),
 ]
 # Calls the function that `complete` names for the first word, as bash calls it.
 COMPLETE = r"""

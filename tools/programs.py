@@ -1,7 +1,8 @@
 #!/usr/bin/env python3
-"""Runs the proved programs `gltf_show`, `gltf_repack` and `gltf_convert` on files that it makes. A
-row is a call: its words, its status, and what it writes; and after the last two what is in the folder.
-`make test` calls it after `rt ci`. The last line is `N passed, M failed`."""
+"""Runs the proved programs `gltf_show` and `gltf_repack` on files that it makes. A row is a call:
+its words, its status, and what it writes; and after the last what is in the folder. `make test`
+calls it after `rt ci`. The last line is `N passed, M failed`. `tools/conversions.py` has the rows
+of `gltf_convert`."""
 import base64
 import json
 import os
@@ -587,175 +588,6 @@ def takes_no_line(program, room):
     return report(program.name, ["in.gltf", "out.glb"], good, ran)
 
 
-def data(media, contents):
-    """A data: URI of these bytes."""
-    return f"data:{media};base64,{base64.b64encode(contents).decode()}"
-
-
-# Files that begin as images of the four known types do, in the order of their types.
-TYPES = ["image/png", "image/jpeg", "image/webp", "image/ktx2"]
-PICTURES = [
-    b"\x89PNG\r\n\x1a\n12345",
-    b"\xff\xd8\xff12",
-    b"RIFF\4\0\0\0WEBP",
-    b"\xabKTX 20\xbb\r\n\x1a\n1",
-]
-NO_TYPE = "images[1]: neither a mimeType nor bytes of PNG, JPEG, WebP or KTX2\n"
-# A file of two buffers and two images beside it, of which one buffer is no multiple of four bytes
-# long. A third image is a data: URI, and one is in a view.
-TWO = {
-    "asset": {"version": "2.0", "extras": [1.5, "\u00e9\n", None, 9007199254740993]},
-    "buffers": [{"byteLength": 3, "uri": "a%20b.bin"}, {"byteLength": 5, "uri": "c.bin"}],
-    "bufferViews": [
-        {"buffer": 0, "byteLength": 2, "byteOffset": 1, "name": "first"},
-        {"buffer": 1, "byteLength": 4, "byteOffset": 1, "STUDIO": {"buffer": 1}},
-        {"buffer": 1, "byteLength": 5, "extensions": {"EXT_meshopt_compression": {
-            "buffer": 0, "byteLength": 3, "byteStride": 1, "count": 3, "mode": "INDICES"}}},
-    ],
-    "accessors": [{"bufferView": 1, "componentType": 5121, "count": 4, "type": "SCALAR"}],
-    "images": [
-        {"uri": "p%20q.png", "name": "\u00e9", "extras": {"b": [1, None], "a": 1e3}},
-        {"bufferView": 2, "mimeType": "image/x-own"},
-        {"uri": data("image/jpeg", PICTURES[1])},
-        {"uri": "own", "mimeType": "image/x-own", "extensions": {"STUDIO": {"uri": "stays"}}},
-    ],
-    "unknown": {"b": 1e3, "a": []},
-}
-VIEWS = [
-    {"buffer": 0, "byteLength": 2, "byteOffset": 1, "name": "first"},
-    {"buffer": 0, "byteLength": 4, "byteOffset": 9, "STUDIO": {"buffer": 1}},
-    {"buffer": 0, "byteLength": 5, "byteOffset": 8, "extensions": {"EXT_meshopt_compression": {
-        "buffer": 0, "byteLength": 3, "byteOffset": 0, "byteStride": 1, "count": 3,
-        "mode": "INDICES"}}},
-]
-# The same with one buffer, where images are kept. Each of the two is filled up to a multiple of
-# eight, so the second begins at byte 8, and both have 16 bytes.
-KEPT = TWO | {"buffers": [{"byteLength": 16}], "bufferViews": VIEWS}
-# And where they are taken in: behind the buffers stand 13 bytes, which are filled up to 16, then 5,
-# which are filled up to 8, and then 8.
-ONE = TWO | {
-    "buffers": [{"byteLength": 48}],
-    "bufferViews": VIEWS + [
-        {"buffer": 0, "byteLength": 13, "byteOffset": 16},
-        {"buffer": 0, "byteLength": 5, "byteOffset": 32},
-        {"buffer": 0, "byteLength": 8, "byteOffset": 40},
-    ],
-    "images": [
-        {"bufferView": 3, "mimeType": "image/png", "name": "\u00e9",
-         "extras": {"b": [1, None], "a": 1e3}},
-        {"bufferView": 2, "mimeType": "image/x-own"},
-        {"bufferView": 4, "mimeType": "image/jpeg"},
-        {"bufferView": 5, "mimeType": "image/x-own", "extensions": {"STUDIO": {"uri": "stays"}}},
-    ],
-}
-JOINED = bytes([1, 2, 3, 0, 0, 0, 0, 0, 4, 5, 6, 7, 8, 0, 0, 0])
-TAKEN = JOINED + PICTURES[0] + bytes(3) + PICTURES[1] + bytes(3) + b"12345678"
-# Images alone: what a URI names goes before what the bytes are, and their own type between the two.
-KINDS = {
-    "asset": {"version": "2.0"},
-    "images": [{"uri": data("", picture)} for picture in PICTURES]
-    + [{"uri": data(media, b"1")} for media in TYPES]
-    + [{"uri": data("image/png", PICTURES[1]), "mimeType": "image/x-own"}]
-    + [{"uri": data("text/plain", PICTURES[1]), "mimeType": "image/x-own"}],
-}
-FOUND = [*TYPES, *TYPES, "image/png", "image/x-own"]
-LONGS = [13, 5, 12, 13, 1, 1, 1, 1, 5, 5]
-STARTS = [0, 16, 24, 40, 56, 64, 72, 80, 88, 96]
-OWN_KINDS = {
-    "asset": {"version": "2.0"},
-    "buffers": [{"byteLength": 104}],
-    "bufferViews": [
-        {"buffer": 0, "byteLength": n, "byteOffset": at} for n, at in zip(LONGS, STARTS)
-    ],
-    "images": [{"bufferView": i, "mimeType": media} for i, media in enumerate(FOUND)],
-}
-ALL_KINDS = [*PICTURES, *[b"1"] * 4, PICTURES[1], PICTURES[1]]
-CONVERT_USAGE = Begins("usage: gltf_convert IN OUT.glb [--keep-images]\n")
-ENDING = "out.gltf: has to end in .glb: JSON with files beside it is not written\n"
-# The words, the status and the error of calls that write nothing.
-NOT_CONVERTED = [
-    (["two.gltf", "out.gltf"], 2, ENDING),
-    (["no.gltf", "out.glb"], 1, Failed("no.gltf")),
-    (["lacks.gltf", "out.glb"], 1, Failed("no.bin")),
-    (["beyond.gltf", "out.glb"], 1, "bufferViews[0]: not within its buffer\n"),
-    (["dangling.gltf", "out.glb"], 1, DANGLING),
-    (["two.gltf", "folder"], 2, "folder: " + ENDING.partition(": ")[2]),
-    (["two.gltf"], 2, CONVERT_USAGE),
-    (["two.gltf", "out.glb", "out.glb"], 2, CONVERT_USAGE),
-    (["two.gltf", "out.glb", "--keep"], 2, CONVERT_USAGE),
-    (["--keep-images", "two.gltf", "out.glb"], 2, CONVERT_USAGE),
-    (["two.gltf", "out.glb", "--keep-images", "--keep-images"], 2, CONVERT_USAGE),
-    (["lost.gltf", "out.glb"], 1, Failed("lost.png")),
-    (["odd.gltf", "out.glb"], 1, NO_TYPE),
-    (["scheme.gltf", "out.glb"], 1, Begins("images[0].uri: ")),
-    (["payload.gltf", "out.glb"], 1, Begins("images[0].uri: ")),
-]
-# Files with one image or two, which are refused unless images are kept.
-IMAGES = {
-    "lost.gltf": [{"uri": "lost.png"}],
-    "odd.gltf": [{"uri": "p%20q.png"}, {"uri": data("image/x-odd", b"odd")}],
-    "scheme.gltf": [{"uri": "http://example.org/p.png"}],
-    "payload.gltf": [{"uri": "data:image/png;base64,?"}],
-}
-# The words, the JSON value and the bytes of calls that write `out.glb`.
-CONVERTED = [
-    (["two.gltf"], [], ONE, TAKEN),
-    (["two.gltf"], ["--keep-images"], KEPT, JOINED),
-    (["kinds.gltf"], [], OWN_KINDS, b"".join(p + bytes(-len(p) % 8) for p in ALL_KINDS)),
-    (["kinds.gltf"], ["--keep-images"], KINDS, b""),
-    *[([name], ["--keep-images"], {"asset": {"version": "2.0"}, "images": images}, b"")
-      for name, images in IMAGES.items()],
-]
-
-
-def make_converted(room):
-    """The folder that `gltf_convert` is called in."""
-    beyond = TWO | {"bufferViews": [{"buffer": 0, "byteLength": 5}], "accessors": [], "images": []}
-    lacks = TWO | {"buffers": [TWO["buffers"][0], {"byteLength": 5, "uri": "no.bin"}]}
-    make(room, {
-        "two.gltf": json.dumps(TWO).encode(),
-        "kinds.gltf": json.dumps(KINDS).encode(),
-        "beyond.gltf": json.dumps(beyond).encode(),
-        "lacks.gltf": json.dumps(lacks).encode(),
-        "dangling.gltf": document(nodes=[{"mesh": 3, "skin": 0}]),
-        "a b.bin": JOINED[:3],
-        "c.bin": JOINED[8:13],
-        "p q.png": PICTURES[0],
-        "own": b"12345678",
-        **{name: document(images=images) for name, images in IMAGES.items()},
-    })
-
-
-def converts(convert, show, room, source, flags, value, buffer):
-    """Whether a file becomes one container with this JSON value and these bytes. Where no image is
-    kept, it is accepted alone, in an empty folder, and is converted to itself."""
-    words = [*source, "out.glb", *flags]
-    how = {"cwd": room, "capture_output": True, "text": True, "preexec_fn": started()}
-    ran = subprocess.run([convert, *words], **how)
-    made = (room / "out.glb").read_bytes() if (room / "out.glb").exists() else bytes(20)
-    (room / "out.glb").unlink(missing_ok=True)
-    length = int.from_bytes(made[12:16], "little")
-    rest = made[20 + length :]
-    good = (ran.returncode, ran.stdout, ran.stderr) == (0, f"out.glb: {len(made)} bytes\n", "")
-    good = good and made[:12] == b"glTF" + struct.pack("<2I", 2, len(made))
-    good = good and made[16:20] == b"JSON" and json.loads(made[20 : 20 + length]) == value
-    good = good and rest == (chunk(b"BIN\0", buffer) if buffer else b"")
-    if flags or not good:
-        return report(convert.name, words, good, ran)
-    with tempfile.TemporaryDirectory() as name:
-        alone = pathlib.Path(name)
-        (alone / "out.glb").write_bytes(made)
-        alone.chmod(0o777)
-        how["cwd"] = alone
-        checked = subprocess.run([show, "check", "out.glb"], **how)
-        counts = [len(value.get(member, [])) for member in ("buffers", "accessors")]
-        line = f"ok buffers={counts[0]} accessors={counts[1]} meshes=0 nodes=0\n"
-        again = subprocess.run([convert, "out.glb", "again.glb"], **how)
-        good = checked.stdout == line and again.returncode == 0
-        good = good and (alone / "again.glb").read_bytes() == made
-    return report(convert.name, words, good, (ran, checked, again))
-
-
 def refuses(program, room, words, status, error):
     """Whether a call is refused so, and leaves the folder as it was."""
     return leaves(program, room, words, status, "", error, {})
@@ -782,11 +614,7 @@ def main():
         make_repacked(room)
         good += [leaves(repack, room, *row) for row in REPACKS]
         good.append(takes_no_line(repack, room))
-        convert, room = copy_of("gltf_convert", place), place / "converted"
-        make_converted(room)
-        good += [refuses(convert, room, *row) for row in NOT_CONVERTED]
-        good += [converts(convert, show, room, *row) for row in CONVERTED]
-        good += [takes_text_alone(program, room) for program in (show, repack, convert)]
+        good += [takes_text_alone(program, room) for program in (show, repack)]
     print(f"{sum(good)} passed, {len(good) - sum(good)} failed")
     return 0 if all(good) else 1
 

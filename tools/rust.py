@@ -32,9 +32,10 @@ sys.path.insert(0, str(c_tests.TESTS_OF_C))
 
 import expected
 
-# What the crate does not tell, of lines of expected.py: only that of used samplers, and of what a
-# material or node states what the crate `gltf` tells.
-UNTOLD = re.compile(r"buffers \d+ waits:|animations \d+ samplers:|animationSamplers \d+ \d+ EXT_")
+# What the crate does not tell, of lines of expected.py: only that of used samplers, of what a
+# material or node states what the crate `gltf` tells, and no extension that is JSON text there.
+UNTOLD = re.compile(r"buffers \d+ waits:|animations \d+ samplers:|animationSamplers \d+ \d+ EXT_"
+                    rf"|({'|'.join(expected.EXTENSIONS)}) \d+ ")
 # The factors of the extensions of a material, by the bit of the extension.
 FACTORS = {2: "diffuse_factor specular_glossiness_factor glossiness_factor",
            4: "transmission_factor", 8: "ior", 16: "emissive_strength",

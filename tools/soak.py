@@ -255,11 +255,14 @@ def tried(number, seed, names, examples):
         size = len(data)
         faults = faults_of("inspect", [show, "inspect", file, "--json"], (0, 1, 2), room, size)
         faults += faults_of("check", [show, "check", file], (0, 1), room, size)
-        packed, one = "packed.glb", "one.glb"
+        packed, one, text = "packed.glb", "one.glb", "text.gltf"
         faults += faults_of("repack", [repack, file, packed], (0, 1), room, size, packed)
         faults += faults_of("convert", [convert, file, one], (0, 1), room, size, one)
-        if (room / one).exists():
-            faults += faults_of("check of one.glb", [show, "check", one], (0,), room, 3 * size)
+        faults += faults_of("to text", [convert, file, text], (0, 1), room, size, text)
+        for made_file in (one, text):
+            if (room / made_file).exists():
+                words = [show, "check", made_file]
+                faults += faults_of(f"check of {made_file}", words, (0,), room, 3 * size)
         if faults:
             OUT.mkdir(parents=True, exist_ok=True)
             (OUT / f"{seed}-{number}{ending}").write_bytes(data)

@@ -27,6 +27,7 @@ INTERPOLATIONS = ("LINEAR", "STEP", "CUBICSPLINE")
 UNIT = [1, 0, 0, 0, 0, 1, 0, 0, 0, 0, 1, 0, 0, 0, 0, 1]
 LARGEST = sys.float_info.max
 LIGHTS, VARIANTS = "KHR_lights_punctual", "KHR_materials_variants"
+PACKETS = "KHR_xmp_json_ld"
 # The extensions that gltf.h has members or calls for.
 KNOWN = {LIGHTS, VARIANTS, "KHR_texture_transform", *("KHR_materials_" + name for name in (
     "unlit", "pbrSpecularGlossiness", "transmission", "ior", "emissive_strength", "volume",
@@ -35,6 +36,8 @@ KNOWN = {LIGHTS, VARIANTS, "KHR_texture_transform", *("KHR_materials_" + name fo
 JSON = ("extras", "EXT_mark", "KHR_materials_clearcoat")
 # The statuses of a read: the accessor does not fit, and its components are of another type.
 SUCCESS, UNREADABLE, OTHER_TYPE = 0, 13, 16
+# The status of an extension that is not of its form.
+BAD_EXTENSION = 17
 
 lines = []
 
@@ -152,14 +155,18 @@ class File:
         return items
 
 
-def print_extras(about, record):
+def print_extras(file, about, record):
     """The extras, and the unknown extensions, which are not kept of some records."""
     is_kept = about.split()[0] not in ("channels", "animationSamplers", "lights", "variants")
-    values = {name: known(record, name) if is_kept else None for name in JSON}
-    values["extras"] = record.get("extras")
+    values = dict(record.get("extensions", {})) if is_kept else {}
+    values.pop("extras", None)
+    if record.get("extras") is not None:
+        values["extras"] = record["extras"]
     for member in JSON:
-        if values[member] is not None:
+        if member in values:
             put(about, member, json.dumps(values[member]))
+    if is_kept:
+        print_packet(file, about, record)
 
 
 def meaning(line):
@@ -168,6 +175,196 @@ def meaning(line):
     if not about.endswith(JSON):
         return line
     return f"{about}: {json.dumps(json.loads(text), sort_keys=True)}"
+
+
+# ---- The extensions at the end of gltf.h. Unlike a member of a record, one of these that is of
+# another kind is a fault.
+
+class Bad(Exception):
+    """An extension is not of its form."""
+
+
+def must(holds):
+    if not holds:
+        raise Bad
+
+
+def without_nulls(value):
+    """The same with the members left out that are null, which is to be absent."""
+    if not isinstance(value, dict):
+        return value
+    return {name: without_nulls(it) for name, it in value.items() if it is not None}
+
+
+def is_whole(value, bits=32):
+    return isinstance(value, int) and not isinstance(value, bool) and 0 <= value < 1 << bits
+
+
+def must_be(check, record, *members):
+    """Each of the members is absent, or the check holds."""
+    must(isinstance(record, dict))
+    for member in members:
+        must(member not in record or check(record[member]))
+
+
+def number_kind(default):
+    def read(file, about, name, value):
+        must(value is None or is_number(value))
+        return lambda: put_numbers(about, name, [default if value is None else value])
+    return read
+
+
+def is_list_of_numbers(count):
+    return lambda value: isinstance(value, list) and len(value) == count and all(
+        map(is_number, value))
+
+
+def numbers_kind(default):
+    def read(file, about, name, value):
+        must(value is None or is_list_of_numbers(len(default))(value))
+        return lambda: put_numbers(about, name, default if value is None else value)
+    return read
+
+
+def use_kind(is_normal=False):
+    """A use of a texture (5.20, 5.30)."""
+    def read(file, about, name, value):
+        if value is not None:
+            must_be(is_whole, value, "texCoord")
+            must(is_whole(value.get("index")) and value["index"] < len(file.list("textures")))
+            must_be(is_number, value, *["scale"] * is_normal)
+            transform = value.get("extensions", {})
+            must(isinstance(transform, dict))
+            transform = transform.get("KHR_texture_transform", {})
+            must_be(is_whole, transform, "texCoord")
+            must_be(is_number, transform, "rotation")
+            must_be(is_list_of_numbers(2), transform, "offset", "scale")
+        return lambda: print_use(about, name, value, "scale" if is_normal else "no member")
+    return read
+
+
+def index_kind(kind, is_required=False):
+    def read(file, about, name, value):
+        must(not is_required if value is None else
+             is_whole(value) and value < len(file.list(kind)))
+        return lambda: put(about, name, value)
+    return read
+
+
+def size_kind(default=None):
+    """A number of bytes or of items; required where there is no default."""
+    def read(file, about, name, value):
+        value = default if value is None else value
+        must(is_whole(value, 64))
+        return lambda: put(about, name, value)
+    return read
+
+
+def word_kind(*words, default=None):
+    def read(file, about, name, value):
+        value = default if value is None else value
+        must(isinstance(value, str) and value in words)
+        return lambda: put(about, name, words.index(value))
+    return read
+
+
+def flag_kind(default):
+    def read(file, about, name, value):
+        value = default if value is None else value
+        must(isinstance(value, bool))
+        return lambda: put(about, name, int(value))
+    return read
+
+
+# Of each call the kind of its records, the extension, and its members: by their names in the
+# struct, what they are in JSON, and how they are read.
+EXTENSIONS = {
+    "meshopt": ("bufferViews", "EXT_meshopt_compression", {
+        "buffer": ("buffer", index_kind("buffers", True)),
+        "byte_offset": ("byteOffset", size_kind(0)), "byte_length": ("byteLength", size_kind()),
+        "byte_stride": ("byteStride", size_kind()), "count": ("count", size_kind()),
+        "mode": ("mode", word_kind("ATTRIBUTES", "TRIANGLES", "INDICES")),
+        "filter": ("filter", word_kind("NONE", "OCTAHEDRAL", "QUATERNION", "EXPONENTIAL",
+                                       default="NONE"))}),
+    "clearcoat": ("materials", "KHR_materials_clearcoat", {
+        "clearcoat_factor": ("clearcoatFactor", number_kind(0)),
+        "clearcoat_roughness_factor": ("clearcoatRoughnessFactor", number_kind(0)),
+        "clearcoat": ("clearcoatTexture", use_kind()),
+        "clearcoat_roughness": ("clearcoatRoughnessTexture", use_kind()),
+        "clearcoat_normal": ("clearcoatNormalTexture", use_kind(True))}),
+    "sheen": ("materials", "KHR_materials_sheen", {
+        "sheen_color_factor": ("sheenColorFactor", numbers_kind([0, 0, 0])),
+        "sheen_roughness_factor": ("sheenRoughnessFactor", number_kind(0)),
+        "sheen_color": ("sheenColorTexture", use_kind()),
+        "sheen_roughness": ("sheenRoughnessTexture", use_kind())}),
+    "iridescence": ("materials", "KHR_materials_iridescence", {
+        "iridescence_factor": ("iridescenceFactor", number_kind(0)),
+        "iridescence_ior": ("iridescenceIor", number_kind(1.3)),
+        "iridescence_thickness_minimum": ("iridescenceThicknessMinimum", number_kind(100)),
+        "iridescence_thickness_maximum": ("iridescenceThicknessMaximum", number_kind(400)),
+        "iridescence": ("iridescenceTexture", use_kind()),
+        "iridescence_thickness": ("iridescenceThicknessTexture", use_kind())}),
+    "anisotropy": ("materials", "KHR_materials_anisotropy", {
+        "anisotropy_strength": ("anisotropyStrength", number_kind(0)),
+        "anisotropy_rotation": ("anisotropyRotation", number_kind(0)),
+        "anisotropy": ("anisotropyTexture", use_kind())}),
+    "dispersion": ("materials", "KHR_materials_dispersion", {
+        "dispersion": ("dispersion", number_kind(0))}),
+    "diffuse_transmission": ("materials", "KHR_materials_diffuse_transmission", {
+        "diffuse_transmission_factor": ("diffuseTransmissionFactor", number_kind(0)),
+        "diffuse_transmission_color_factor": ("diffuseTransmissionColorFactor",
+                                              numbers_kind([1, 1, 1])),
+        "diffuse_transmission": ("diffuseTransmissionTexture", use_kind()),
+        "diffuse_transmission_color": ("diffuseTransmissionColorTexture", use_kind())}),
+    "basisu": ("textures", "KHR_texture_basisu", {"image": ("source", index_kind("images"))}),
+    "webp": ("textures", "EXT_texture_webp", {"image": ("source", index_kind("images"))}),
+    "instancing": ("nodes", "EXT_mesh_gpu_instancing", {
+        name.lower(): (f"attributes/{name}", index_kind("accessors"))
+        for name in ("TRANSLATION", "ROTATION", "SCALE")}),
+    "visibility": ("nodes", "KHR_node_visibility", {"visible": ("visible", flag_kind(True))}),
+}
+
+
+def member_at(value, path):
+    """A member of an object; the objects that lead to it are required."""
+    for name in path.split("/")[:-1]:
+        must(isinstance(value.get(name), dict))
+        value = value[name]
+    return value.get(path.split("/")[-1])
+
+
+def print_extension(file, about, value, members):
+    try:
+        must(isinstance(value, dict))
+        value = without_nulls(value)
+        found = [read(file, about, name, member_at(value, member))
+                 for name, (member, read) in members.items()]
+    except Bad:
+        put(about, "status", BAD_EXTENSION)
+        return
+    for line in found:
+        line()
+
+
+def print_extensions(file, kind, index, record):
+    """Those that the record has."""
+    for call, (of, name, members) in EXTENSIONS.items():
+        if of == kind and name in record.get("extensions", {}):
+            print_extension(file, f"{call} {index}", record["extensions"][name], members)
+
+
+def print_packet(file, about, record):
+    """The packet of metadata that a record names."""
+    if PACKETS not in record.get("extensions", {}):
+        return
+    stated = file.document.get("extensions", {}).get(PACKETS)
+    packets = stated.get("packets") if isinstance(stated, dict) else None
+    value = record["extensions"][PACKETS]
+    packet = value.get("packet") if isinstance(value, dict) else None
+    if is_whole(packet) and isinstance(packets, list) and packet < len(packets):
+        put(about, "packet", packet)
+    else:
+        put(about, "status of packet", BAD_EXTENSION)
 
 
 def print_buffer(file, about, index, record):
@@ -262,7 +459,7 @@ def print_primitive(file, about, record):
         if of:
             put(about, "variant", variant)
             put(about, "of material", of[0])
-    print_extras(about, record)
+    print_extras(file, about, record)
     print_attributes(about, record["attributes"])
 
 
@@ -399,9 +596,9 @@ def print_animation(file, about, index, record):
         put(at, "sampler", channel["sampler"])
         put(at, "input", sampler["input"])
         put(at, "output", sampler["output"])
-        print_extras(at, channel)
+        print_extras(file, at, channel)
     for k, sampler in enumerate(record["samplers"]):
-        print_extras(f"animationSamplers {index} {k}", sampler)
+        print_extras(file, f"animationSamplers {index} {k}", sampler)
 
 
 def print_camera(file, about, index, record):
@@ -446,20 +643,21 @@ def print_file(path):
             about = f"{kind} {index}"
             if "name" in record:
                 put(about, "name", record["name"])
-            print_extras(about, record)
+            print_extras(file, about, record)
             print_record(file, about, index, record)
+            print_extensions(file, kind, index, record)
     for kind in ("extensionsUsed", "extensionsRequired"):
         lines.append(f"{len(file.list(kind))} {kind}")
         for index, name in enumerate(file.list(kind)):
             put(f"{kind} {index}", "name", name)
     asset = file.document["asset"]
     lines.append("1 asset")
-    print_extras("asset 0", asset)
+    print_extras(file, "asset 0", asset)
     for member in ("version", "minVersion", "generator", "copyright"):
         if member in asset:
             put("asset 0", member, asset[member])
     lines.append("1 root")
-    print_extras("root 0", file.document)
+    print_extras(file, "root 0", file.document)
     put("root 0", "scene", file.document.get("scene"))
     print_material(file, "default", None, {})
 

@@ -128,11 +128,24 @@ static void print_json_of(const gltf_file *file, unsigned int kind, size_t index
     }
 }
 
+static void print_packet(const gltf_file *file, unsigned int kind, size_t index, size_t part)
+{
+    size_t packet = 77;
+    gltf_status status = gltf_xmp_packet(file, kind, index, part, &packet);
+    if (status == GLTF_SUCCESS)
+        put_size("packet", packet);
+    else
+        CHECK(packet == 77);
+    if (status != GLTF_SUCCESS && status != GLTF_NO_SUCH_INDEX)
+        put_size("status of packet", status);
+}
+
 static void print_json(const gltf_file *file, unsigned int kind, size_t index, size_t part)
 {
     print_json_of(file, kind, index, part, NULL);
     print_json_of(file, kind, index, part, "EXT_mark");
     print_json_of(file, kind, index, part, "KHR_materials_clearcoat");
+    print_packet(file, kind, index, part);
 }
 
 static void print_list(const gltf_file *file, unsigned int what, size_t index, const char *member,
@@ -159,6 +172,28 @@ static void print_numbers(const gltf_file *file, unsigned int what, size_t index
     CHECK(count == 0 || one[0] == list[0]);
 }
 
+/* ---- Extensions. */
+
+/* Whether a call filled in the struct of an extension. If it did not, no byte of it was written. */
+static int is_there(const char *kind, size_t index, gltf_status status, const void *it, size_t size,
+                    size_t reserved)
+{
+    const unsigned char *bytes = (const unsigned char *)it;
+    size_t at = status == GLTF_SUCCESS ? size - reserved : 0;
+    for (; at < size; at++)
+        CHECK(bytes[at] == (status == GLTF_SUCCESS ? 0 : 0xaa));
+    if (status != GLTF_NO_SUCH_INDEX)
+        record(kind, 1, index, 0, 0);
+    if (status != GLTF_SUCCESS && status != GLTF_NO_SUCH_INDEX)
+        put_size("status", status);
+    return status == GLTF_SUCCESS;
+}
+
+#define EXTENSION(kind, it, index) \
+    is_there(#kind, index, \
+             gltf_##kind##_info(file, index, (memset(&(it), 0xaa, sizeof (it)), &(it))), \
+             &(it), sizeof (it), sizeof (it).reserved)
+
 /* ---- Bytes. */
 
 static void print_bytes(const char *member, const unsigned char *bytes, size_t size)
@@ -184,6 +219,7 @@ static void print_buffer(const gltf_file *file, size_t index)
 static void print_view(const gltf_file *file, size_t index)
 {
     gltf_buffer_view it;
+    gltf_meshopt meshopt;
     FILL(it, gltf_buffer_view_info(file, index, &it));
     CHECK(it.reserved_word == 0);
     SIZE(it, buffer);
@@ -191,6 +227,15 @@ static void print_view(const gltf_file *file, size_t index)
     SIZE(it, byte_length);
     SIZE(it, byte_stride);
     WORD(it, target);
+    if (EXTENSION(meshopt, meshopt, index)) {
+        SIZE(meshopt, buffer);
+        SIZE(meshopt, byte_offset);
+        SIZE(meshopt, byte_length);
+        SIZE(meshopt, byte_stride);
+        SIZE(meshopt, count);
+        WORD(meshopt, mode);
+        WORD(meshopt, filter);
+    }
 }
 
 /* The items as bytes, as whole numbers and as floats; those that are used in place are the same. */
@@ -333,6 +378,54 @@ static void print_use(const char *use, const gltf_texture_use *it)
 
 #define USE(it, member) print_use(#member, &(it).member)
 
+static void print_layers(const gltf_file *file, size_t index)
+{
+    gltf_clearcoat clearcoat;
+    gltf_sheen sheen;
+    gltf_iridescence iridescence;
+    if (EXTENSION(clearcoat, clearcoat, index)) {
+        NUMBER(clearcoat, clearcoat_factor);
+        NUMBER(clearcoat, clearcoat_roughness_factor);
+        USE(clearcoat, clearcoat);
+        USE(clearcoat, clearcoat_roughness);
+        USE(clearcoat, clearcoat_normal);
+    }
+    if (EXTENSION(sheen, sheen, index)) {
+        NUMBERS(sheen, sheen_color_factor);
+        NUMBER(sheen, sheen_roughness_factor);
+        USE(sheen, sheen_color);
+        USE(sheen, sheen_roughness);
+    }
+    if (EXTENSION(iridescence, iridescence, index)) {
+        NUMBER(iridescence, iridescence_factor);
+        NUMBER(iridescence, iridescence_ior);
+        NUMBER(iridescence, iridescence_thickness_minimum);
+        NUMBER(iridescence, iridescence_thickness_maximum);
+        USE(iridescence, iridescence);
+        USE(iridescence, iridescence_thickness);
+    }
+}
+
+static void print_light_through(const gltf_file *file, size_t index)
+{
+    gltf_anisotropy anisotropy;
+    gltf_dispersion dispersion;
+    gltf_diffuse_transmission diffuse;
+    if (EXTENSION(anisotropy, anisotropy, index)) {
+        NUMBER(anisotropy, anisotropy_strength);
+        NUMBER(anisotropy, anisotropy_rotation);
+        USE(anisotropy, anisotropy);
+    }
+    if (EXTENSION(dispersion, dispersion, index))
+        NUMBER(dispersion, dispersion);
+    if (EXTENSION(diffuse_transmission, diffuse, index)) {
+        NUMBER(diffuse, diffuse_transmission_factor);
+        NUMBERS(diffuse, diffuse_transmission_color_factor);
+        USE(diffuse, diffuse_transmission);
+        USE(diffuse, diffuse_transmission_color);
+    }
+}
+
 static void print_material(const gltf_file *file, size_t index)
 {
     static gltf_material it;
@@ -368,11 +461,14 @@ static void print_material(const gltf_file *file, size_t index)
     USE(it, thickness);
     USE(it, specular);
     USE(it, specular_color);
+    print_layers(file, index);
+    print_light_through(file, index);
 }
 
 static void print_texture(const gltf_file *file, size_t index)
 {
     gltf_texture it;
+    gltf_texture_source source;
     FILL(it, gltf_texture_info(file, index, &it));
     SIZE(it, image);
     SIZE(it, sampler);
@@ -380,6 +476,10 @@ static void print_texture(const gltf_file *file, size_t index)
     WORD(it, min_filter);
     WORD(it, wrap_s);
     WORD(it, wrap_t);
+    if (EXTENSION(basisu, source, index))
+        SIZE(source, image);
+    if (EXTENSION(webp, source, index))
+        SIZE(source, image);
 }
 
 static void print_sampler(const gltf_file *file, size_t index)
@@ -415,6 +515,8 @@ static void print_scene(const gltf_file *file, size_t index)
 static void print_node(const gltf_file *file, size_t index)
 {
     gltf_node it;
+    gltf_instancing instancing;
+    gltf_visibility visibility;
     FILL(it, gltf_node_info(file, index, &it));
     CHECK(it.reserved_word == 0);
     SIZE(it, mesh);
@@ -429,6 +531,15 @@ static void print_node(const gltf_file *file, size_t index)
     NUMBERS(it, scale);
     print_list(file, GLTF_NODE_CHILDREN, index, "children", it.children);
     print_numbers(file, GLTF_NODE_WEIGHTS, index, "weights");
+    if (EXTENSION(instancing, instancing, index)) {
+        SIZE(instancing, translation);
+        SIZE(instancing, rotation);
+        SIZE(instancing, scale);
+    }
+    if (EXTENSION(visibility, visibility, index)) {
+        CHECK(visibility.reserved_word == 0);
+        WORD(visibility, visible);
+    }
 }
 
 static void print_skin(const gltf_file *file, size_t index)

@@ -33,6 +33,17 @@ static void print(const gltf::file &file)
                   << file.list(GLTF_NODE_CHILDREN, n).size() << " children, "
                   << file.numbers(GLTF_NODE_WEIGHTS, n).size() << " weights, extras "
                   << file.extras(GLTF_NODES, n) << "\n";
+    for (std::size_t m = 0; m < file.count(GLTF_MATERIALS); m++) {
+        gltf_sheen sheen;
+        if (file.sheen(m, sheen))
+            std::cout << "sheen: " << sheen.sheen_color_factor[0] << "\n";
+        try {
+            gltf_iridescence film;
+            file.iridescence(m, film);
+        } catch (const gltf::error &why) {
+            std::cout << "no film: " << why.fault.status << "\n";
+        }
+    }
     std::cout << "scene " << static_cast<long>(file.default_scene()) << ", version "
               << file.text(GLTF_ASSET_VERSION, 0) << ", no buffer `"
               << file.text(GLTF_BUFFER_URI, 99) << "`\n";

@@ -62,6 +62,18 @@ static void try_nothing(void)
     IS_CLOSED(gltf_channel_info(none, 0, 0, (gltf_channel *)out));
     IS_CLOSED(gltf_camera_info(none, 0, (gltf_camera *)out));
     IS_CLOSED(gltf_light_info(none, 0, (gltf_light *)out));
+    IS_CLOSED(gltf_clearcoat_info(none, 0, (gltf_clearcoat *)out));
+    IS_CLOSED(gltf_sheen_info(none, 0, (gltf_sheen *)out));
+    IS_CLOSED(gltf_iridescence_info(none, 0, (gltf_iridescence *)out));
+    IS_CLOSED(gltf_anisotropy_info(none, 0, (gltf_anisotropy *)out));
+    IS_CLOSED(gltf_dispersion_info(none, 0, (gltf_dispersion *)out));
+    IS_CLOSED(gltf_diffuse_transmission_info(none, 0, (gltf_diffuse_transmission *)out));
+    IS_CLOSED(gltf_basisu_info(none, 0, (gltf_texture_source *)out));
+    IS_CLOSED(gltf_webp_info(none, 0, (gltf_texture_source *)out));
+    IS_CLOSED(gltf_instancing_info(none, 0, (gltf_instancing *)out));
+    IS_CLOSED(gltf_visibility_info(none, 0, (gltf_visibility *)out));
+    IS_CLOSED(gltf_meshopt_info(none, 0, (gltf_meshopt *)out));
+    IS_CLOSED(gltf_xmp_packet(none, GLTF_NODES, 0, 0, size));
     gltf_close(none);
     for (i = 0; i < sizeof room; i++)
         if (room.bytes[i] != 0x5a)

@@ -124,11 +124,6 @@ static int visit_text(visit *v, text_call *call, unsigned int what, size_t index
     return 1;
 }
 
-static void visit_json(visit *v, unsigned int kind, size_t index, size_t part)
-{
-    visit_text(v, call_extras, kind, index, part);
-    visit_text(v, call_extension, kind, index, part);
-}
 
 /* A list of nodes. */
 static void visit_list(visit *v, unsigned int what, size_t index, size_t wanted)
@@ -181,6 +176,50 @@ static void visit_numbers(visit *v, unsigned int what, size_t index)
     FILL(v, it, gltf_##kind##_info((v)->file, index, &(it)), \
          gltf_##kind##_info((v)->file, count, &(it)))
 
+/* An extension that was asked for: it may be absent, or not of its form, and nothing is written
+ * then. Returns whether it is there. */
+static int visit_extension(visit *v, gltf_status status, const void *it, size_t size,
+                           size_t reserved)
+{
+    const unsigned char *bytes = (const unsigned char *)it;
+    size_t at = status == GLTF_SUCCESS ? size - reserved : 0;
+    for (; at < size; at++)
+        MUST(v, bytes[at] == (status == GLTF_SUCCESS ? 0 : 0x5a));
+    MUST(v, status == GLTF_SUCCESS || status == GLTF_NO_SUCH_INDEX || status == GLTF_BAD_EXTENSION
+            || visit_lacks(v, status));
+    if (status != GLTF_SUCCESS)
+        visit_add(v, &status, sizeof status);
+    else
+        visit_add(v, it, size);
+    return status == GLTF_SUCCESS;
+}
+
+/* The same of a record, and of one that is not there. */
+#define EXTENSION(v, kind, it, index, count) \
+    (MUST_BE_ABSENT(v, kind, it, count), \
+     visit_extension(v, gltf_##kind##_info((v)->file, index, &(it)), &(it), sizeof (it), \
+                     sizeof (it).reserved))
+#define MUST_BE_ABSENT(v, kind, it, count) \
+    (memset(&(it), 0x5a, sizeof (it)), \
+     (void)(gltf_##kind##_info((v)->file, count, &(it)) != GLTF_NO_SUCH_INDEX \
+            && ((v)->wrong = __LINE__) != 0))
+
+static void visit_use(visit *v, const gltf_texture_use *it)
+{
+    MUST(v, is_below_or_none(it->texture, v->counts[GLTF_TEXTURES]) && it->has_transform <= 1);
+}
+
+static void visit_packet(visit *v, unsigned int kind, size_t index, size_t part)
+{
+    size_t packet = 0x5a;
+    gltf_status status = gltf_xmp_packet(v->file, kind, index, part, &packet);
+    MUST(v, status == GLTF_SUCCESS || packet == 0x5a);
+    MUST(v, status == GLTF_SUCCESS || status == GLTF_NO_SUCH_INDEX || status == GLTF_BAD_EXTENSION
+            || visit_lacks(v, status));
+    visit_add(v, &status, sizeof status);
+    visit_add(v, &packet, sizeof packet);
+}
+
 static void visit_buffer(visit *v, size_t index)
 {
     gltf_buffer it;
@@ -195,7 +234,12 @@ static void visit_buffer(visit *v, size_t index)
 static void visit_view(visit *v, size_t index)
 {
     gltf_buffer_view it;
+    gltf_meshopt meshopt;
     INFO(v, buffer_view, it, index, v->counts[GLTF_BUFFER_VIEWS]);
+    if (EXTENSION(v, meshopt, meshopt, index, v->counts[GLTF_BUFFER_VIEWS]))
+        MUST(v, is_below(meshopt.buffer, v->counts[GLTF_BUFFERS])
+                && meshopt.mode <= GLTF_MESHOPT_INDICES
+                && meshopt.filter <= GLTF_MESHOPT_EXPONENTIAL);
     MUST(v, is_below(it.buffer, v->counts[GLTF_BUFFERS]));
     MUST(v, it.target == 0 || it.target == 34962 || it.target == 34963);
     visit_add(v, &it, sizeof it);
@@ -287,6 +331,13 @@ static int visit_attribute(visit *v, size_t mesh, size_t primitive, size_t targe
     return 1;
 }
 
+static void visit_json(visit *v, unsigned int kind, size_t index, size_t part)
+{
+    visit_text(v, call_extras, kind, index, part);
+    visit_text(v, call_extension, kind, index, part);
+    visit_packet(v, kind, index, part);
+}
+
 static void visit_primitive(visit *v, size_t mesh, size_t index, size_t primitives)
 {
     gltf_primitive it;
@@ -323,6 +374,43 @@ static void visit_mesh(visit *v, size_t index)
         visit_primitive(v, index, i, it.primitives);
 }
 
+static void visit_layers(visit *v, size_t index)
+{
+    gltf_clearcoat clearcoat;
+    gltf_sheen sheen;
+    gltf_iridescence iridescence;
+    size_t count = v->counts[GLTF_MATERIALS];
+    if (EXTENSION(v, clearcoat, clearcoat, index, count)) {
+        visit_use(v, &clearcoat.clearcoat);
+        visit_use(v, &clearcoat.clearcoat_roughness);
+        visit_use(v, &clearcoat.clearcoat_normal);
+    }
+    if (EXTENSION(v, sheen, sheen, index, count)) {
+        visit_use(v, &sheen.sheen_color);
+        visit_use(v, &sheen.sheen_roughness);
+    }
+    if (EXTENSION(v, iridescence, iridescence, index, count)) {
+        visit_use(v, &iridescence.iridescence);
+        visit_use(v, &iridescence.iridescence_thickness);
+    }
+}
+
+static void visit_light_through(visit *v, size_t index)
+{
+    gltf_anisotropy anisotropy;
+    gltf_dispersion dispersion;
+    gltf_diffuse_transmission diffuse;
+    size_t count = v->counts[GLTF_MATERIALS];
+    if (EXTENSION(v, anisotropy, anisotropy, index, count))
+        visit_use(v, &anisotropy.anisotropy);
+    if (EXTENSION(v, dispersion, dispersion, index, count))
+        MUST(v, dispersion.dispersion - dispersion.dispersion == 0);
+    if (EXTENSION(v, diffuse_transmission, diffuse, index, count)) {
+        visit_use(v, &diffuse.diffuse_transmission);
+        visit_use(v, &diffuse.diffuse_transmission_color);
+    }
+}
+
 static void visit_material(visit *v, size_t index)
 {
     gltf_material it;
@@ -333,12 +421,19 @@ static void visit_material(visit *v, size_t index)
     MUST(v, is_below_or_none(it.specular_color.texture, v->counts[GLTF_TEXTURES]));
     visit_add(v, &it, sizeof it);
     MUST(v, gltf_material_info(v->file, GLTF_NONE, &it) == GLTF_SUCCESS && it.has == 0);
+    visit_layers(v, index);
+    visit_light_through(v, index);
 }
 
 static void visit_texture(visit *v, size_t index)
 {
     gltf_texture it;
+    gltf_texture_source source;
     INFO(v, texture, it, index, v->counts[GLTF_TEXTURES]);
+    if (EXTENSION(v, basisu, source, index, v->counts[GLTF_TEXTURES]))
+        MUST(v, is_below_or_none(source.image, v->counts[GLTF_IMAGES]));
+    if (EXTENSION(v, webp, source, index, v->counts[GLTF_TEXTURES]))
+        MUST(v, is_below_or_none(source.image, v->counts[GLTF_IMAGES]));
     MUST(v, is_below_or_none(it.image, v->counts[GLTF_IMAGES]));
     MUST(v, is_below_or_none(it.sampler, v->counts[GLTF_SAMPLERS]));
     visit_add(v, &it, sizeof it);
@@ -374,7 +469,15 @@ static void visit_scene(visit *v, size_t index)
 static void visit_node(visit *v, size_t index)
 {
     gltf_node it;
+    gltf_instancing instancing;
+    gltf_visibility visibility;
     INFO(v, node, it, index, v->counts[GLTF_NODES]);
+    if (EXTENSION(v, instancing, instancing, index, v->counts[GLTF_NODES]))
+        MUST(v, is_below_or_none(instancing.translation, v->counts[GLTF_ACCESSORS])
+                && is_below_or_none(instancing.rotation, v->counts[GLTF_ACCESSORS])
+                && is_below_or_none(instancing.scale, v->counts[GLTF_ACCESSORS]));
+    if (EXTENSION(v, visibility, visibility, index, v->counts[GLTF_NODES]))
+        MUST(v, visibility.visible <= 1);
     MUST(v, is_below_or_none(it.mesh, v->counts[GLTF_MESHES]));
     MUST(v, is_below_or_none(it.skin, v->counts[GLTF_SKINS]));
     MUST(v, is_below_or_none(it.camera, v->counts[GLTF_CAMERAS]));

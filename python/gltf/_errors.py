@@ -78,12 +78,12 @@ class NoRoomError(GltfError):
     """There is no room for the items."""
 
 
-class NoBytesError(GltfError):
-    """The bytes of a buffer were never given."""
-
-
 class OtherTypeError(GltfError, TypeError):
     """The components of the accessor are not of the type that was asked for."""
+
+
+class BadExtensionError(GltfError):
+    """An extension has a member that is missing or of another kind, or an index out of range."""
 
 
 # By the number of the status, as gltf.h has it.
@@ -91,15 +91,15 @@ BY_STATUS = {
     1: OutOfMemoryError, 2: ContainerError, 3: DocumentError, 4: RulesError, 5: Base64Error,
     6: ShortBufferError, 7: MissingBlobError, 8: ExternalReferenceError,
     9: UnsupportedSchemeError, 11: ClosedError, 12: NoSuchIndexError, 13: UnreadableError,
-    14: NoRoomError, 15: NoBytesError, 16: OtherTypeError,
+    14: NoRoomError, 16: OtherTypeError, 17: BadExtensionError,
 }
 # What is said where the library gives no text.
 SENTENCES = {
     1: "out of memory", 11: "the document is closed", 12: "there is nothing with that index",
     13: "the accessor cannot be read: its items do not lie in its view, or its view not in its "
         "buffer",
-    14: "there is no room for the items", 15: "the buffer has no bytes",
-    16: "the accessor has components of another type",
+    14: "there is no room for the items", 16: "the accessor has components of another type",
+    17: "the extension is not of its form, or has an index out of range",
 }
 
 

@@ -74,6 +74,16 @@ class File:
         self.call(what + "_info", *indices, byref(out))
         return out
 
+    def extension(self, what: str, index: int) -> Any:
+        """The struct of an extension of a record, or None where the record has none."""
+        out = _native.EXTENSIONS[what]()
+        status = getattr(library, "gltf_%s_info" % what)(self.at, index, byref(out))
+        if status == NO_SUCH_INDEX:
+            return None
+        if status != 0:
+            raise error(status)
+        return out
+
     def call(self, name: str, *words: Any, about: str = "") -> None:
         """A call that returns a status; raises where it does not succeed."""
         status = getattr(library, "gltf_" + name)(self.at, *words)

@@ -10,7 +10,8 @@ import pathlib
 from ctypes import POINTER, c_char, c_char_p, c_double, c_size_t, c_uint, c_void_p
 from typing import Any, List, Tuple, Type
 
-MAJOR = 2
+# The version that is needed: the same major version, and no older one.
+VERSION = 20100
 NAME = "libgltf.so.2"
 # An index that is absent.
 NONE = c_size_t(-1).value
@@ -91,6 +92,28 @@ Camera = _struct("Camera", _fields(
 Light = _struct("Light", _fields(
     "u type, u reserved_word, d3 color, d intensity, d range, d inner_cone_angle, "
     "d outer_cone_angle"), 2)
+Clearcoat = _struct(
+    "Clearcoat", _fields("d clearcoat_factor, d clearcoat_roughness_factor")
+    + _uses("clearcoat clearcoat_roughness clearcoat_normal"), 4)
+Sheen = _struct(
+    "Sheen", _fields("d3 sheen_color_factor, d sheen_roughness_factor")
+    + _uses("sheen_color sheen_roughness"), 4)
+Iridescence = _struct(
+    "Iridescence",
+    _fields("d iridescence_factor, d iridescence_ior, d iridescence_thickness_minimum, "
+            "d iridescence_thickness_maximum") + _uses("iridescence iridescence_thickness"), 4)
+Anisotropy = _struct(
+    "Anisotropy", _fields("d anisotropy_strength, d anisotropy_rotation") + _uses("anisotropy"), 4)
+Dispersion = _struct("Dispersion", _fields("d dispersion"), 4)
+DiffuseTransmission = _struct(
+    "DiffuseTransmission",
+    _fields("d diffuse_transmission_factor, d3 diffuse_transmission_color_factor")
+    + _uses("diffuse_transmission diffuse_transmission_color"), 4)
+TextureSource = _struct("TextureSource", _fields("z image"), 3)
+Instancing = _struct("Instancing", _fields("z translation, z rotation, z scale"), 5)
+Visibility = _struct("Visibility", _fields("u visible, u reserved_word"), 3)
+Meshopt = _struct("Meshopt", _fields(
+    "z buffer, z byte_offset, z byte_length, z byte_stride, z count, u mode, u filter"), 2)
 
 # The structs by their names in gltf.h; a test compares their layout with the header's.
 STRUCTS = {
@@ -100,7 +123,10 @@ STRUCTS = {
     "gltf_material": Material, "gltf_texture": Texture, "gltf_sampler": Sampler,
     "gltf_image": Image, "gltf_scene": Scene, "gltf_node": Node, "gltf_skin": Skin,
     "gltf_animation": Animation, "gltf_channel": Channel, "gltf_camera": Camera,
-    "gltf_light": Light,
+    "gltf_light": Light, "gltf_clearcoat": Clearcoat, "gltf_sheen": Sheen,
+    "gltf_iridescence": Iridescence, "gltf_anisotropy": Anisotropy, "gltf_dispersion": Dispersion,
+    "gltf_diffuse_transmission": DiffuseTransmission, "gltf_texture_source": TextureSource,
+    "gltf_instancing": Instancing, "gltf_visibility": Visibility, "gltf_meshopt": Meshopt,
 }
 
 _TEXT = [c_char_p, c_size_t, POINTER(c_size_t)]
@@ -126,6 +152,13 @@ _INFOS = {
     "material": Material, "texture": Texture, "sampler": Sampler, "image": Image, "scene": Scene,
     "node": Node, "skin": Skin, "animation": Animation, "camera": Camera, "light": Light,
 }
+# Those that return 12 of a record without the extension.
+EXTENSIONS = {
+    "clearcoat": Clearcoat, "sheen": Sheen, "iridescence": Iridescence, "anisotropy": Anisotropy,
+    "dispersion": Dispersion, "diffuse_transmission": DiffuseTransmission,
+    "basisu": TextureSource, "webp": TextureSource, "instancing": Instancing,
+    "visibility": Visibility, "meshopt": Meshopt,
+}
 
 
 def _place() -> str:
@@ -144,11 +177,13 @@ def _load() -> ctypes.CDLL:
             "the library %s cannot be loaded (%s); install it, or set GLTF_LIBRARY to its path"
             % (place, why)) from why
     library.gltf_version.argtypes, library.gltf_version.restype = [], c_uint
-    if library.gltf_version() // 10000 != MAJOR:
-        raise ImportError("%s has version %d, and version %d is needed"
-                          % (place, library.gltf_version() // 10000, MAJOR))
+    found = library.gltf_version()
+    if found // 10000 != VERSION // 10000 or found < VERSION:
+        raise ImportError("%s has version %d.%d, and version %d.%d is needed" % (
+            place, found // 10000, found // 100 % 100, VERSION // 10000, VERSION // 100 % 100))
     calls = dict(_CALLS)
-    calls.update((kind + "_info", [c_size_t, POINTER(it)]) for kind, it in _INFOS.items())
+    calls.update((kind + "_info", [c_size_t, POINTER(it)])
+                 for kind, it in [*_INFOS.items(), *EXTENSIONS.items()])
     for name, words in calls.items():
         call = getattr(library, "gltf_" + name)
         call.argtypes, call.restype = [c_void_p, *words], c_uint

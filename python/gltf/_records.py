@@ -32,6 +32,34 @@ MATERIAL_EXTENSIONS = {
     64: "KHR_materials_specular"}
 
 
+class Extension:
+    """An extension of a record, by the names that gltf.h gives its members: numbers, tuples of
+    numbers, and textures with `_texture` behind their names, each a TextureUse or None."""
+
+    def __init__(self, document: "Document", info: Any) -> None:
+        for name, kind in info._fields_:
+            value = getattr(info, name)
+            if kind is _native.TextureUse:
+                self.__dict__[name + "_texture"] = _use_of(document, value)
+            elif not name.startswith("reserved"):
+                is_one = isinstance(value, (int, float))
+                self.__dict__[name] = value if is_one else tuple(value)
+
+    def __getattr__(self, member: str) -> Any:
+        raise AttributeError("the extension has no %s" % member)
+
+    def __repr__(self) -> str:
+        return "<gltf Extension %s>" % ", ".join(self.__dict__)
+
+
+def _extension(call: str, name: str) -> Any:
+    """A member that is an extension. One that is not of its form is a BadExtensionError."""
+    def read(self: Record) -> Optional[Extension]:
+        info = self._file.extension(call, self.index)
+        return None if info is None else Extension(self.document, info)
+    return property(read, doc="%s, or None." % name)
+
+
 class Buffer(Record):
     """A buffer (section 5.10)."""
 
@@ -64,6 +92,8 @@ class BufferView(Record):
 
     def _read(self) -> Any:
         return self._file.get("buffer_view", _native.BufferView, self.index)
+
+    meshopt = _extension("meshopt", "EXT_meshopt_compression")
 
     @property
     def buffer(self) -> Buffer:
@@ -157,6 +187,21 @@ class Texture(Record):
         index = or_none(self._info.sampler)
         return None if index is None else self.document.samplers[index]
 
+    def _image_of(self, call: str) -> Optional[Image]:
+        info = self._file.extension(call, self.index)
+        index = None if info is None else or_none(info.image)
+        return None if index is None else self.document.images[index]
+
+    @property
+    def basisu(self) -> Optional[Image]:
+        """The image of KHR_texture_basisu, or None."""
+        return self._image_of("basisu")
+
+    @property
+    def webp(self) -> Optional[Image]:
+        """The image of EXT_texture_webp, or None."""
+        return self._image_of("webp")
+
     wrap_s = property(lambda self: int(self._info.wrap_s), doc="That of the sampler, or 10497.")
     wrap_t = property(lambda self: int(self._info.wrap_t), doc="That of the sampler, or 10497.")
 
@@ -178,13 +223,20 @@ class TextureUse:
         return "<gltf TextureUse of %r>" % self.texture
 
 
+def _use_of(document: "Document", use: Any) -> Optional[TextureUse]:
+    """A use of a texture, or None where no texture is named."""
+    index = or_none(use.texture)
+    return None if index is None else TextureUse(document.textures[index], use)
+
+
 class Material(Record):
     """A material (section 5.19), with the extensions that the loader reads.
 
     `base_color_factor`, `metallic_factor` and all other factors are numbers or tuples of numbers.
     `base_color_texture` and all other textures are a TextureUse or None. `extensions` names which
     of the extensions the file states here; the members of one that it does not state have the
-    values that leave the material as it is.
+    values that leave the material as it is. `clearcoat` and the others that are an Extension are
+    not among them.
     """
 
     kind = "materials"
@@ -192,10 +244,16 @@ class Material(Record):
     def _read(self) -> Any:
         return self._file.get("material", _native.Material, self.index)
 
+    clearcoat = _extension("clearcoat", "KHR_materials_clearcoat")
+    sheen = _extension("sheen", "KHR_materials_sheen")
+    iridescence = _extension("iridescence", "KHR_materials_iridescence")
+    anisotropy = _extension("anisotropy", "KHR_materials_anisotropy")
+    dispersion = _extension("dispersion", "KHR_materials_dispersion")
+    diffuse_transmission = _extension(
+        "diffuse_transmission", "KHR_materials_diffuse_transmission")
+
     def _use(self, member: str) -> Optional[TextureUse]:
-        use = getattr(self._info, member)
-        index = or_none(use.texture)
-        return None if index is None else TextureUse(self.document.textures[index], use)
+        return _use_of(self.document, getattr(self._info, member))
 
     @property
     def alpha_mode(self) -> str:
@@ -397,6 +455,23 @@ class Node(Record):
     def weights(self) -> List[float]:
         """Its own weights of morph targets; where there are none, those of the mesh hold."""
         return self._file.numbers("node_weights", self.index)
+
+    @property
+    def instancing(self) -> Optional[Dict[str, Accessor]]:
+        """The accessors of the instances of its mesh (EXT_mesh_gpu_instancing), as `TRANSLATION`;
+        None where it has no such extension."""
+        info = self._file.extension("instancing", self.index)
+        if info is None:
+            return None
+        found = {name.upper(): or_none(getattr(info, name))
+                 for name in ("translation", "rotation", "scale")}
+        return {name: self.document.accessors[at] for name, at in found.items() if at is not None}
+
+    @property
+    def visible(self) -> bool:
+        """Whether it is shown, with the nodes below it (KHR_node_visibility)."""
+        info = self._file.extension("visibility", self.index)
+        return info is None or bool(info.visible)
 
     @property
     def has_matrix(self) -> bool:

@@ -70,6 +70,58 @@ class Layout(unittest.TestCase):
         self.assertEqual(shown.stdout.decode().split("\n")[:-1], wanted)
 
 
+class Extensions(unittest.TestCase):
+    """Extensions of materials, textures, nodes and views, by their members."""
+
+    ROOT = {
+        "asset": {"version": "2.0"},
+        "images": [{"uri": "a.png"}, {"uri": "b.ktx2"}],
+        "textures": [{"source": 0, "extensions": {"KHR_texture_basisu": {"source": 1}}}],
+        "materials": [
+            {"extensions": {
+                "KHR_materials_clearcoat": {
+                    "clearcoatFactor": 0.5,
+                    "clearcoatNormalTexture": {"index": 0, "texCoord": 2, "scale": 3}},
+                "KHR_materials_iridescence": {}, "KHR_materials_dispersion": {"dispersion": 0.25}}},
+            {"extensions": {"KHR_materials_sheen": {"sheenColorTexture": {"index": 1}},
+                            "KHR_materials_anisotropy": {"anisotropyStrength": "1"}}}],
+        "accessors": [{"componentType": 5126, "count": 2, "type": "VEC3"}],
+        "nodes": [{"extensions": {
+            "EXT_mesh_gpu_instancing": {"attributes": {"SCALE": 0}},
+            "KHR_node_visibility": {"visible": False}}}, {}],
+        "buffers": [{"byteLength": 4, "uri": "data:;base64,AAAAAA=="}],
+        "bufferViews": [{"buffer": 0, "byteLength": 4, "extensions": {"EXT_meshopt_compression": {
+            "buffer": 0, "byteLength": 3, "byteStride": 4, "count": 1, "mode": "TRIANGLES"}}}],
+    }
+
+    def test_extensions_are_those_of_the_file(self):
+        with gltf.open(text_of(self.ROOT)) as document:
+            coated, other = document.materials
+            coat = coated.clearcoat
+            self.assertEqual((coat.clearcoat_factor, coat.clearcoat_roughness_factor), (0.5, 0.0))
+            self.assertIsNone(coat.clearcoat_texture)
+            self.assertEqual(coat.clearcoat_normal_texture.tex_coord, 2)
+            self.assertEqual(coat.clearcoat_normal_texture.scale, 3.0)
+            self.assertEqual(coated.iridescence.iridescence_thickness_maximum, 400.0)
+            self.assertEqual(coated.dispersion.dispersion, 0.25)
+            self.assertIsNone(coated.sheen)
+            self.assertIsNone(other.clearcoat)
+            self.assertEqual(document.textures[0].basisu.uri, "b.ktx2")
+            self.assertIsNone(document.textures[0].webp)
+            drawn, plain = document.nodes
+            self.assertEqual((drawn.visible, plain.visible), (False, True))
+            self.assertEqual({name: it.index for name, it in drawn.instancing.items()},
+                             {"SCALE": 0})
+            self.assertIsNone(plain.instancing)
+            self.assertEqual(document.buffer_views[0].meshopt.mode, 1)
+
+    def test_what_is_not_of_its_form_is_an_error(self):
+        with gltf.open(text_of(self.ROOT)) as document:
+            for member in ("sheen", "anisotropy"):
+                with self.assertRaises(gltf.BadExtensionError):
+                    getattr(document.materials[1], member)
+
+
 class Files(unittest.TestCase):
     """What is read of the examples is what an independent reader reads."""
 

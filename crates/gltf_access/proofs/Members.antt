@@ -32,6 +32,7 @@ use Rattle.gltf_access.specs.Rows.{Rows, items_of, indices_of, outputs_of, color
 use Rattle.gltf_access.specs.Rows.{tex_coords_of, joints_of, weights_of, attribute_rows}
 use Rattle.gltf_access.specs.Why.{NoneIff, IsTried, IsWhy, IsWhyMember, IsWhyRow, IsWhyAttribute}
 use Rattle.gltf_access.specs.Why.{Explains, ExplainsAttribute}
+use Rattle.gltf_access.specs.Why.{IsWhyDisplacement, ExplainsDisplacement}
 use Rattle.gltf_access.specs.declared.not_read.NotRead.{NotRead}
 use Rattle.gltf_access.specs.declared.not_read.NotRead.TheVariants as reason
 use Rattle.gltf_access.proofs.Explained.{nothing_read, items_read, indices_read, joints_read}
@@ -73,7 +74,8 @@ explained Are rows Gives r (Some i) why each w answer always read h =
 items_explained : {X : Type 0} {t : Ghosts X} (size : ℕ) (Gives : Results) (r : Root)
     → t.size ≡ size → ExplainedBy (AreItems {X = X} {t = t}) (items_of size) Gives r
 items_explained {X} {t} size Gives r same answer always a why read w h =
-    items_read Gives r a why answer always read (subst (λ n. IsTried Gives n r a why) (sym same) w) h
+    items_read Gives r a why answer always read
+    (subst (λ n. IsTried Gives n r a why) (sym same) w) h
 
 pub explained_items : {X : Type 0} (t : Ghosts X) (size : ℕ) (Gives : Results) (r : Root)
     (index : Option ℕ) (why : Option NotRead) → t.size ≡ size
@@ -95,7 +97,8 @@ pub explained_outputs : (property : Option Property) (Gives : Results) (r : Root
     → Explains (AreOutputs property) Gives r index why
 explained_outputs property Gives r index why w =
     explained (AreOutputs property) (outputs_of property) Gives r index why
-    (λ answer always a why read w h. outputs_read Gives r a why answer always property (type_of a) read w h) w
+    (λ answer always a why read w h. outputs_read Gives r a why answer always property (type_of a)
+    read w h) w
 
 pub explained_attribute : {X Y : Type 0} (t : Ghosts X) (u : Ghosts Y) (s : Semantic)
     (Gives : Results) (r : Root) (index : Option ℕ) (why : Option NotRead) → t.size ≡ 12
@@ -120,6 +123,13 @@ explained_attribute t u (attributes.Joints set) Gives r index why three four w =
 explained_attribute t u (attributes.Weights set) Gives r index why three four w =
     explained AreWeights weights_of Gives r index why (λ answer always a why read w h.
     weights_read Gives r a why answer always (type_of a) read w h) w
+
+pub explained_displacement : {X : Type 0} (t : Ghosts X) (Gives : Results) (r : Root)
+    (member : Option (Option ℕ)) (why : Option NotRead) → t.size ≡ 12
+    → IsWhyDisplacement Gives r member why → ExplainsDisplacement t Gives r member why
+explained_displacement t Gives r None why three w = tt
+explained_displacement t Gives r (Some index) why three w =
+    explained_items t 12 Gives r index why three w
 
 -- an attribute of an accessor
 pub of_attribute : (rows : Option Rows) (Gives : Results) (r : Root) (index : Option ℕ)

@@ -39,7 +39,8 @@ next n all old left at out x rest is w len =
     subst (λ (l : List (List ℕ)). Written n all old l at out) is w in
     let one : suc (length rest) * n ≡ n + length rest * n = omega arith in
     let before : length (take at out ++ x) ≡ at + n =
-    length-append (take at out) x ∙ omega (arith, len, length-take-le at out (omega (arith, within))) in
+    length-append (take at out) x
+    ∙ omega (arith, len, length-take-le at out (omega (arith, within))) in
     let taken = take_at (take at out ++ x) (drop (at + n) out) (at + n) before in
     let left_over = drop_at (take at out ++ x) (drop (at + n) out) (at + n) before in
     let whole : length (take at out ++ x ++ drop (at + n) out) ≡ length out =

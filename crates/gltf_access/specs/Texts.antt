@@ -32,7 +32,7 @@ shape_text Mat4 = codes "MAT4"
 
 abbrev pub not_read_text : NotRead → List ℕ
 not_read_text reason.Absent = codes "there is no such member"
-not_read_text reason.NoReader = codes "no reader reads attributes of the application"
+not_read_text reason.NoReader = codes "no reader reads this attribute"
 not_read_text (reason.Type component dimensions) =
     codes "the reader reads no items of type " ++ (shape_text dimensions
     ++ (codes " of " ++ component_text component))

@@ -3,6 +3,7 @@
 use Rattle.std.specs.Prelude.{◌≡◌, ℕ, List, Option, Some, None, Ok, Err, Result, ⊤, is_some, true}
 use Rattle.gltf_json.specs.declared.root.Root.{Root}
 use Rattle.gltf_json_geometry.specs.declared.accessor.Accessor.{Accessor}
+use Rattle.gltf_json_geometry.specs.declared.mesh.MorphTarget.{MorphTarget}
 use Rattle.gltf_json_geometry.specs.declared.semantic.Semantic.{Semantic}
 use Rattle.gltf_json_geometry.specs.declared.semantic.Semantic.TheVariants as attributes
 use Rattle.gltf_handles.specs.declared.accessor.DataType.{DataType}
@@ -18,7 +19,7 @@ use Rattle.gltf_read.specs.Joints.{AreJoints}
 use Rattle.gltf_read.specs.Reading.{Table, ReadsMember, AreItems, type_of, dimensions_of}
 use Rattle.gltf_read.specs.TexCoords.{AreTexCoords}
 use Rattle.gltf_read.specs.Weights.{AreWeights}
-use Rattle.gltf_access.specs.Rows.{Rows}
+use Rattle.gltf_access.specs.Rows.{Rows, items_of}
 use Rattle.gltf_access.specs.declared.not_read.NotRead.{NotRead}
 use Rattle.gltf_access.specs.declared.not_read.NotRead.TheVariants as reason
 
@@ -106,3 +107,22 @@ ExplainsAttribute t u (attributes.Joints set) Gives r index why =
     Explains AreJoints Gives r index why
 ExplainsAttribute t u (attributes.Weights set) Gives r index why =
     Explains AreWeights Gives r index why
+
+-- ---- of a morph target (glTF 2.0, section 3.7.2.2, "Morph Targets")
+
+-- the member of a target that displaces an attribute; a reader reads three of them
+abbrev pub displacement : Semantic → MorphTarget → Option (Option ℕ)
+displacement attributes.Positions target = Some target.positions
+displacement attributes.Normals target = Some target.normals
+displacement attributes.Tangents target = Some target.tangents
+displacement _ target = None
+
+abbrev pub IsWhyDisplacement : Results → Root → Option (Option ℕ) → Option NotRead → Type 0
+IsWhyDisplacement Gives r None why = why ≡ Some reason.NoReader
+IsWhyDisplacement Gives r (Some index) why = IsWhyMember (items_of 12) Gives r index why
+
+-- three floats are items by t
+abbrev pub ExplainsDisplacement : {X : Type 0} → Ghosts X → Results → Root → Option (Option ℕ)
+    → Option NotRead → Type 0
+ExplainsDisplacement t Gives r None why = ⊤
+ExplainsDisplacement t Gives r (Some index) why = Explains (AreItems {t = t}) Gives r index why

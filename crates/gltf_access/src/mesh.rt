@@ -1,17 +1,23 @@
 //! Why the reader of a primitive (`gltf_read::mesh::Reader`) read nothing (glTF 2.0, section 3.7.2,
 //! "Meshes").
 
+ghost use Rattle.std.specs.Prelude.{ℕ, Option};
+ghost use Rattle.gltf_json.specs.declared.root.Root.{Root};
+ghost use Rattle.gltf_handles.specs.Accessors.{IsAccessor};
+ghost use Rattle.gltf_handles.specs.Members.{Follows};
 ghost use Rattle.gltf_read.specs.Indices.{AreIndices};
 ghost use Rattle.gltf_read.specs.Primitives.{attribute};
-ghost use Rattle.gltf_scene.specs.Meshes.{primitive_handle};
-ghost use Rattle.gltf_access.specs.Rows.{indices_of, attribute_rows};
+ghost use Rattle.gltf_scene.specs.Meshes.{primitive_handle, morph_target_handle};
+ghost use Rattle.gltf_access.specs.Rows.{indices_of, items_of, attribute_rows};
 ghost use Rattle.gltf_access.specs.Why.{IsWhyMember, IsWhyAttribute, Explains, ExplainsAttribute};
+ghost use Rattle.gltf_access.specs.Why.{displacement, IsWhyDisplacement, ExplainsDisplacement};
 
 use crate::not_read::NotRead;
 use crate::why;
+use gltf_data::accessor::Accessor;
 use gltf_data::buffer::Buffer;
 use gltf_items::F32;
-use gltf_scene::mesh::{Primitive, Semantic};
+use gltf_scene::mesh::{MorphTarget, Primitive, Semantic};
 
 /// Why the reader's call for an attribute (`read_positions` for `POSITION`, `read_colors(n)` for
 /// `COLOR_n`, and so on) gives None; None exactly where it gives items. The closure gives the bytes
@@ -65,6 +71,60 @@ pub fn why_no_indices<'s, F: Fn(Buffer) -> Option<&'s [u8]>>(
 {
     match primitive.indices() {
         Some(accessor) => why::indices(accessor, get_buffer_data),
+        None => Some(NotRead::Absent),
+    }
+}
+
+/// Why the reader's call `read_morph_targets` gives no displacements of an attribute for a target
+/// (section 3.7.2.2, "Morph Targets"); None exactly where it gives them. It reads those of
+/// `POSITION`, `NORMAL` and `TANGENT` alone.
+pub fn why_no_displacements<'s, F: Fn(Buffer) -> Option<&'s [u8]>>(
+    target: &MorphTarget,
+    semantic: &Semantic,
+    get_buffer_data: &F,
+) -> Option<NotRead>
+    requires { F.IsAlwaysCallable get_buffer_data.now }
+    ensures why { let t = morph_target_handle target.now in
+        IsWhyDisplacement (λ b o. F.post get_buffer_data.now b o) t.document
+        (displacement semantic.now t.json) result }
+    ensures exact { let t = morph_target_handle target.now in
+        ExplainsDisplacement ⟦<[F32; 3] as gltf_items::Item>⟧
+        (λ b o. F.post get_buffer_data.now b o) t.document
+        (displacement semantic.now t.json) result }
+{
+    displacement_reason(target, semantic, get_buffer_data)
+}
+
+/// The same, by the members of a target.
+fn displacement_reason<'s, F: Fn(Buffer) -> Option<&'s [u8]>>(
+    target: &MorphTarget,
+    semantic: &Semantic,
+    get_buffer_data: &F,
+) -> Option<NotRead>
+    requires { F.IsAlwaysCallable get_buffer_data.now }
+    ensures { let t = morph_target_handle target.now in
+        IsWhyDisplacement (λ b o. F.post get_buffer_data.now b o) t.document
+        (displacement semantic.now t.json) result }
+{
+    match semantic {
+        Semantic::Positions => displacements(target.positions(), get_buffer_data),
+        Semantic::Normals => displacements(target.normals(), get_buffer_data),
+        Semantic::Tangents => displacements(target.tangents(), get_buffer_data),
+        _ => Some(NotRead::NoReader),
+    }
+}
+
+/// The same of the accessor that such a member names.
+fn displacements<'s, F: Fn(Buffer) -> Option<&'s [u8]>>(
+    accessor: Option<Accessor>,
+    get_buffer_data: &F,
+) -> Option<NotRead>
+    requires { F.IsAlwaysCallable get_buffer_data.now }
+    ensures { (r : Root) (index : Option ℕ) → Follows (IsAccessor r) index accessor.entry
+        → IsWhyMember (items_of 12) (λ b o. F.post get_buffer_data.now b o) r index result }
+{
+    match accessor {
+        Some(accessor) => why::items::<[F32; 3], F>(accessor, get_buffer_data),
         None => Some(NotRead::Absent),
     }
 }

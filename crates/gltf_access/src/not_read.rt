@@ -11,8 +11,9 @@ use std::fmt;
 pub enum NotRead {
     /// The record has no such member.
     Absent,
-    /// It is an attribute of the application (glTF 2.0, section 3.7.2.1, "Meshes: Overview"), which
-    /// no reader reads.
+    /// No reader reads this attribute: it is one of the application (glTF 2.0, section 3.7.2.1,
+    /// "Meshes: Overview"), or of a morph target another than `POSITION`, `NORMAL` and `TANGENT`
+    /// (section 3.7.2.2, "Morph Targets").
     NoReader,
     /// The reader reads no items of this type (section 3.6.2.2, "Accessor Data Types").
     Type {
@@ -63,7 +64,7 @@ impl fmt::Display for NotRead {
     fn fmt<W: fmt::Write>(&self, f: &mut fmt::Formatter<W>) -> fmt::Result {
         match self {
             NotRead::Absent => write!(f, "there is no such member"),
-            NotRead::NoReader => write!(f, "no reader reads attributes of the application"),
+            NotRead::NoReader => write!(f, "no reader reads this attribute"),
             NotRead::Type {
                 component,
                 dimensions,

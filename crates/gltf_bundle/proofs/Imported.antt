@@ -23,10 +23,10 @@ use Rattle.gltf_glb.specs.FillingLaws.{padded_whole}
 use Rattle.gltf_glb.specs.Laws.{OneReading, ReadsBack}
 use Rattle.gltf_buffers.specs.Buffers.{source_of, AreBytes, bytes_of, blob_for}
 use Rattle.gltf_buffers.specs.Buffers.{checked_bytes, filled_bytes, raw_bytes, long_enough}
-use Rattle.gltf_buffers.specs.Names.{Names, Nowhere}
+use Rattle.gltf_buffers.specs.Names.{Names}
 use Rattle.gltf_buffers.specs.Padding as payload
 use Rattle.gltf_pack.specs.Laws.{SpacesBehind}
-use Rattle.gltf.specs.Import.{AreParts, Accepts}
+use Rattle.gltf.specs.Import.{AreParts, AcceptsWith}
 use Rattle.gltf_edit.specs.Bundled.{bundled, views_after, with_some, one_buffer}
 use Rattle.gltf_edit.specs.BundledLaws.{get_with, get_with_some_other, object_with_some, differ}
 use Rattle.gltf_edit.specs.BundledLaws.{bundled_other}
@@ -131,7 +131,7 @@ changed_at : (total : ℕ) (d base : Data) (o : Option Data) → IsSome (as_obje
 changed_at total d base None is at same = same ∙ at
 changed_at total d base (Some e) is at same = get_with (codes "buffers") (one_buffer total e) base is
 
-buffers_changed : (spans : List Span) (total : ℕ) (d : Data) → IsSome (as_object d)
+pub buffers_changed : (spans : List Span) (total : ℕ) (d : Data) → IsSome (as_object d)
     → get (codes "buffers") (bundled spans total d)
     ≡ option_map (one_buffer total) (get (codes "buffers") d)
 buffers_changed spans total d is =
@@ -186,16 +186,16 @@ length_of_map f [] = refl
 length_of_map f (x ∷ xs) = ap suc (length_of_map f xs)
 
 -- the bytes of the one buffer of a list
-from_one : (one : Buffer) (bytes : List ℕ) (cs : List Buffer) (blob : Option (List ℕ))
-    (others : List (List ℕ)) → cs ≡ one ∷ [] → blob ≡ Some (padded 0 bytes)
+from_one : (over : Names) (one : Buffer) (bytes : List ℕ) (cs : List Buffer)
+    (blob : Option (List ℕ)) (others : List (List ℕ)) → cs ≡ one ∷ [] → blob ≡ Some (padded 0 bytes)
     → length bytes % 8 ≡ 0 → one.uri ≡ None → one.byte_length ≡ length bytes
-    → AreBytes Nowhere (map source_of cs) blob (length (map source_of cs)) others
+    → AreBytes over (map source_of cs) blob (length (map source_of cs)) others
     → others ≡ bytes ∷ []
-from_one one bytes cs blob others is_one is_blob whole no_uri long are =
+from_one over one bytes cs blob others is_one is_blob whole no_uri long are =
     let here = subst (λ (xs : List Buffer).
-    AreBytes Nowhere (map source_of xs) blob (length (map source_of xs)) others) is_one are in
+    AreBytes over (map source_of xs) blob (length (map source_of xs)) others) is_one are in
     let all = subst (λ (b : Option (List ℕ)).
-    AreBytes Nowhere (source_of one ∷ []) b 1 others) is_blob here in
+    AreBytes over (source_of one ∷ []) b 1 others) is_blob here in
     let first = all.each 0 (source_of one) (omega arith) refl in
     single [] others all.count
     ∙ ap (λ (x : List ℕ). x ∷ [])
@@ -204,8 +204,9 @@ from_one one bytes cs blob others is_one is_blob whole no_uri long are =
 -- ---- what a bundle is imported as
 
 module _ (one : OneReading) (back : ReadsBack) (spaces : SpacesBehind) (names : Names)
-    (path : List ℕ) (keep : Bool) (answer : List ℕ) (is : IsBundle names path keep answer) (s : Root)
-    (others : List (List ℕ)) (accepted : Accepts answer s others) where
+    (path : List ℕ) (keep : Bool) (answer : List ℕ)
+    (is : IsBundle names path keep answer) (over : Names) (s : Root) (others : List (List ℕ))
+    (accepted : AcceptsWith over answer s others) where
   abbrev all : List (List ℕ)
   all = is.buffers ++ is.images
 
@@ -239,7 +240,7 @@ module _ (one : OneReading) (back : ReadsBack) (spaces : SpacesBehind) (names : 
   abbrev edited : Data
   edited = moved_value all is.pictures is.value
 
-  the_value : accepted.valid.document.value ≡ edited
+  pub the_value : accepted.valid.document.value ≡ edited
   the_value =
       let document = accepted.valid.document in
       let padded_reads : Reads (padded 32 is.json) document.value =
@@ -308,7 +309,7 @@ module _ (one : OneReading) (back : ReadsBack) (spaces : SpacesBehind) (names : 
       (λ found.
       let some = found.some in
       let here = one_at all (omega (arith, as_many, some)) in
-      from_one found.one (joined all) s.buffers.items accepted.blob others found.after
+      from_one over found.one (joined all) s.buffers.items accepted.blob others found.after
       (the_blob ∙ ap (option_map (padded 0)) here.0) (joined_whole all) found.uri
       found.long accepted.data_
       ∙ here.1)

@@ -5,5 +5,8 @@ pub mod Taken
 pub mod Uris
 pub mod Imported
 pub mod Shown
-pub mod Loaded
+pub mod Fixed
+pub mod Again
+pub mod Twice
+pub mod Sourced
 pub mod Refused

@@ -34,7 +34,7 @@ use Rattle.gltf_bundle.specs.declared.bundling.Joined.{Joined}
 use Rattle.gltf_bundle.specs.declared.error.BundleError.{BundleError}
 use Rattle.gltf_bundle.specs.declared.error.BundleError.TheVariants as bundle
 use Rattle.gltf_bundle.proofs.Joins.{each_more}
-use Rattle.gltf_bundle.proofs.Loaded.{moved_depth}
+use Rattle.gltf_bundle.proofs.Sourced.{moved_depth}
 
 -- ---- the import
 

@@ -1,9 +1,10 @@
 -- Which bytes a file is bundled to (glTF 2.0, sections 3.6.1 and 4.4).
 use Rattle.std.specs.Prelude.{◌≡◌, ◌<◌, ◌≤◌, ◌^◌, ℕ, List, [], ◌∷◌, ◌++◌, length, Option, Some, None}
-use Rattle.std.specs.Prelude.{Bool}
+use Rattle.std.specs.Prelude.{Bool, false}
 use Rattle.serde_json.specs.Data.{Data, depth}
 use Rattle.serde_json.specs.Read.{max_depth}
 use Rattle.serde_json.specs.View.{view}
+use Rattle.serde_json.specs.Written.{has_float, compact_text}
 use Rattle.gltf_edit.specs.Bundled.{ArePlaced}
 use Rattle.gltf_edit.specs.Embedded.{embedded}
 use Rattle.gltf_edit.specs.Joined.{joined, spans_from}
@@ -75,11 +76,13 @@ pub record IsJoined (buffers : List (List ℕ)) (all : Joined) : Type 0 where
   pub total : all.total ≡ length (joined buffers)
   pub fits : length (joined buffers) < 2 ^ 32
 
--- the canonical container of some text of a value and a blob
+-- the canonical container of some text of a value and a blob; where the value has no float, there
+-- is one such text
 pub record IsContainerOf (value : Data) (blob : Option (List ℕ)) (answer : List ℕ)
     : Type 0 where
   pub json : List ℕ
   pub reads : depth value ≤ max_depth → Reads json value
+  pub compact : has_float value ≡ false → json ≡ compact_text value
   pub fits : total_of json blob < 2 ^ 32
   pub written : answer ≡ container_bytes json blob
 
@@ -97,6 +100,8 @@ pub record IsBundle (names : Names) (path : List ℕ) (keep : Bool) (answer : Li
   pub short : length (joined (buffers ++ images)) < 2 ^ 32
   pub json : List ℕ
   pub reads : Reads json (moved_value (buffers ++ images) pictures value)
+  pub compact : has_float (moved_value (buffers ++ images) pictures value) ≡ false
+      → json ≡ compact_text (moved_value (buffers ++ images) pictures value)
   pub fits : total_of json (blob_of (buffers ++ images)) < 2 ^ 32
   pub written : answer ≡ container_bytes json (blob_of (buffers ++ images))
 

@@ -73,7 +73,7 @@ impl fmt::Display for BundleError {
                 "images[{image}]: neither a mimeType nor bytes of PNG, JPEG, WebP or KTX2"
             ),
             BundleError::TooLong => write!(f, "more than 4294967295 bytes of buffers and images"),
-            BundleError::Answer(error) => write!(f, "the container: {error}"),
+            BundleError::Answer(error) => write!(f, "what would be written: {error}"),
         }
     }
 }

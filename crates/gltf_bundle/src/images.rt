@@ -108,7 +108,7 @@ fn text_at<'a>(value: &'a Value, name: &str) -> Option<&'a str>
 }
 
 /// The bytes that the URI of an image leads to.
-fn image_bytes<N: Ask>(
+pub fn image_bytes<N: Ask>(
     alloc: Global,
     names: &mut N,
     index: usize,

@@ -1,6 +1,7 @@
 //! Laws of bundles. Each is a statement over definitions, proved as the contract of a function that
 //! does nothing.
 ghost use Rattle.gltf_bundle.specs.Laws.{HasOneBuffer, NeedsNoFile, KeepsItems, ShowsImages};
+ghost use Rattle.gltf_bundle.specs.Laws.{BundlesAgain};
 
 use gltf_glb::laws::{one_reading, reads_back};
 use gltf_items::Item;
@@ -43,4 +44,15 @@ pub fn images_are_shown()
     reads_back();
     spaces_behind();
     gltf_moved::laws::images_are_shown();
+}
+
+/// A bundle that is bundled again has the same JSON value and the same binary buffer, and where the
+/// value has no float, it is the same bytes. Where images were kept they have to be kept again:
+/// else those with URIs are taken in.
+pub fn bundled_again()
+    ensures { BundlesAgain }
+{
+    one_reading();
+    reads_back();
+    spaces_behind();
 }

@@ -25,19 +25,15 @@ use std::borrow::CowSlice;
 
 /// The value of a file's JSON, and the bytes of its buffers.
 #[derive(Drop)]
-pub(crate) struct Loaded {
+pub struct Loaded {
     /// The value.
-    pub(crate) value: Value,
+    pub value: Value,
     /// The bytes, by index.
-    pub(crate) buffers: Vec<Data>,
+    pub buffers: Vec<Data>,
 }
 
 /// Imports the file at the path, as [`gltf::import_from`] does.
-pub(crate) fn load<S: NamedBytes>(
-    alloc: Global,
-    source: &mut S,
-    path: &str,
-) -> Result<Loaded, BundleError>
+pub fn load<S: NamedBytes>(alloc: Global, source: &mut S, path: &str) -> Result<Loaded, BundleError>
     ensures loaded { IfOk result (IsLoaded (names_of (S.bytes_by_name source.old)) path.now) }
     ensures refused { IfErr result (RefusesSource (names_of (S.bytes_by_name source.old)) path.now
         (S.failures source.old) (S.failures source.new)) }

@@ -36,7 +36,7 @@ fn named_media(uri: &[u8]) -> Option<&'static str>
 }
 
 /// The media type of a file that begins so, where it is one of four.
-fn begun_media(bytes: &[u8]) -> Option<&'static str>
+pub fn begun_media(bytes: &[u8]) -> Option<&'static str>
     ensures { option_copied result ≡ begun_media bytes.now }
 {
     if bytes.starts_with(b"\x89PNG\r\n\x1a\n") {

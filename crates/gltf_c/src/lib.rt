@@ -1,6 +1,7 @@
-//! The loader as a library for C: one export for each call of `gltf_c_calls`, with its contract.
-//! `c/gltf_shim.c` has the functions of `c/gltf.h` over these, which take the file behind a pointer
-//! as it is there; the call of that name in `gltf_c_calls` says what it returns and when.
+//! The loader as a library for C: one export for each call of `gltf_c_handle`, `gltf_c_calls` and
+//! `gltf_c_rooms`, with its contract. `c/gltf_shim.c` has the functions of `c/gltf.h` over these,
+//! which take the file behind a pointer as it is there; the call of that name in these crates says
+//! what it returns and when.
 //!
 //! No function here asks anything of its arguments: what a caller has to keep is what C cannot say
 //! in a type, and stands in the header.
@@ -10,6 +11,13 @@ ghost use Rattle.std.specs.Prelude.{◌≡◌, None};
 ghost use Rattle.gltf_c_bytes.specs.Info.{buffer_of, accessor_of, image_of};
 ghost use Rattle.gltf_c_bytes.specs.Lists.{numbers_of};
 ghost use Rattle.gltf_c_bytes.specs.Places.{buffer_place, view_place, accessor_place};
+ghost use Rattle.gltf_c_extensions.specs.Materials.{IsClearcoat, IsSheen, IsIridescence};
+ghost use Rattle.gltf_c_extensions.specs.Materials.{IsAnisotropy, IsDispersion};
+ghost use Rattle.gltf_c_extensions.specs.Materials.{IsDiffuseTransmission};
+ghost use Rattle.gltf_c_extensions.specs.Metadata.{IsPacket};
+ghost use Rattle.gltf_c_extensions.specs.Nodes.{IsInstancing, IsVisibility};
+ghost use Rattle.gltf_c_extensions.specs.Textures.{IsBasisu, IsWebp};
+ghost use Rattle.gltf_c_extensions.specs.Views.{IsMeshopt};
 ghost use Rattle.gltf_c_look.specs.Cameras.{camera_of};
 ghost use Rattle.gltf_c_look.specs.Lights.{light_of};
 ghost use Rattle.gltf_c_look.specs.Materials.{material_of};
@@ -24,22 +32,32 @@ ghost use Rattle.gltf_c_scene.specs.Meshes.{variant_material_of};
 ghost use Rattle.gltf_c_scene.specs.Names.{name_of};
 ghost use Rattle.gltf_c_scene.specs.Nodes.{shown_node_of, shown_scene_of};
 ghost use Rattle.gltf_c_scene.specs.Skins.{shown_skin_of, node_list_of};
-ghost use Rattle.gltf_c_calls.specs.Calls.{HasCount, Gives, shown, default_scene};
-ghost use Rattle.gltf_c_calls.specs.Calls.{GivesText, GivesTextOr, GivesList};
-ghost use Rattle.gltf_c_calls.specs.Calls.{ReadsItems, ReadsJson};
-ghost use Rattle.gltf_c_calls.specs.Opened.{IsOpened};
-ghost use Rattle.gltf_c_calls.specs.Waiting.{IsGivenBytes};
+ghost use Rattle.gltf_c_calls.specs.Calls.{HasCount, default_scene};
+ghost use Rattle.gltf_c_handle.specs.Calls.{Gives, GivesRead, said, shown};
+ghost use Rattle.gltf_c_handle.specs.Opened.{IsOpened};
+ghost use Rattle.gltf_c_handle.specs.Waiting.{IsGivenBytes};
+ghost use Rattle.gltf_c_rooms.specs.Calls.{GivesText, GivesTextOr, GivesList};
+ghost use Rattle.gltf_c_rooms.specs.Calls.{ReadsItems, ReadsJson};
 
 use gltf_c_bytes::info::{GltfAccessor, GltfBuffer, GltfImage};
 use gltf_c_bytes::place::GltfBytes;
-use gltf_c_calls::handle::GltfFile;
-use gltf_c_calls::{bytes, look, open, room, scene};
+use gltf_c_calls::{bytes, extension, look, scene};
+use gltf_c_extensions::material::{
+    GltfAnisotropy, GltfClearcoat, GltfDiffuseTransmission, GltfDispersion, GltfIridescence,
+    GltfSheen,
+};
+use gltf_c_extensions::node::{GltfInstancing, GltfVisibility};
+use gltf_c_extensions::texture::GltfTextureSource;
+use gltf_c_extensions::view::GltfMeshopt;
 use gltf_c_fault::fault::GltfFault;
+use gltf_c_handle::handle::GltfFile;
+use gltf_c_handle::open;
 use gltf_c_look::camera::GltfCamera;
 use gltf_c_look::light::GltfLight;
 use gltf_c_look::material::GltfMaterial;
 use gltf_c_look::texture::{GltfSampler, GltfTexture};
 use gltf_c_look::view::GltfBufferView;
+use gltf_c_rooms::room;
 use gltf_c_scene::animation::{GltfAnimation, GltfChannel};
 use gltf_c_scene::attribute::GltfAttribute;
 use gltf_c_scene::mesh::{GltfMesh, GltfPrimitive};
@@ -550,4 +568,179 @@ pub extern "C" fn core_accessor_bytes(
     ensures given { Gives (accessor_place index) file.old.value result out.old out.new }
 {
     bytes::accessor_bytes(alloc, file, index, out)
+}
+
+/// The clear layer above the material at an index (`KHR_materials_clearcoat`).
+#[unsafe(no_mangle)]
+pub extern "C" fn core_clearcoat_info(
+    alloc: Global,
+    file: &mut GltfFile,
+    index: usize,
+    out: &mut GltfClearcoat,
+) -> u32
+    ensures same { file.new.value ≡ file.old.value }
+    ensures given { GivesRead (said (IsClearcoat index)) file.old.value result out.old out.new }
+{
+    extension::clearcoat_info(alloc, file, index, out)
+}
+
+/// The soft reflection of the material at an index (`KHR_materials_sheen`).
+#[unsafe(no_mangle)]
+pub extern "C" fn core_sheen_info(
+    alloc: Global,
+    file: &mut GltfFile,
+    index: usize,
+    out: &mut GltfSheen,
+) -> u32
+    ensures same { file.new.value ≡ file.old.value }
+    ensures given { GivesRead (said (IsSheen index)) file.old.value result out.old out.new }
+{
+    extension::sheen_info(alloc, file, index, out)
+}
+
+/// The thin film on the material at an index (`KHR_materials_iridescence`).
+#[unsafe(no_mangle)]
+pub extern "C" fn core_iridescence_info(
+    alloc: Global,
+    file: &mut GltfFile,
+    index: usize,
+    out: &mut GltfIridescence,
+) -> u32
+    ensures same { file.new.value ≡ file.old.value }
+    ensures given { GivesRead (said (IsIridescence index)) file.old.value result out.old out.new }
+{
+    extension::iridescence_info(alloc, file, index, out)
+}
+
+/// How the reflections of the material at an index are stretched
+/// (`KHR_materials_anisotropy`).
+#[unsafe(no_mangle)]
+pub extern "C" fn core_anisotropy_info(
+    alloc: Global,
+    file: &mut GltfFile,
+    index: usize,
+    out: &mut GltfAnisotropy,
+) -> u32
+    ensures same { file.new.value ≡ file.old.value }
+    ensures given { GivesRead (said (IsAnisotropy index)) file.old.value result out.old out.new }
+{
+    extension::anisotropy_info(alloc, file, index, out)
+}
+
+/// How the material at an index parts the colours of light (`KHR_materials_dispersion`).
+#[unsafe(no_mangle)]
+pub extern "C" fn core_dispersion_info(
+    alloc: Global,
+    file: &mut GltfFile,
+    index: usize,
+    out: &mut GltfDispersion,
+) -> u32
+    ensures same { file.new.value ≡ file.old.value }
+    ensures given { GivesRead (said (IsDispersion index)) file.old.value result out.old out.new }
+{
+    extension::dispersion_info(alloc, file, index, out)
+}
+
+/// The light that the material at an index lets through and scatters
+/// (`KHR_materials_diffuse_transmission`).
+#[unsafe(no_mangle)]
+pub extern "C" fn core_diffuse_transmission_info(
+    alloc: Global,
+    file: &mut GltfFile,
+    index: usize,
+    out: &mut GltfDiffuseTransmission,
+) -> u32
+    ensures same { file.new.value ≡ file.old.value }
+    ensures given { GivesRead (said (IsDiffuseTransmission index)) file.old.value result
+        out.old out.new }
+{
+    extension::diffuse_transmission_info(alloc, file, index, out)
+}
+
+/// The instances of the mesh of the node at an index (`EXT_mesh_gpu_instancing`).
+#[unsafe(no_mangle)]
+pub extern "C" fn core_instancing_info(
+    alloc: Global,
+    file: &mut GltfFile,
+    index: usize,
+    out: &mut GltfInstancing,
+) -> u32
+    ensures same { file.new.value ≡ file.old.value }
+    ensures given { GivesRead (said (IsInstancing index)) file.old.value result out.old out.new }
+{
+    extension::instancing_info(alloc, file, index, out)
+}
+
+/// Whether the node at an index is shown (`KHR_node_visibility`).
+#[unsafe(no_mangle)]
+pub extern "C" fn core_visibility_info(
+    alloc: Global,
+    file: &mut GltfFile,
+    index: usize,
+    out: &mut GltfVisibility,
+) -> u32
+    ensures same { file.new.value ≡ file.old.value }
+    ensures given { GivesRead (said (IsVisibility index)) file.old.value result out.old out.new }
+{
+    extension::visibility_info(alloc, file, index, out)
+}
+
+/// How the view at an index is compressed (`EXT_meshopt_compression`).
+#[unsafe(no_mangle)]
+pub extern "C" fn core_meshopt_info(
+    alloc: Global,
+    file: &mut GltfFile,
+    index: usize,
+    out: &mut GltfMeshopt,
+) -> u32
+    ensures same { file.new.value ≡ file.old.value }
+    ensures given { GivesRead (said (IsMeshopt index)) file.old.value result out.old out.new }
+{
+    extension::meshopt_info(alloc, file, index, out)
+}
+
+/// The image of the texture at an index in a format of Basis Universal
+/// (`KHR_texture_basisu`).
+#[unsafe(no_mangle)]
+pub extern "C" fn core_basisu_info(
+    alloc: Global,
+    file: &mut GltfFile,
+    index: usize,
+    out: &mut GltfTextureSource,
+) -> u32
+    ensures same { file.new.value ≡ file.old.value }
+    ensures given { GivesRead (said (IsBasisu index)) file.old.value result out.old out.new }
+{
+    extension::basisu_info(alloc, file, index, out)
+}
+
+/// The image of the texture at an index in the format WebP (`EXT_texture_webp`).
+#[unsafe(no_mangle)]
+pub extern "C" fn core_webp_info(
+    alloc: Global,
+    file: &mut GltfFile,
+    index: usize,
+    out: &mut GltfTextureSource,
+) -> u32
+    ensures same { file.new.value ≡ file.old.value }
+    ensures given { GivesRead (said (IsWebp index)) file.old.value result out.old out.new }
+{
+    extension::webp_info(alloc, file, index, out)
+}
+
+/// The packet of metadata that describes the record of a kind at an index (`KHR_xmp_json_ld`).
+#[unsafe(no_mangle)]
+pub extern "C" fn core_xmp_packet(
+    alloc: Global,
+    file: &mut GltfFile,
+    kind: u32,
+    index: usize,
+    part: usize,
+    packet: &mut usize,
+) -> u32
+    ensures same { file.new.value ≡ file.old.value }
+    ensures given { GivesRead (said (IsPacket kind index part)) file.old.value result
+        packet.old packet.new }
+{
+    extension::xmp_packet(alloc, file, kind, index, part, packet)
 }

@@ -3,13 +3,14 @@ ghost use Rattle.std.specs.Prelude.{◌≡◌};
 ghost use Rattle.gltf_c_bytes.specs.Info.{buffer_of, accessor_of, image_of};
 ghost use Rattle.gltf_c_bytes.specs.Places.{buffer_place, view_place, accessor_place};
 ghost use Rattle.gltf_c_look.specs.Views.{view_of};
-ghost use Rattle.gltf_c_calls.specs.Calls.{Gives, shown};
+ghost use Rattle.gltf_c_handle.specs.Calls.{Gives, shown};
 
-use crate::ask::{Ask, At, answer};
-use crate::handle::GltfFile;
+use crate::at::At;
 use gltf_c_bytes::info::{GltfAccessor, GltfBuffer, GltfImage};
 use gltf_c_bytes::place::GltfBytes;
 use gltf_c_bytes::{info, place};
+use gltf_c_handle::ask::{Ask, answer};
+use gltf_c_handle::handle::GltfFile;
 use gltf_c_look::view;
 use gltf_c_look::view::GltfBufferView;
 use gltf_c_open::file::File;

@@ -1,4 +1,5 @@
-//! The calls of version 2 of the library for C, over what an open file holds.
+//! The calls of the library for C that answer with one value, a number or a struct, of what an open
+//! file holds.
 //!
 //! None asks anything of its arguments: what a caller has to keep is what C cannot say in a type,
 //! and stands in the header. Each but `count` returns the number of a `Status`, and leaves the file
@@ -6,12 +7,8 @@
 //! `NoSuchIndex` where nothing has the index, or it has not what is asked for.
 #![tactic(auto)]
 
-mod ask;
-mod bare;
+mod at;
 pub mod bytes;
-mod given;
-pub mod handle;
+pub mod extension;
 pub mod look;
-pub mod open;
-pub mod room;
 pub mod scene;

@@ -4,10 +4,11 @@ ghost use Rattle.gltf_c_look.specs.Cameras.{camera_of};
 ghost use Rattle.gltf_c_look.specs.Lights.{light_of};
 ghost use Rattle.gltf_c_look.specs.Materials.{material_of};
 ghost use Rattle.gltf_c_look.specs.Textures.{texture_of, sampler_of};
-ghost use Rattle.gltf_c_calls.specs.Calls.{Gives, shown};
+ghost use Rattle.gltf_c_handle.specs.Calls.{Gives, shown};
 
-use crate::ask::{Ask, At, answer};
-use crate::handle::GltfFile;
+use crate::at::At;
+use gltf_c_handle::ask::{Ask, answer};
+use gltf_c_handle::handle::GltfFile;
 use gltf_c_look::camera::GltfCamera;
 use gltf_c_look::light::GltfLight;
 use gltf_c_look::material::GltfMaterial;

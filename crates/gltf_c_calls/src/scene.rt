@@ -7,10 +7,12 @@ ghost use Rattle.gltf_c_scene.specs.Meshes.{shown_mesh_of, shown_primitive_of};
 ghost use Rattle.gltf_c_scene.specs.Meshes.{variant_material_of};
 ghost use Rattle.gltf_c_scene.specs.Nodes.{shown_node_of, shown_scene_of};
 ghost use Rattle.gltf_c_scene.specs.Skins.{shown_skin_of};
-ghost use Rattle.gltf_c_calls.specs.Calls.{Gives, HasCount, shown, default_scene};
+ghost use Rattle.gltf_c_handle.specs.Calls.{Gives, shown};
+ghost use Rattle.gltf_c_calls.specs.Calls.{HasCount, default_scene};
 
-use crate::ask::{Ask, At, answer};
-use crate::handle::GltfFile;
+use crate::at::At;
+use gltf_c_handle::ask::{Ask, answer};
+use gltf_c_handle::handle::GltfFile;
 use gltf_c_open::file::File;
 use gltf_c_scene::animation::{GltfAnimation, GltfChannel};
 use gltf_c_scene::attribute::GltfAttribute;

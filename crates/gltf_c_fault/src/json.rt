@@ -7,8 +7,8 @@ use crate::status::Status;
 use serde_json::Value;
 use std::alloc::Global;
 
-/// Writes the JSON text of a value to the front of `room`, cut to it, with a zero byte after it, and
-/// its whole length to `length`. Where there is no value, or no memory for the text, it writes
+/// Writes the JSON text of a value to the front of `room`, cut to it, with a zero byte after it,
+/// and its whole length to `length`. Where there is no value, or no memory for the text, it writes
 /// nothing.
 pub fn give_json(
     alloc: Global,

@@ -37,6 +37,8 @@ pub enum Status {
     Unreadable,
     /// The room that was given is too small.
     NoRoom,
+    /// An extension does not fit its table, or breaks its rules.
+    BadExtension,
 }
 
 impl Status {
@@ -62,6 +64,7 @@ impl Status {
             Status::NoSuchIndex => 12,
             Status::Unreadable => 13,
             Status::NoRoom => 14,
+            Status::BadExtension => 17,
         }
     }
 

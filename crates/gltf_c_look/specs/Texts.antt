@@ -7,7 +7,8 @@ use Rattle.gltf_json.specs.declared.root.Root.{Root}
 use Rattle.gltf_json_scene.specs.declared.asset.Asset.{Asset}
 use Rattle.gltf_handles.specs.Members.{text}
 use Rattle.gltf_c_look.specs.declared.text.TextMember.{TextMember}
-use Rattle.gltf_c_look.specs.declared.text.TextMember.TheVariants.{BufferUri, ImageUri, ImageMimeType}
+use Rattle.gltf_c_look.specs.declared.text.TextMember.TheVariants.{BufferUri, ImageUri}
+use Rattle.gltf_c_look.specs.declared.text.TextMember.TheVariants.{ImageMimeType}
 use Rattle.gltf_c_look.specs.declared.text.TextMember.TheVariants.{Version, MinVersion, Generator}
 use Rattle.gltf_c_look.specs.declared.text.TextMember.TheVariants.{Copyright}
 

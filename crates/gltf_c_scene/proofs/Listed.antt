@@ -56,7 +56,8 @@ pub count_of_values : (vs : List Value) (xs : List Float) → numbers_in (map vi
 count_of_values vs xs e = sym (length-map vs view) ∙ as_many (map view vs) xs e
 
 -- each number is that of the value at its place
-place_more : (o : Option Float) (r : Option (List Float)) (i : ℕ) (xs : List Float) (at : Option Float)
+place_more : (o : Option Float) (r : Option (List Float)) (i : ℕ) (xs : List Float)
+    (at : Option Float)
     → ((ys : List Float) → r ≡ Some ys → slice_get ys i ≡ at)
     → option_and_then (λ x. option_map (λ zs. x ∷ zs) r) o ≡ Some xs
     → slice_get xs (suc i) ≡ at

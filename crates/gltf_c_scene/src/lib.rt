@@ -1,6 +1,5 @@
-//! Records of a document as plain structs, lists and numbers for C: meshes, nodes, scenes, skins and
-//! animations, and what all kinds of records have. They are for version 2 of the library for C, and
-//! no library stands on them yet. Nothing here has a pointer.
+//! Records of a document as plain structs, lists and numbers for C: meshes, nodes, scenes, skins
+//! and animations, and what all kinds of records have. Nothing here has a pointer.
 //!
 //! All functions are over the record of a document, and return `None` where nothing has the index.
 #![tactic(auto)]

@@ -5,7 +5,7 @@ use gltf::mesh::{Primitive, Reader, Semantic};
 use gltf::{Buffer, Document, animation, skin};
 use gltf_access::NotRead;
 use gltf_access::animation::{why_no_inputs, why_no_outputs};
-use gltf_access::mesh::{why_no_indices, why_not_read};
+use gltf_access::mesh::{why_no_displacements, why_no_indices, why_not_read};
 use gltf_access::skin::why_no_inverse_bind_matrices;
 use gltf_case::asked::Asked;
 use gltf_case::shown::Written;
@@ -13,7 +13,8 @@ use std::alloc::Global;
 
 /// Writes why a reader reads nothing, or that it reads: `why +DIGITS,DIGITS.. WHAT`. This is
 /// `inverseBindMatrices` of the first skin, `input` or `output` of the first channel of the first
-/// animation, and `indices` or an attribute of the first primitive of the first mesh.
+/// animation, and of the first primitive of the first mesh `indices`, an attribute, or
+/// `targets/ATTRIBUTE` of its first morph target.
 pub(crate) fn write(
     alloc: Global,
     asked: Asked<'_>,
@@ -36,9 +37,16 @@ fn write_over(
         "inverseBindMatrices" => write_skin(document, &given, line),
         "input" => write_inputs(document, &given, line),
         "output" => write_outputs(document, &given, line),
-        _ => match &Semantic::of_name(alloc, name)? {
-            Some(semantic) => write_attribute(document, semantic, &given, line),
-            None => write_indices(document, &given, line),
+        "indices" => write_indices(document, &given, line),
+        _ => match name.strip_prefix("targets/") {
+            Some(name) => match &Semantic::of_name(alloc, name)? {
+                Some(semantic) => write_target(document, semantic, &given, line),
+                None => line.push_str("no attribute"),
+            },
+            None => match &Semantic::of_name(alloc, name)? {
+                Some(semantic) => write_attribute(document, semantic, &given, line),
+                None => line.push_str("no attribute"),
+            },
         },
     }
 }
@@ -159,6 +167,49 @@ fn is_read<'s, F: Fn(Buffer) -> Option<&'s [u8]>>(
         Semantic::TexCoords(set) => reader.read_tex_coords(*set).is_some(),
         Semantic::Joints(set) => reader.read_joints(*set).is_some(),
         Semantic::Weights(set) => reader.read_weights(*set).is_some(),
+    }
+}
+
+fn write_target<'s, F: Fn(Buffer) -> Option<&'s [u8]>>(
+    document: &Document,
+    semantic: &Semantic,
+    given: &F,
+    line: &mut String,
+) -> Written
+    requires { F.IsAlwaysCallable given.now }
+{
+    let Some(primitive) = first_primitive(document) else {
+        return line.push_str("no primitive");
+    };
+    match primitive.morph_targets().nth(0) {
+        Some(target) => write_reason(
+            why_no_displacements(&target, semantic, given),
+            is_displaced(&primitive, semantic, given),
+            line,
+        ),
+        None => line.push_str("no target"),
+    }
+}
+
+/// Whether the reader of a primitive reads what its first morph target adds to an attribute.
+fn is_displaced<'s, F: Fn(Buffer) -> Option<&'s [u8]>>(
+    primitive: &Primitive,
+    semantic: &Semantic,
+    given: &F,
+) -> bool
+    requires { F.IsAlwaysCallable given.now }
+{
+    let Some((positions, normals, tangents)) = Reader::new(primitive, given)
+        .read_morph_targets()
+        .next()
+    else {
+        return false;
+    };
+    match semantic {
+        Semantic::Positions => positions.is_some(),
+        Semantic::Normals => normals.is_some(),
+        Semantic::Tangents => tangents.is_some(),
+        _ => false,
     }
 }
 

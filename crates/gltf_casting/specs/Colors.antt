@@ -4,7 +4,8 @@ use Rattle.gltf_items.specs.Counted.{CountedItems}
 use Rattle.gltf_data.specs.Iter.{counted_items}
 use Rattle.gltf_casting.specs.Casting.{cast_each, no_items}
 use Rattle.gltf_casting.specs.declared.colors.ReadColors.{ReadColors}
-use Rattle.gltf_casting.specs.declared.colors.ReadColors.TheVariants.{RgbU8, RgbU16, RgbF32, RgbaU8, RgbaU16, RgbaF32}
+use Rattle.gltf_casting.specs.declared.colors.ReadColors.TheVariants.{RgbU8, RgbU16, RgbF32, RgbaU8}
+use Rattle.gltf_casting.specs.declared.colors.ReadColors.TheVariants.{RgbaU16, RgbaF32}
 
 -- they are floats, which are not cast
 abbrev pub is_float : ReadColors → Bool

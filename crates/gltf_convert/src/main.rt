@@ -1,8 +1,9 @@
-//! Converts a glTF file to one GLB container.
+//! Converts a glTF file to one GLB container, or to JSON text with files beside it.
 #![tactic(auto)]
 
 mod refusal;
 mod run;
+mod words;
 
 use gltf::Folder;
 pub use run::run;

@@ -2,40 +2,56 @@
 use gltf::Error;
 use gltf_bundle::BundleError;
 use gltf_put::PutFault;
+use std::alloc::AllocError;
 use std::{fmt, io};
 
 const USAGE: &str = "usage: gltf_convert IN OUT.glb [--keep-images]
+       gltf_convert IN OUT.gltf [--keep-images] [--pretty]
 
-Writes the glTF file IN, GLB or JSON, with the bytes of all its buffers and images as one GLB
-container, in which each accessor has the same items. It needs no other file: the buffers become one
-without a URI, and each image with a URI goes into a view of that buffer.
+Writes the glTF file IN, GLB or JSON, anew. Each accessor has the same items. Unless images are
+kept, what is written needs no other file than those that are written with it.
 
-The media type of such an image is that which its data: URI names, where it is PNG, JPEG, WebP or
-KTX2, else its mimeType, else the one of these four whose files begin so. Where there is none, or
-the bytes of an image cannot be read, nothing is written. With --keep-images images are not touched:
-one that has a URI keeps it, and stays where it is.
+OUT.glb is one GLB container. The buffers become one without a URI, and each image with a URI goes
+into a view of that buffer. The media type of such an image is that which its data: URI names,
+where it is PNG, JPEG, WebP or KTX2, else its mimeType, else the one of these four whose files
+begin so. Where there is none, nothing is written.
 
-The bytes go to OUT.glb.part, a new file, which takes the name OUT.glb once it is whole; so OUT.glb
-may be IN. Where a write fails, OUT.glb is what it was before, and the new file is removed. Where
-the program is stopped, or the new file cannot be removed, it is left behind with a part of the
-bytes; the program writes to no such file that is there already.
+OUT.gltf is JSON text. The bytes of its buffers go to OUT.bin, or to OUT0.bin and so on where
+there are several, and those of each image, in a view or with a URI, to OUT_image0.png and so on,
+by its index. The name ends in .png, .jpg, .webp or .ktx2 where the bytes begin so, or else the
+mimeType says so, and in .bin where neither does. With --pretty the text has line breaks and two
+spaces a step.
 
-An OUT.glb that is there has to be a regular file, or a symbolic link to one, which is then replaced
-in its place. The new file has its mode. It belongs to whoever runs the program, and no other name
-of the old file, a hard link, leads to it.";
+Where the bytes of an image cannot be read, nothing is written. With --keep-images images are not
+touched: each one stays in its view, or keeps its URI.
+
+The bytes of each file go to its name with .part behind it, a new file, which takes the name once
+the bytes of all are whole, the JSON text last; so OUT may be IN. Where a write fails, each file
+is what it was before, and the new ones are removed. Where a new file cannot take its name, those
+before it have theirs, and the others are removed. Where the program is stopped, or a new file
+cannot be removed, it is left behind with a part of the bytes; the program writes to no such file
+that is there already.
+
+A file of such a name that is there has to be a regular file, or a symbolic link to one, which is
+then replaced in its place. The new file has its mode. It belongs to whoever runs the program, and
+no other name of the old file, a hard link, leads to it.";
 
 /// Why nothing was converted.
 #[derive(Debug, Drop)]
 pub(crate) enum Refusal<'w> {
-    /// The words are not two names, and `--keep-images` or nothing after them.
+    /// The words are not two names with flags after them.
     Usage,
-    /// This name does not end in `.glb`.
+    /// This name ends neither in `.glb` nor in `.gltf`.
     Ending(&'w str),
     /// The file is refused.
     File(BundleError),
     /// The container could not be written.
     Put(PutFault<'w>),
-    /// The container is written, and the line that says so could not be.
+    /// One of several files could not be written: why.
+    Files(String),
+    /// There is not enough memory.
+    Memory,
+    /// All files are written, and a line that says so could not be.
     Line(io::Error),
 }
 
@@ -70,18 +86,21 @@ impl From<BundleError> for Refusal<'_> {
     }
 }
 
+impl From<AllocError> for Refusal<'_> {
+    fn from(_cause: AllocError) -> Self {
+        Refusal::Memory
+    }
+}
+
 impl fmt::Display for Refusal<'_> {
     fn fmt<W: fmt::Write>(&self, f: &mut fmt::Formatter<W>) -> fmt::Result {
         match self {
             Refusal::Usage => write!(f, "{USAGE}"),
-            Refusal::Ending(name) => {
-                write!(
-                    f,
-                    "{name}: has to end in .glb: JSON with files beside it is not written"
-                )
-            }
+            Refusal::Ending(name) => { write!(f, "{name}: has to end in .glb or .gltf") }
             Refusal::File(error) => write!(f, "{error}"),
             Refusal::Put(fault) => write!(f, "{fault}"),
+            Refusal::Files(reason) => write!(f, "{reason}"),
+            Refusal::Memory => write!(f, "out of memory"),
             Refusal::Line(cause) => write!(f, "{cause}"),
         }
     }

@@ -1,19 +1,25 @@
 //! The engine of the program, over any files and any two writers.
 use crate::refusal::Refusal;
-use gltf::NamedBytes;
+use crate::words::{Conversion, Form, request};
+use gltf::{NamedBytes, base_of};
 use gltf_bundle::{BundleOptions, bundle};
-use gltf_put::put;
+use gltf_detach::Part;
+use gltf_put::{put, put_all};
+use gltf_split::{Pieces, SplitOptions, split};
+use std::alloc::{AllocError, Global};
 use std::io::{self, Write};
 use std::rt::Files;
 
-/// Converts the file that the first word names to the container that the second names, where the
-/// words are the arguments after the program's name, and gives the exit status. The files are asked
-/// of the source by name. A third word, `--keep-images`, says that images are not touched.
+/// Converts the file that the first word names to the form that the name in the second ends in,
+/// where the words are the arguments after the program's name, and gives the exit status. The files
+/// are asked of the source by name. After the names, `--keep-images` says that images are not
+/// touched, and `--pretty` that JSON has line breaks.
 ///
-/// - 0: the container is whole, and a line on `out` says how long it is.
-/// - 1: the file is refused, the container could not be written, or the line could not; the reason
-///   stands on `err`, with the name of a file that could not be read or written.
-/// - 2: the words are not these, or the second does not end in `.glb`; the reason stands on `err`.
+/// - 0: all files are whole, and a line on `out` for each says how long it is.
+/// - 1: the file is refused, a file could not be written, or a line could not; the reason stands on
+///   `err`, with the name of a file that could not be read or written.
+/// - 2: the words are not these, or the second ends in neither `.glb` nor `.gltf`; the reason
+///   stands on `err`.
 pub fn run<S: NamedBytes, O: Write, E: Write>(
     rt: &(impl Files + AllocGlobal),
     source: &mut S,
@@ -45,20 +51,98 @@ fn answer<'w, S: NamedBytes, O: Write>(
     words: &[&'w str],
     out: &mut O,
 ) -> Result<(), Refusal<'w>> {
-    let (from, to, keep_images) = match words {
-        [from, to] => (*from, *to, false),
-        [from, to, "--keep-images"] => (*from, *to, true),
-        _ => return Err(Refusal::Usage),
-    };
-    if !to.ends_with(".glb") {
-        return Err(Refusal::Ending(to));
+    let asked = request(words)?;
+    match asked.form {
+        Form::Container => write_container(rt, source, &asked, out),
+        Form::Text(stem) => write_text(rt, source, &asked, stem, out),
     }
-    let options = BundleOptions { keep_images };
-    let bytes = bundle(rt.alloc(), source, from, &options)?;
-    put(rt, to, &bytes)?;
-    let length = bytes.len();
-    match writeln!(out, "{to}: {length} bytes") {
+}
+
+/// Writes one container.
+fn write_container<'w, S: NamedBytes, O: Write>(
+    rt: &(impl Files + AllocGlobal),
+    source: &mut S,
+    asked: &Conversion<'w>,
+    out: &mut O,
+) -> Result<(), Refusal<'w>> {
+    let options = BundleOptions {
+        keep_images: asked.keep_images,
+    };
+    let bytes = bundle(rt.alloc(), source, asked.from, &options)?;
+    put(rt, asked.to, &bytes)?;
+    told(out, asked.to, bytes.len())
+}
+
+/// Writes JSON text with files beside it. The stem is the name of the text without its ending.
+fn write_text<'w, S: NamedBytes, O: Write>(
+    rt: &(impl Files + AllocGlobal),
+    source: &mut S,
+    asked: &Conversion<'w>,
+    stem: &str,
+    out: &mut O,
+) -> Result<(), Refusal<'w>> {
+    let alloc = rt.alloc();
+    let options = SplitOptions {
+        keep_images: asked.keep_images,
+        pretty: asked.pretty,
+    };
+    let split = split(alloc, source, asked.from, stem, &options)?;
+    let paths = paths_of(alloc, &split, base_of(asked.to))?;
+    let files = files_of(alloc, &split, &paths, asked.to)?;
+    if let Err(fault) = put_all(rt, &files) {
+        return Err(Refusal::Files(format!(in alloc; "{fault}")?));
+    }
+    for file in &files {
+        told(out, file.0, file.1.len())?;
+    }
+    Ok(())
+}
+
+/// Says how long a file is.
+fn told<'w, O: Write>(out: &mut O, name: &str, length: usize) -> Result<(), Refusal<'w>> {
+    match writeln!(out, "{name}: {length} bytes") {
         Ok(()) => Ok(()),
         Err(cause) => Err(Refusal::Line(cause)),
     }
+}
+
+/// The paths of the files beside the text, in its folder: those of buffers, then those of images.
+fn paths_of(alloc: Global, split: &Pieces, base: &str) -> Result<Vec<String>, AllocError> {
+    let mut paths = Vec::new(alloc);
+    for part in &split.buffers {
+        add_path(alloc, &mut paths, base, part)?;
+    }
+    for part in split.images.iter().flatten() {
+        add_path(alloc, &mut paths, base, part)?;
+    }
+    Ok(paths)
+}
+
+/// One path more.
+fn add_path(
+    alloc: Global,
+    paths: &mut Vec<String>,
+    base: &str,
+    part: &Part,
+) -> Result<(), AllocError> {
+    let mut path = String::from_str(alloc, base)?;
+    path.push_str(part.name.as_str())?;
+    paths.push(path)?;
+    Ok(())
+}
+
+/// Each file by its path, the text last.
+fn files_of<'s>(
+    alloc: Global,
+    split: &'s Pieces,
+    paths: &'s [String],
+    to: &'s str,
+) -> Result<Vec<(&'s str, &'s [u8])>, AllocError> {
+    let mut files = Vec::with_capacity(alloc, paths.len())?;
+    let parts = split.buffers.iter().chain(split.images.iter().flatten());
+    for (path, part) in paths.iter().zip(parts) {
+        files.push((path.as_str(), part.bytes.as_slice()))?;
+    }
+    files.push((to, split.json.as_bytes()))?;
+    Ok(files)
 }

@@ -61,7 +61,8 @@ module _ {Y : Type 0} {Gives : Results} {r : Root} {part : Option Part}
   found : (x : Y) → out ≡ Ok x → AllHold (conditions h.answer) × (x ≡ read h.answer)
   found x is = all_hold (conditions h.answer) (read h.answer) x (sym h.outcome ∙ is)
 
-  stops : (e : Unreadable) → out ≡ Err e → where_all_hold (conditions h.answer) (read h.answer) ≡ Err e
+  stops : (e : Unreadable) → out ≡ Err e
+      → where_all_hold (conditions h.answer) (read h.answer) ≡ Err e
   stops e is = sym h.outcome ∙ is
 
   failed : (e : Unreadable) → out ≡ Err e → ¬ (AllHold (conditions h.answer))
@@ -158,7 +159,11 @@ module _ {X : Type 0} {Gives : Results} (t : Ghosts X) (r : Root) (a : Accessor)
           → ReadsParts Gives t r a (Some s) result
       no_values e none result_is = record {
         answers = all_answers;
-        asked = record { base = b.answered; indices = λ _. i.answered; values = λ _ _. v.answered };
+        asked = record {
+          base = b.answered;
+          indices = λ _. i.answered;
+          values = λ _ _. v.answered;
+        };
         outcome =
             result_is
             ∙ sym (to_values (items_with t r a (Some s) all_answers)
@@ -182,7 +187,11 @@ module _ {X : Type 0} {Gives : Results} (t : Ghosts X) (r : Root) (a : Accessor)
           over.1 in
           record {
             answers = all_answers;
-            asked = record { base = b.answered; indices = λ _. i.answered; values = λ _ _. v.answered };
+            asked = record {
+              base = b.answered;
+              indices = λ _. i.answered;
+              values = λ _ _. v.answered;
+            };
             outcome =
                 result_is ∙ ap Ok same
                 ∙ sym (to_values (items_with t r a (Some s) all_answers)
@@ -190,7 +199,8 @@ module _ {X : Type 0} {Gives : Results} (t : Ghosts X) (r : Root) (a : Accessor)
                 (items_with t r a (Some s) all_answers) over.0);
           }
 
-pub length-indices : {Gives : Results} {r : Root} {indices : Result (List ℕ) Unreadable} (s : Sparse)
+pub length-indices : {Gives : Results} {r : Root} {indices : Result (List ℕ) Unreadable}
+    (s : Sparse)
     → ReadsIndices Gives r s indices → (is : List ℕ) → indices ≡ Ok is → length is ≡ s.count
 length-indices {r = r} s i is eq =
     let stored = found i is eq in

@@ -3,7 +3,8 @@
 -- Types", 3.6.2.3, "Sparse Accessors", 3.6.2.4, "Data Alignment", and 3.6.1, "Buffers and Buffer
 -- Views").
 use Rattle.std.specs.Prelude.{ℕ, ◌+◌, ◌-◌, ◌*◌, ◌^◌, ◌==◌, nat_lt, nat_le, if◌then◌else◌, Bool}
-use Rattle.std.specs.Prelude.{false, is_some, List, [], ◌∷◌, ◌++◌, length, take, drop, Option, Some, None, Ok}
+use Rattle.std.specs.Prelude.{false, is_some, List, [], ◌∷◌, ◌++◌, length, take, drop, Option, Some}
+use Rattle.std.specs.Prelude.{None, Ok}
 use Rattle.std.specs.Prelude.{Err, Result, unwrap_or, option_map, option_and_then}
 use Rattle.std.specs.Result.{result_map_both}
 use Rattle.gltf_json.specs.declared.root.Root.{Root}

@@ -1,18 +1,18 @@
 -- Laws of the members of a document whose buffers and images are in files of their own.
-use Rattle.std.proofs.Common.{◌≡◌, ℕ, ◌≤◌, List, Option, Some, None, Bool, true}
-use Rattle.std.proofs.Common.{false, bytes_eq, refl, ◌∙◌, codes, max, arith, option_map}
+use Rattle.std.proofs.Common.{◌≡◌, ℕ, ◌+◌, ◌≤◌, ◌<◌, List, [], ◌∷◌, Option, Some, None, Bool, true}
+use Rattle.std.proofs.Common.{false, bytes_eq, refl, sym, ap, ◌∙◌, codes, max, arith, option_map}
 use Rattle.std.proofs.Common.{if◌then◌else◌}
 use Rattle.std.specs.Prelude.{IsSome}
 use Rattle.serde_json.specs.Data.{Data, null, boolean, number, string, array, object, Items}
 use Rattle.serde_json.specs.Data.{no_items, item, Members, no_members, member, depth}
 use Rattle.serde_json.specs.Data.{items_depth, members_depth}
 use Rattle.serde_json.specs.Find.{get, as_object}
-use Rattle.gltf_edit.specs.Bundled.{with_some}
+use Rattle.gltf_edit.specs.Bundled.{with_member, with_some}
 use Rattle.gltf_edit.specs.BundledLaws.{differ, get_with, get_with_other, get_with_some_other}
 use Rattle.gltf_edit.specs.BundledLaws.{object_with_some}
 use Rattle.gltf_edit.specs.DepthLaws.{with_shallow, get_depth}
 use Rattle.gltf_edit.specs.Embedded.{without, without_member}
-use Rattle.gltf_edit.specs.EmbeddedLaws.{get_without}
+use Rattle.gltf_edit.specs.EmbeddedLaws.{get_without, get_without_other}
 use Rattle.gltf_detach.specs.Detached.{with_uri, elsewhere, first, rest, each_elsewhere}
 use Rattle.gltf_detach.specs.Detached.{all_elsewhere, list_elsewhere, detached}
 use Rattle.gltf_detach.specs.declared.owner.Owner.{Owner}

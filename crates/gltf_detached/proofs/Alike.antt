@@ -1,5 +1,6 @@
 -- Such a document shows what the document before shows, but for buffers and images.
 use Rattle.std.proofs.Common.{◌≡◌, ℕ, List, Option, Some, None, false, bytes_eq, codes, refl, sym, subst}
+use Rattle.std.proofs.Common.{◌∙◌}
 use Rattle.std.specs.Prelude.{MatchOption, SomeIff, option_and_then}
 use Rattle.serde_json.specs.Data.{Data}
 use Rattle.gltf_json_record.specs.Member.{member_at, unless_null}

@@ -1,17 +1,21 @@
 -- The buffers that a document is imported with, where a source has their files.
 use Rattle.std.proofs.Common.{◌≡◌, ℕ, zero, suc, ◌<◌, List, [], ◌∷◌, length, map, Bool, true, false}
-use Rattle.std.proofs.Common.{Option, Some, option_map, Ok, Err, Result, refl, sym, ap, subst, ◌∙◌}
+use Rattle.std.proofs.Common.{Option, Some, None, option_map, Ok, Err, Result, refl, sym, ap, subst, ◌∙◌}
 use Rattle.std.proofs.Common.{arith, get_or, slice_get, nat_lt, string_bytes}
 use Rattle.std.proofs.lemmas.Option.{slice_get-map}
-use Rattle.std.specs.Prelude.{if◌then◌else◌}
+use Rattle.std.specs.Prelude.{if◌then◌else◌, IsSome}
+use Rattle.gltf_json.specs.declared.root.Root.{Root}
+use Rattle.gltf_json_geometry.specs.declared.buffer.Buffer.{Buffer}
 use Rattle.gltf_names.specs.Named.{Named, Relative}
-use Rattle.gltf_buffers.specs.Buffers.{Source, source_of, sources_of, IsBytesOf, name_at}
-use Rattle.gltf_buffers.specs.Buffers.{bytes_of, blob_for}
-use Rattle.gltf_buffers.specs.Buffers.{BufferFault, TooShort}
+use Rattle.gltf_buffers.specs.Buffers.{Source, source_of, sources_of, AreBytes, IsBytesOf, name_at}
+use Rattle.gltf_buffers.specs.Buffers.{bytes_of, blob_for, checked_bytes, filled_bytes, meant_bytes}
+use Rattle.gltf_buffers.specs.Buffers.{long_enough, BufferFault, TooShort}
 use Rattle.gltf_buffers.specs.Names.{Held, MayBeGiven, name_of}
+use Rattle.gltf_buffers.specs.Padding.{padded}
+use Rattle.gltf_buffers.specs.Uri as uri
 use Rattle.gltf_detach.specs.Naming.{uri_of_part}
 use Rattle.gltf_detach.specs.declared.part.Part.{Part}
-use Rattle.gltf_detached.specs.Laws.{LeadToNames, ReadsFiles, HoldsPart, padded_part}
+use Rattle.gltf_detached.specs.Laws.{LeadToNames, ReadsFiles, HasUri, HoldsPart, padded_part}
 
 -- ---- lists
 

@@ -1,25 +1,25 @@
 -- The records of buffers and images with URIs.
 use Rattle.std.proofs.Common.{◌≡◌, ℕ, List, Option, Some, None, refl, sym, ap, subst, ◌∙◌, codes}
 use Rattle.std.proofs.Common.{option_map, String, Global, string_bytes}
-use Rattle.std.specs.Prelude.{MatchOption, option_and_then}
+use Rattle.std.specs.Prelude.{MatchOption, IsSome, option_and_then}
 use Rattle.serde_json.specs.Data.{Data, null, boolean, number, string, array, object}
-use Rattle.serde_json.specs.Find.{get, as_str}
+use Rattle.serde_json.specs.Find.{get, as_str, as_object}
 use Rattle.gltf_json.specs.Documents.{root}
 use Rattle.gltf_json.specs.declared.root.Root.{Root}
 use Rattle.gltf_json_geometry.specs.Buffers.{buffer}
 use Rattle.gltf_json_geometry.specs.declared.buffer.Buffer.{Buffer}
-use Rattle.gltf_json_record.specs.Member.{unless_null}
+use Rattle.gltf_json_record.specs.Member.{member_at, unless_null}
 use Rattle.gltf_json_record.specs.Scalars.{as_size}
 use Rattle.gltf_json_scene.specs.Images.{image}
 use Rattle.gltf_json_scene.specs.declared.image.Image.{Image}
 use Rattle.gltf_edit.specs.BundledLaws.{differ, get_with_other}
 use Rattle.gltf_edit.specs.Embedded.{without_member}
 use Rattle.gltf_edit.specs.EmbeddedLaws.{get_without_other}
-use Rattle.gltf_detach.specs.Detached.{elsewhere}
+use Rattle.gltf_detach.specs.Detached.{elsewhere, with_uri}
 use Rattle.gltf_detach.specs.DetachedLaws.{buffer_uri, image_uri, no_view}
 use Rattle.gltf_detach.specs.DetachedLaws.{detached_buffers, detached_images}
 use Rattle.gltf_detach.specs.declared.owner.Owner.TheVariants as owner
-use Rattle.gltf_detached.specs.Laws.{IsNamed, IsNamedImage}
+use Rattle.gltf_detached.specs.Laws.{IsDetached, IsNamed, AreNamed, IsNamedImage}
 use Rattle.gltf_detached.specs.Laws.{NamesBuffers, NamesImages}
 use Rattle.gltf_detached.proofs.Rows.{ReadsList, Both, both, same_count}
 

@@ -4,10 +4,11 @@ use Rattle.std.proofs.Common.{ap, subst, ◌∙◌, slice_get, option_map}
 use Rattle.std.specs.Prelude.{MatchOption, option_and_then}
 use Rattle.serde_json.specs.Data.{Data, null, boolean, number, string, array, object, Items}
 use Rattle.serde_json.specs.Data.{no_items, item}
-use Rattle.serde_json.specs.Find.{as_array}
+use Rattle.serde_json.specs.Events.{items_len}
+use Rattle.serde_json.specs.Find.{get_item, as_array}
 use Rattle.gltf_json_record.specs.Items.{AllRead}
 use Rattle.gltf_json_record.specs.Member.{unless_null}
-use Rattle.gltf_detach.specs.Detached.{elsewhere, each_elsewhere, all_elsewhere, rest}
+use Rattle.gltf_detach.specs.Detached.{elsewhere, each_elsewhere, all_elsewhere, first, rest}
 use Rattle.gltf_detach.specs.declared.owner.Owner.{Owner}
 
 abbrev pub ReadsList : {T : Type 0} → (Data → T → Type 0) → Option Data → List T → Type 0

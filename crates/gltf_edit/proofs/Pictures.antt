@@ -15,7 +15,8 @@ use Rattle.serde_json.specs.Events.{items_len}
 use Rattle.serde_json.specs.View.{view, items_view, members_view}
 use Rattle.serde_json.specs.declared.value.Value.{Value}
 use Rattle.serde_json.proofs.Views.{Entry}
-use Rattle.gltf_edit.specs.Embedded.{with_items, buffers_of, views_of, without, pictured, first, rest}
+use Rattle.gltf_edit.specs.Embedded.{with_items, buffers_of, views_of, without, pictured, first}
+use Rattle.gltf_edit.specs.Embedded.{rest}
 use Rattle.gltf_edit.specs.Embedded.{shown, seats, sized, view_on, list_after, items_at}
 use Rattle.gltf_edit.specs.declared.picture.Picture.{Picture}
 
@@ -30,7 +31,8 @@ pub with_none : (ds : Items) → with_items ds no_items ≡ ds
 with_none no_items = refl
 with_none (item d ds) = ap (item d) (with_none ds)
 
-pub with_more : (ds es fs : Items) → with_items (with_items ds es) fs ≡ with_items ds (with_items es fs)
+pub with_more : (ds es fs : Items) → with_items (with_items ds es) fs
+    ≡ with_items ds (with_items es fs)
 with_more no_items es fs = refl
 with_more (item d ds) es fs = ap (item d) (with_more ds es fs)
 

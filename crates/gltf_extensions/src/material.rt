@@ -272,8 +272,8 @@ pub fn diffuse_transmission<'a, D: Records>(
     document: &'a D,
     material: &Material<'a, D>,
 ) -> Option<Result<Handle<'a, DiffuseTransmission, D>, ExtensionFault>>
-    ensures { IsRead kinds.diffuse_transmission rules.diffuse_transmission_rules (D.root document.now)
-        (extension_named (codes "KHR_materials_diffuse_transmission")
+    ensures { IsRead kinds.diffuse_transmission rules.diffuse_transmission_rules
+        (D.root document.now) (extension_named (codes "KHR_materials_diffuse_transmission")
         (option_map (λ e. e.others) (material_handle material.now).json.extensions)) result }
 {
     read_handle(

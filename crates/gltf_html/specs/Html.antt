@@ -1,5 +1,5 @@
--- Text in HTML: what would begin a tag or a reference, or end the value of an attribute, stands as a
--- reference (HTML, section 13.3, "escaping a string"); and JSON text in a script.
+-- Text in HTML: what would begin a tag or a reference, or end the value of an attribute, stands as
+-- a reference (HTML, section 13.3, "escaping a string"); and JSON text in a script.
 use Rattle.std.specs.Prelude.{ℕ, ◌==◌, Bool, ◌||◌, List, [], ◌∷◌, codes, flat_map, if◌then◌else◌}
 
 abbrev pub html_byte : ℕ → List ℕ

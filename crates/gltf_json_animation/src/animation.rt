@@ -261,7 +261,10 @@ macro_rules! sampler_rows {
     ($read:ident!($($from:ident),*)) => {
         $read!($($from),*; Sampler {
             input: required("input"),
-            interpolation: or_default("interpolation", Checked::Valid($crate::animation::Interpolation::Linear)),
+            interpolation: or_default(
+                "interpolation",
+                Checked::Valid($crate::animation::Interpolation::Linear)
+            ),
             output: required("output"),
             extras: optional("extras"),
         })

@@ -326,7 +326,10 @@ macro_rules! material_rows {
     ($read:ident!($($from:ident),*)) => {
         $read!($($from),*; Material {
             alpha_cutoff: optional("alphaCutoff"),
-            alpha_mode: or_default("alphaMode", Checked::Valid($crate::material::AlphaMode::Opaque)),
+            alpha_mode: or_default(
+                "alphaMode",
+                Checked::Valid($crate::material::AlphaMode::Opaque)
+            ),
             double_sided: or_default("doubleSided", false),
             pbr_metallic_roughness: optional("pbrMetallicRoughness"),
             normal_texture: optional("normalTexture"),

@@ -1,28 +1,67 @@
--- From the records of a mended file to its document and to its buffers.
-use Rattle.std.proofs.Common.{◌≡◌, ℕ, List, Result, Ok, Err, Vec, Global, inl, inr, refl, sym, subst}
+-- From the records of a mended file to its document without the names of a list.
+use Rattle.std.proofs.Common.{◌≡◌, ◌≢◌, ℕ, List, [], Result, Ok, Err, Vec, Global, inr, refl, sym}
+use Rattle.std.proofs.Common.{ap, subst, ◌∙◌}
 use Rattle.std.specs.Prelude.{Option, IfOk, IfErr}
 use Rattle.gltf_glb.specs.declared.error.Error.{Error}
 use Rattle.gltf_glb.specs.declared.error.Error.TheVariants as error
+use Rattle.gltf_json.specs.Documents.{root}
 use Rattle.gltf_json.specs.declared.root.Root.{Root}
-use Rattle.gltf_json_record.specs.declared.error.Error as json
-use Rattle.gltf_json_record.specs.declared.error.Error.TheVariants.{Memory}
-use Rattle.gltf_mend.specs.declared.mends.Mends.{Mends}
-use Rattle.gltf.specs.Import.{AreParts}
-use Rattle.gltf_names.specs.Named.{Named}
-use Rattle.gltf_buffers.specs.Buffers.{sources_of, HasBufferFault, IsAskedFor}
-use Rattle.gltf_buffers.specs.Errors.{FailsOrNames}
-use Rattle.gltf_buffers.specs.Names.{Names}
-use Rattle.gltf_glb.specs.Causes.{from_json}
-use Rattle.gltf.specs.Errors.{OutOfMemoryOr}
+use Rattle.gltf_validation.specs.Documents.{Faults}
+use Rattle.gltf.specs.Errors.{OutOfMemoryOr, TellsRules}
 use Rattle.gltf.specs.Shown.{blob_bytes}
-use Rattle.gltf_options.specs.Besides.{RefusesBesides, required_of}
+use Rattle.gltf_options.specs.Alike.{AreLeftAlike}
+use Rattle.gltf_options.specs.Besides.{IsBesides, RefusesBesides, required_of}
 use Rattle.gltf_options.specs.Names.{texts, taken_of}
 use Rattle.gltf_options.specs.Opened.{IsOpened}
 use Rattle.gltf_options.specs.declared.file.Opened.{Opened}
-use Rattle.gltf_lenient.specs.Files.{FailsOrRefusesMended}
-use Rattle.gltf_lenient.specs.Import.{also_of, IsMendedDocument, IsValidMended, RefusesMended}
-use Rattle.gltf_lenient.specs.Import.{RefusesMendedRecords, RefusesValue}
+use Rattle.gltf_lenient.specs.Import.{also_of, IsMendedDocument, IsOnlyMendedDocument}
+use Rattle.gltf_lenient.specs.Import.{IsValidMended, IsOnlyMended, IsNoValidMended, RefusesMended}
 use Rattle.gltf_lenient.specs.declared.options.Options.{Options}
+
+-- the premise: documents that show the same break the same rules
+abbrev pub SameRules : Type 0
+SameRules = (r s : Root) → root.content r ≡ root.content s → Faults r ≡ Faults s
+
+-- ---- one document
+
+-- the records and what is left of them are all that the bytes can be
+one_document : (options : Options) (bytes : List ℕ) (whole r : Root) (taken : List (List ℕ))
+    (blob : Option (List ℕ)) → AreLeftAlike → IsOnlyMendedDocument options.mends bytes whole blob
+    → IsBesides (also_of options) whole r
+    → taken ≡ taken_of (also_of options) (required_of whole)
+    → IsOnlyMended options bytes r taken blob
+one_document options bytes whole r taken blob alike only besides named s others rest other =
+    let same = only other.whole rest other.document in
+    let left = alike (also_of options) other.whole whole s r same.0 other.besides besides in
+    (left.0, other.named ∙ ap (taken_of (also_of options)) left.1 ∙ sym named, same.1)
+
+breaks_some : (r : Root) (e : Error) → TellsRules r e → Faults r ≢ []
+breaks_some r (error.Validation faults) told = told.1
+breaks_some r _ told = absurd told
+
+-- what is left breaks a rule: whatever else the bytes are without these names does too
+no_valid : (options : Options) (bytes : List ℕ) (whole : Root) (blob : Option (List ℕ))
+    (e : Error) → AreLeftAlike → SameRules
+    → IsOnlyMendedDocument options.mends bytes whole blob
+    → RefusesBesides (also_of options) whole e → IsNoValidMended options bytes
+no_valid options bytes whole blob e alike rules only refused s others rest valid =
+    let one = one_document options bytes whole refused.root
+    (taken_of (also_of options) (required_of whole)) blob
+    alike only refused.besides refl s others rest valid.document in
+    breaks_some refused.root e refused.fails (sym (rules s refused.root one.0) ∙ valid.rules)
+
+-- ---- out of memory, or what is said of an error
+
+told_other : (P : Error → Type 0) (e : Error) → OutOfMemoryOr P e → e ≢ error.Memory → P e
+told_other P error.Memory told other = absurd (other refl)
+told_other P e told other = told
+
+told_more : (P Q : Error → Type 0) (e : Error) → (P e → Q e) → OutOfMemoryOr P e
+    → OutOfMemoryOr Q e
+told_more P Q error.Memory more told = tt
+told_more P Q e more told = more told
+
+-- ---- the answers
 
 valid_file : (options : Options) (bytes : List ℕ) (whole : Root) (blob : Option (Vec ℕ Global))
     (file : Opened) → IsMendedDocument options.mends bytes whole (blob_bytes blob)
@@ -52,10 +91,19 @@ ok_valid options bytes whole blob (Ok file) document is =
     valid_file options bytes whole blob file document is
 ok_valid options bytes whole blob (Err e) document is = tt
 
-told_more : (P Q : Error → Type 0) (e : Error) → (P e → Q e) → OutOfMemoryOr P e
-    → OutOfMemoryOr Q e
-told_more P Q error.Memory more told = tt
-told_more P Q e more told = more told
+pub ok_only : (options : Options) (bytes : List ℕ) (whole : Root)
+    (blob : Option (Vec ℕ Global)) (result : Result Opened Error) → AreLeftAlike
+    → IsOnlyMendedDocument options.mends bytes whole (blob_bytes blob)
+    → IfOk result (IsOpened (also_of options) whole blob)
+    → IfOk result (λ file. IsOnlyMended options bytes file.gltf.document
+    (texts file.also_required.items) (blob_bytes file.gltf.blob))
+ok_only options bytes whole blob (Ok file) alike only is =
+    one_document options bytes whole file.gltf.document (texts file.also_required.items)
+    (blob_bytes file.gltf.blob) alike
+    (subst (λ (b : Option (Vec ℕ Global)).
+    IsOnlyMendedDocument options.mends bytes whole (blob_bytes b)) (sym is.blob_is) only)
+    is.besides is.named
+ok_only options bytes whole blob (Err e) alike only is = tt
 
 pub err_refused : (options : Options) (bytes : List ℕ) (whole : Root)
     (blob : Option (List ℕ)) (result : Result Opened Error)
@@ -74,34 +122,12 @@ err_refused options bytes whole blob (Err e) document told =
       fails = refused.fails;
     })) told
 
-pub refuses_buffers : (options : Options) (names : Names) (bytes : List ℕ) (r : Root)
-    (taken : List (List ℕ)) (blob : Option (List ℕ)) (old new : List Named) (e : Error)
-    → IsValidMended options bytes r taken blob
-    → FailsOrNames (HasBufferFault names (sources_of r) blob)
-    (IsAskedFor names (sources_of r) blob) old new e
-    → FailsOrRefusesMended options names bytes old new e
-refuses_buffers options names bytes r taken blob old new (error.Io cause) valid fails = (
-  fails.0,
-  record { root = r; taken = taken; blob = blob; valid = valid; asked = fails.1 },
-  fails.2,
-)
-refuses_buffers options names bytes r taken blob old new error.Memory valid fails = fails
-refuses_buffers options names bytes r taken blob old new e valid fails = (
-  fails.0,
-  inr (record { root = r; taken = taken; blob = blob; valid = valid; fails = fails.1 }),
-)
-
--- the text or the records do not hold: what becomes of their error
-pub refuses_text : (mends : Mends) (bytes text : List ℕ) (blob : Option (List ℕ))
-    (cause : json.Error) → AreParts bytes text blob → RefusesValue mends text cause
-    → OutOfMemoryOr (RefusesMendedRecords mends bytes) (from_json cause)
-refuses_text mends bytes text blob Memory parts told = tt
-refuses_text mends bytes text blob cause parts told = inr (record {
-  text = text;
-  blob = blob;
-  parts = parts;
-  cause = cause;
-  names = refl;
-  not_memory = λ is. cc;
-  fails = told;
-})
+pub err_exact : (options : Options) (bytes : List ℕ) (whole : Root)
+    (blob : Option (List ℕ)) (result : Result Opened Error) → AreLeftAlike → SameRules
+    → IsOnlyMendedDocument options.mends bytes whole blob
+    → IfErr result (OutOfMemoryOr (RefusesBesides (also_of options) whole))
+    → IfErr result (λ e. e ≢ error.Memory → IsNoValidMended options bytes)
+err_exact options bytes whole blob (Ok file) alike rules only told = tt
+err_exact options bytes whole blob (Err e) alike rules only told = λ other.
+    no_valid options bytes whole blob e alike rules only
+    (told_other (RefusesBesides (also_of options) whole) e told other)

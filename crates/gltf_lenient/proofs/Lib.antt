@@ -1,1 +1,5 @@
-pub mod Documents
+mod Parts
+mod Layers
+mod Documents
+mod WithBuffers
+mod Files

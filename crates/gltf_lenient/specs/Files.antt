@@ -3,6 +3,7 @@
 use Rattle.std.specs.Prelude.{◌≡◌, ◌⊎◌, ℕ, List, ◌∷◌, Option}
 use Rattle.gltf_glb.specs.declared.error.Error.{Error}
 use Rattle.gltf_glb.specs.declared.error.Error.TheVariants.{Io, Memory}
+use Rattle.gltf_json.specs.Documents.{root}
 use Rattle.gltf_json.specs.declared.root.Root.{Root}
 use Rattle.gltf_names.specs.Named.{Named, File}
 use Rattle.gltf_buffers.specs.Buffers.{sources_of, IsAskedFor}
@@ -50,3 +51,16 @@ abbrev pub RefusesMendedFileAt : Options → Names → List ℕ → List Named �
 RefusesMendedFileAt options names path old new e =
     IsUnanswered names (File path) old new e
     ⊎ FailsMendedAfterPath options names path old new e
+
+-- of no other root can the file at the path be the mended document, but for how it lies in memory,
+-- with no other names left out and no other bytes of the buffers
+abbrev pub IsOnlyMendedFile : Options → Names → List ℕ → Root → List (List ℕ) → List (List ℕ)
+    → Type 0
+IsOnlyMendedFile options names path r taken buffers =
+    (s : Root) (others data_ : List (List ℕ)) → AcceptsMendedFile options names path s others data_
+    → (root.content s ≡ root.content r) × (others ≡ taken) × (data_ ≡ buffers)
+
+abbrev pub IsNotAcceptedMendedFile : Options → Names → List ℕ → Type 0
+IsNotAcceptedMendedFile options names path =
+    (s : Root) (taken buffers : List (List ℕ))
+    → AcceptsMendedFile options names path s taken buffers → ⊥

@@ -105,3 +105,38 @@ RefusesMended options bytes e =
 abbrev pub RefusesMendedImport : Options → Names → List ℕ → Error → Type 0
 RefusesMendedImport options names bytes e =
     RefusesMended options bytes e ⊎ RefusesMendedBuffers options names bytes e
+
+-- of no other root can these bytes be the mended document, but for how it lies in memory, and with
+-- no other blob
+abbrev pub IsOnlyMendedDocument : Mends → List ℕ → Root → Option (List ℕ) → Type 0
+IsOnlyMendedDocument mends bytes r blob =
+    (s : Root) (other : Option (List ℕ)) → IsMendedDocument mends bytes s other
+    → (root.content s ≡ root.content r) × (other ≡ blob)
+
+abbrev pub IsNoMendedDocument : Mends → List ℕ → Type 0
+IsNoMendedDocument mends bytes =
+    (s : Root) (blob : Option (List ℕ)) → IsMendedDocument mends bytes s blob → ⊥
+
+-- the same of the document without the names that the caller handles, and of these names
+abbrev pub IsOnlyMended : Options → List ℕ → Root → List (List ℕ) → Option (List ℕ) → Type 0
+IsOnlyMended options bytes r taken blob =
+    (s : Root) (others : List (List ℕ)) (rest : Option (List ℕ))
+    → IsMendedBesides options bytes s others rest
+    → (root.content s ≡ root.content r) × (others ≡ taken) × (rest ≡ blob)
+
+abbrev pub IsNoValidMended : Options → List ℕ → Type 0
+IsNoValidMended options bytes =
+    (s : Root) (taken : List (List ℕ)) (blob : Option (List ℕ))
+    → IsValidMended options bytes s taken blob → ⊥
+
+-- the same of the root, the names and the bytes of the buffers
+abbrev pub IsOnlyMendedImport : Options → Names → List ℕ → Root → List (List ℕ) → List (List ℕ)
+    → Type 0
+IsOnlyMendedImport options names bytes r taken buffers =
+    (s : Root) (others data_ : List (List ℕ)) → AcceptsMended options names bytes s others data_
+    → (root.content s ≡ root.content r) × (others ≡ taken) × (data_ ≡ buffers)
+
+abbrev pub IsNotAcceptedMended : Options → Names → List ℕ → Type 0
+IsNotAcceptedMended options names bytes =
+    (s : Root) (taken buffers : List (List ℕ))
+    → AcceptsMended options names bytes s taken buffers → ⊥

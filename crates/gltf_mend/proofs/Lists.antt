@@ -1,6 +1,7 @@
 -- Lists of values beside the items that they are seen as.
 use Rattle.std.proofs.Common.{◌≡◌, ℕ, ◌+◌, ◌<◌, List, [], ◌∷◌, ◌++◌, Bool, true, false, length, map}
-use Rattle.std.proofs.Common.{take, get_or, refl, ap, sym, ◌∙◌, Option, Some, None, add-one, zero, suc}
+use Rattle.std.proofs.Common.{take, get_or, refl, ap, sym, ◌∙◌, Option, Some, None, add-one, zero}
+use Rattle.std.proofs.Common.{suc}
 use Rattle.std.proofs.Common.{if◌then◌else◌, Bor, arith}
 use Rattle.std.proofs.Math.Seq.{take-suc}
 use Rattle.std.proofs.lemmas.List.{map-append, append-nil}

@@ -1,6 +1,7 @@
 -- The channels of an animation (glTF 2.0, section 5.7). One that names no node may be ignored
 -- (section 5.7.1.1, `animation.channel.target.node`).
-use Rattle.std.specs.Prelude.{◌≡◌, List, ◌++◌, [], ◌∷◌, Bool, false, ◌&&◌, is_some, is_none, unwrap_or}
+use Rattle.std.specs.Prelude.{◌≡◌, List, ◌++◌, [], ◌∷◌, Bool, false, ◌&&◌, is_some, is_none}
+use Rattle.std.specs.Prelude.{unwrap_or}
 use Rattle.std.specs.Prelude.{option_map, if◌then◌else◌, codes}
 use Rattle.serde_json.specs.Data.{Data, null, boolean, number, string, array, object, Items}
 use Rattle.serde_json.specs.Data.{no_items, item}

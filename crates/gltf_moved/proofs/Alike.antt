@@ -70,22 +70,31 @@ module _ (buffers images : List (List ℕ)) (r s : Root) (m : IsMoved buffers im
                       (
                         keep (codes "nodes") refl refl refl _ _ m.before.1.1.1.1.1.1.1.1.1.1.0,
                         (
-                          keep (codes "samplers") refl refl refl _ _ m.before.1.1.1.1.1.1.1.1.1.1.1.0,
+                          keep (codes "samplers") refl refl refl _ _
+                              m.before.1.1.1.1.1.1.1.1.1.1.1.0,
                           (
-                            keep (codes "scene") refl refl refl _ _ m.before.1.1.1.1.1.1.1.1.1.1.1.1.0,
+                            keep (codes "scene") refl refl refl _ _
+                                m.before.1.1.1.1.1.1.1.1.1.1.1.1.0,
                             (
-                              keep (codes "scenes") refl refl refl _ _ m.before.1.1.1.1.1.1.1.1.1.1.1.1.1.0,
+                              keep (codes "scenes") refl refl refl _ _
+                                  m.before.1.1.1.1.1.1.1.1.1.1.1.1.1.0,
                               (
-                                keep (codes "skins") refl refl refl _ _ m.before.1.1.1.1.1.1.1.1.1.1.1.1.1.1.0,
+                                keep (codes "skins") refl refl refl _ _
+                                    m.before.1.1.1.1.1.1.1.1.1.1.1.1.1.1.0,
                                 (
-                                  keep (codes "textures") refl refl refl _ _ m.before.1.1.1.1.1.1.1.1.1.1.1.1.1.1.1.0,
+                                  keep (codes "textures") refl refl refl _ _
+                                      m.before.1.1.1.1.1.1.1.1.1.1.1.1.1.1.1.0,
                                   (
-                                    keep (codes "extensionsUsed") refl refl refl _ _ m.before.1.1.1.1.1.1.1.1.1.1.1.1.1.1.1.1.0,
+                                    keep (codes "extensionsUsed") refl refl refl _ _
+                                        m.before.1.1.1.1.1.1.1.1.1.1.1.1.1.1.1.1.0,
                                     (
-                                      keep (codes "extensionsRequired") refl refl refl _ _ m.before.1.1.1.1.1.1.1.1.1.1.1.1.1.1.1.1.1.0,
+                                      keep (codes "extensionsRequired") refl refl refl _ _
+                                          m.before.1.1.1.1.1.1.1.1.1.1.1.1.1.1.1.1.1.0,
                                       (
-                                        keep (codes "extensions") refl refl refl _ _ m.before.1.1.1.1.1.1.1.1.1.1.1.1.1.1.1.1.1.1.0,
-                                        keep (codes "extras") refl refl refl _ _ m.before.1.1.1.1.1.1.1.1.1.1.1.1.1.1.1.1.1.1.1,
+                                        keep (codes "extensions") refl refl refl _ _
+                                            m.before.1.1.1.1.1.1.1.1.1.1.1.1.1.1.1.1.1.1.0,
+                                        keep (codes "extras") refl refl refl _ _
+                                            m.before.1.1.1.1.1.1.1.1.1.1.1.1.1.1.1.1.1.1.1,
                                       ),
                                     ),
                                   ),
@@ -122,7 +131,8 @@ module _ (buffers images : List (List ℕ)) (r s : Root) (m : IsMoved buffers im
         m.after.1.1.1.1.1.0)
         (subst (λ o. MatchOption o ⊤ (EachPlaced (spans_from 0 all)))
         (longer_views m.pictures m.value m.before.0) m.placed)
-        (λ k v there. subst (λ (n : ℕ). v.buffer < n) (sym m.count) (buffer_named law r m.rules k v there))
+        (λ k v there. subst (λ (n : ℕ). v.buffer < n) (sym m.count)
+        (buffer_named law r m.rules k v there))
 
 -- documents whose contents are equal are alike in each member, and so they are read alike
 abbrev pub SameInEachMember : Type 0

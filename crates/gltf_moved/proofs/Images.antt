@@ -111,7 +111,8 @@ new_view_at b (Some q ∷ ps) zero p has =
 new_view_at b (Some q ∷ ps) (suc i) p has =
     let same : 1 + seats_before i ps ≡ suc (seats_before i ps) = omega arith in
     let on : b + 1 + seats_before i ps ≡ b + suc (seats_before i ps) = omega arith in
-    subst (λ (k : ℕ). get_item k (views_of b (Some q ∷ ps)) ≡ Some (view_on (b + k) p.length)) (sym same)
+    subst (λ (k : ℕ). get_item k (views_of b (Some q ∷ ps)) ≡ Some (view_on (b + k) p.length))
+    (sym same)
     (new_view_at (b + 1) ps i p has ∙ ap (λ (n : ℕ). Some (view_on n p.length)) on)
 
 -- ---- what a new view is read as
@@ -220,7 +221,8 @@ module _ (n : ℕ) (p : Picture) (e : Data) (x : Image) where
       get_with_other (codes "bufferView") (codes "mimeType") (string (string_bytes p.media)) in_view
       (differ _ _ refl)
       ∙ get_with (codes "bufferView") (whole n) bare on_bare in
-      let type : get (codes "mimeType") (with_picture n p e) ≡ Some (string (string_bytes p.media)) =
+      let type : get (codes "mimeType") (with_picture n p e)
+      ≡ Some (string (string_bytes p.media)) =
       get_with (codes "mimeType") (string (string_bytes p.media)) in_view on_view in
       record {
         no_uri =
@@ -231,7 +233,8 @@ module _ (n : ℕ) (p : Picture) (e : Data) (x : Image) where
             text_is x.mime_type (string_bytes p.media)
             (subst (λ (o : Option Data). MatchOption (option_and_then unless_null o)
             (x.mime_type ≡ None)
-            (λ e. MatchOption x.mime_type ⊥ (λ t. as_str e ≡ Some (string_bytes t)))) type is.1.1.0);
+            (λ e. MatchOption x.mime_type ⊥ (λ t. as_str e ≡ Some (string_bytes t)))) type
+            is.1.1.0);
         names_view =
             sym (optional_index (codes "bufferView") (with_picture n p e) x.buffer_view is.1.0)
             ∙ size_is (codes "bufferView") (with_picture n p e) n view;
@@ -286,10 +289,12 @@ view_read spans o (item f fs) ws k e there is placed =
       read =
           read_at buffer_view.is (mapped (moved spans) (with_items (items_in o) (item f fs))) ws
           (items_len (items_in o) + k) (moved spans e) is
-          (mapped_at (moved spans) (with_items (items_in o) (item f fs)) (items_len (items_in o) + k)
+          (mapped_at (moved spans) (with_items (items_in o) (item f fs))
+          (items_len (items_in o) + k)
           e at);
       lies =
-          placed_at spans (with_items (items_in o) (item f fs)) (items_len (items_in o) + k) e placed
+          placed_at spans (with_items (items_in o) (item f fs)) (items_len (items_in o) + k) e
+          placed
           at;
     }
 
@@ -351,7 +356,8 @@ shows_images buffers images r s m i e there p has_picture bytes given long =
     (subst (λ o. ReadsViews o s.buffer_views.items) (views_after spans total ps d is_object)
     m.after.1.1.1.1.1.0)
     (subst (λ o. MatchOption o ⊤ (EachPlaced spans)) (longer_views ps d is_object) m.placed) in
-    let count = counted (get (codes "buffers") d) r.buffers.items m.before.1.1.1.1.0 ∙ sym m.count in
+    let count = counted (get (codes "buffers") d) r.buffers.items m.before.1.1.1.1.0
+    ∙ sym m.count in
     let own : slice_get all (b + k) ≡ Some bytes =
     ap (λ (n : ℕ). slice_get all (n + k)) count ∙ behind_get buffers images k ∙ given in
     let held = has all (b + k) p.length of_view.read.value bytes own long of_view.read.reads

@@ -1,5 +1,6 @@
 -- The items of accessors, where the views of a document move to the one buffer.
-use Rattle.std.proofs.Common.{◌≡◌, ℕ, ◌-◌, ◌<◌, ◌≤◌, ◌^◌, List, length, Option, Some, None, refl, sym}
+use Rattle.std.proofs.Common.{◌≡◌, ℕ, ◌-◌, ◌<◌, ◌≤◌, ◌^◌, List, length, Option, Some, None, refl}
+use Rattle.std.proofs.Common.{sym}
 use Rattle.std.proofs.Common.{◌∙◌, arith, unwrap_or}
 use Rattle.std.specs.Prelude.{SomeIff, slice_get, option_and_then, MatchOption, ⊤, ◌++◌}
 use Rattle.byteorder.specs.Endian.{little_number}
@@ -64,7 +65,8 @@ module _ (buffers images : List (List ℕ)) (r s : Root)
     base =
         base_after buffers images (unwrap_or a.byte_offset 0) a.count size a.count
         (option_and_then (view_at r) a.buffer_view)
-        (option_and_then (view_at (over r s)) a.buffer_view) (any_view a.buffer_view named.base) ready.base;
+        (option_and_then (view_at (over r s)) a.buffer_view) (any_view a.buffer_view named.base)
+        ready.base;
     indices =
         part_after buffers images x.indices.byte_offset x.count (stored_size x.indices)
         (view_at r x.indices.buffer_view) (view_at (over r s) x.indices.buffer_view)
@@ -85,7 +87,8 @@ module _ (buffers images : List (List ℕ)) (r s : Root)
     base =
         base_before buffers images (unwrap_or a.byte_offset 0) a.count size a.count
         (option_and_then (view_at r) a.buffer_view)
-        (option_and_then (view_at (over r s)) a.buffer_view) (any_view a.buffer_view named.base) ready.base;
+        (option_and_then (view_at (over r s)) a.buffer_view) (any_view a.buffer_view named.base)
+        ready.base;
     indices =
         part_before buffers images x.indices.byte_offset x.count (stored_size x.indices)
         (view_at r x.indices.buffer_view) (view_at (over r s) x.indices.buffer_view)
@@ -109,12 +112,14 @@ module _ (buffers images : List (List ℕ)) (r s : Root)
     items_after a None named ready =
         part_same buffers images (unwrap_or a.byte_offset 0) a.count t.size t.value reads
         (option_and_then (view_at r) a.buffer_view)
-        (option_and_then (view_at (over r s)) a.buffer_view) (any_view a.buffer_view named.base) ready
+        (option_and_then (view_at (over r s)) a.buffer_view) (any_view a.buffer_view named.base)
+        ready
     items_after a (Some x) named ready =
         sparse_same t.zero_item a.count
         (base_same buffers images (unwrap_or a.byte_offset 0) a.count t.size t.value reads a.count
         (option_and_then (view_at r) a.buffer_view)
-        (option_and_then (view_at (over r s)) a.buffer_view) (any_view a.buffer_view named.base) ready.base)
+        (option_and_then (view_at (over r s)) a.buffer_view) (any_view a.buffer_view named.base)
+        ready.base)
         (part_same buffers images x.indices.byte_offset x.count (stored_size x.indices)
         (little_number (stored_size x.indices))
         (λ short. number-reads_front (stored_size x.indices))

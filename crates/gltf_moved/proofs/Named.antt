@@ -1,5 +1,6 @@
 -- The views and the buffers that a document names are there, where no rule is broken.
-use Rattle.std.proofs.Common.{◌≡◌, ◌<◌, ℕ, zero, suc, ◌+◌, List, [], ◌∷◌, length, Option, Some, None, subst}
+use Rattle.std.proofs.Common.{◌≡◌, ◌<◌, ℕ, zero, suc, ◌+◌, List, [], ◌∷◌, length, Option, Some}
+use Rattle.std.proofs.Common.{None, subst}
 use Rattle.std.proofs.lemmas.Bool.{ltb-true}
 use Rattle.std.specs.Prelude.{◌↔◌, MatchOption, slice_get, ⊤}
 use Rattle.gltf_json.specs.declared.root.Root.{Root}
@@ -61,7 +62,8 @@ module _ (law : AllHold) (r : Root) (rules : Faults r ≡ []) where
   pub named : (k : ℕ) (a : Accessor) → slice_get r.accessors.items k ≡ Some a
       → IsNamed (length r.buffer_views.items) a a.sparse
   named k a there =
-      accessor_named (counts_of r) a (each_holds (accessor_rules (counts_of r)) 0 r.accessors.items k a
+      accessor_named (counts_of r) a
+      (each_holds (accessor_rules (counts_of r)) 0 r.accessors.items k a
       ((law r).0 rules).0.0 there)
 
   pub buffer_named : (k : ℕ) (v : View) → slice_get r.buffer_views.items k ≡ Some v

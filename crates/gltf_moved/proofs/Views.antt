@@ -51,7 +51,8 @@ front_get [] ys i h = absurd (omega arith)
 front_get (x ∷ xs) ys zero h = refl
 front_get (x ∷ xs) ys (suc i) h = front_get xs ys i (omega arith)
 
-pub size_of : (name : List ℕ) (d e : Data) → get name d ≡ get name e → size_at name d ≡ size_at name e
+pub size_of : (name : List ℕ) (d e : Data) → get name d ≡ get name e
+    → size_at name d ≡ size_at name e
 size_of name d e same = ap (λ o. option_and_then as_u64 (option_and_then as_number o)) same
 
 pub size_is : (name : List ℕ) (d : Data) (n : ℕ) → get name d ≡ Some (number (unsigned n))
@@ -85,7 +86,8 @@ module _ (buffers images : List (List ℕ)) (e : Data) (v w : View) (is : buffer
       ap (λ (o : Option ℕ). unwrap_or o 0) offset_of in
       let goes : size_or_zero (codes "byteLength") e ≡ v.byte_length =
       ap (λ (o : Option ℕ). unwrap_or o 0) length_of in
-      let moves = size_is (codes "byteOffset") (moved spans e) _ (moved_offset spans e s is.0 there) in
+      let moves = size_is (codes "byteOffset") (moved spans e) _
+      (moved_offset spans e s is.0 there) in
       let offset_after = optional_size (codes "byteOffset") (moved spans e) w.byte_offset
       is_after.1.1.1.0 in
       let begins_after : s.place + size_or_zero (codes "byteOffset") e ≡ view_offset w =
@@ -159,7 +161,8 @@ ReadsViews o vs = MatchOption (option_and_then unless_null o) (vs ≡ [])
 
 pub views_move : (buffers images : List (List ℕ)) (o : Option Data) (more : Items)
     (vs ws : List View) → ReadsViews o vs
-    → ReadsViews (option_map (each_item (moved (spans_from 0 (buffers ++ images)))) (longer more o)) ws
+    → ReadsViews (option_map (each_item (moved (spans_from 0 (buffers ++ images)))) (longer more o))
+    ws
     → MatchOption (longer more o) ⊤ (EachPlaced (spans_from 0 (buffers ++ images)))
     → ((k : ℕ) (v : View) → slice_get vs k ≡ Some v → v.buffer < length buffers)
     → (i : ℕ) → i < length vs → MovesAt buffers images (slice_get vs i) (slice_get ws i)
@@ -173,7 +176,8 @@ views_move buffers images (Some (string s)) more vs ws is after placed named i h
 views_move buffers images (Some (array ds)) more vs ws is after placed named i h =
     let spans = spans_from 0 (buffers ++ images) in
     each_moves buffers images ds more vs ws is
-    (subst (λ o. ReadsViews (option_map (each_item (moved spans)) o) ws) (longer_list ds more) after)
+    (subst (λ o. ReadsViews (option_map (each_item (moved spans)) o) ws) (longer_list ds more)
+    after)
     (subst (λ o. MatchOption o ⊤ (EachPlaced spans)) (longer_list ds more) placed) named i h
 views_move buffers images (Some (object ms)) more vs ws is after placed named i h = absurd is
 

@@ -1,7 +1,8 @@
 -- What `exactly` gives of a list of JSON: the numbers of its values where there are so many, else
 -- none. The values of the list are those that it was made of, by induction on them.
 use Rattle.std.proofs.Common.{◌≡◌, ◌==◌, ℕ, List, [], ◌∷◌, length, map, refl, ap, sym, ◌∙◌}
-use Rattle.std.proofs.Common.{Some, None, Option, option_map, option_and_then, if◌then◌else◌, Float, ⊎_elim}
+use Rattle.std.proofs.Common.{Some, None, Option, option_map, option_and_then, if◌then◌else◌, Float}
+use Rattle.std.proofs.Common.{⊎_elim}
 use Rattle.std.proofs.lemmas.Bool.{eq-eqb}
 use Rattle.std.proofs.lemmas.Bool.Decides.{eqb_tells}
 use Rattle.std.proofs.lemmas.List.{length-map}

@@ -5,3 +5,4 @@ pub mod Import
 pub mod Files
 pub mod Reader
 pub mod Laws
+pub mod Alike

@@ -1,5 +1,6 @@
 //! Laws of lists of names. Each is a statement over the definitions of `specs/`, proved as the
 //! contract of a function; the calls in a body are laws that its proof stands on, and do nothing.
+ghost use Rattle.gltf_options.specs.Alike.{AreLeftAlike, HaveOneBuffers, HaveNoBuffers};
 ghost use Rattle.gltf_options.specs.Laws.{AcceptedWithNoList, AcceptedWithList};
 ghost use Rattle.gltf_options.specs.Laws.{EmptyListTakesNothing, HoldsWhereHandled};
 
@@ -35,4 +36,20 @@ pub fn no_rule_is_broken_where_names_are_handled()
     ensures { HoldsWhereHandled }
 {
     no_rule_is_broken_where_all_hold();
+}
+
+/// Documents that show the same require the same names, and show the same without those of a list.
+pub fn what_shows_the_same_is_left_alike()
+    ensures { AreLeftAlike }
+{
+    what_shows_the_same_is_alike_in_each_member();
+}
+
+/// Where it is known what names hold, the buffers of documents that show the same have the same
+/// bytes, or a fault in both.
+pub fn what_shows_the_same_has_the_same_buffers()
+    ensures one { HaveOneBuffers }
+    ensures none { HaveNoBuffers }
+{
+    what_shows_the_same_is_alike_in_each_member();
 }

@@ -6,4 +6,4 @@ mod place;
 mod putting;
 
 pub use fault::PutFault;
-pub use putting::put;
+pub use putting::{put, put_all};

@@ -24,19 +24,91 @@ pub fn put<'w>(
     name: &'w str,
     bytes: &[u8],
 ) -> Result<(), PutFault<'w>> {
-    let place = place_of(rt, name)?;
-    let mut part = String::from_str(rt.alloc(), place.path.as_str())?;
+    let part = write_part(rt, name, bytes)?;
+    give_name(rt, &part)
+}
+
+/// Writes each of these files, by its name, as [`put`] writes one: first the bytes of all to new
+/// files, which then take their names, in order.
+///
+/// Where a write fails, all files are what they were before, and the new ones are removed. Where a
+/// new file cannot take its name, those before it have theirs, and the others are removed.
+pub fn put_all<'w>(
+    rt: &(impl Files + AllocGlobal),
+    files: &[(&'w str, &[u8])],
+) -> Result<(), PutFault<'w>> {
+    let mut parts = Vec::with_capacity(rt.alloc(), files.len())?;
+    for file in files {
+        let written = match write_part(rt, file.0, file.1) {
+            // There is room for it.
+            Ok(part) => parts.push(part).map_err(|_| PutFault::Memory),
+            Err(fault) => Err(fault),
+        };
+        if let Err(fault) = written {
+            remove(rt, &parts);
+            return Err(fault);
+        }
+    }
+    for (i, part) in parts.iter().enumerate() {
+        if let Err(fault) = give_name(rt, part) {
+            remove(rt, &parts[i + 1..]);
+            return Err(fault);
+        }
+    }
+    Ok(())
+}
+
+/// A new file that is whole, and the path that it is to take.
+#[derive(Drop)]
+struct NewFile {
+    part: String,
+    path: String,
+}
+
+/// Writes the bytes to a new file beside the one of that name. Where that fails, the new file is
+/// removed.
+fn write_part<'w>(
+    rt: &(impl Files + AllocGlobal),
+    name: &'w str,
+    bytes: &[u8],
+) -> Result<NewFile, PutFault<'w>> {
+    let Place { path, permissions } = place_of(rt, name)?;
+    let mut part = String::from_str(rt.alloc(), path.as_str())?;
     part.push_str(".part")?;
-    match replace(rt, part.as_str(), place, bytes) {
-        Ok(()) => Ok(()),
+    match write_new(rt, part.as_str(), permissions, bytes) {
+        Ok(()) => Ok(NewFile { part, path }),
         Err(cause) => Err(PutFault::Write(part, cause)),
     }
 }
 
-/// Writes the bytes to a new file, which takes the path of the place when it is whole. Where that
-/// fails, what stood there stands there still, and the new file is removed.
-fn replace(rt: &impl Files, part: &str, place: Place, bytes: &[u8]) -> io::Result<()> {
-    let Place { path, permissions } = place;
+/// A new file takes its path. Where that fails, what stood there stands there still, and the new
+/// file is removed.
+fn give_name<'w>(rt: &(impl Files + AllocGlobal), file: &NewFile) -> Result<(), PutFault<'w>> {
+    match fs::rename(rt, file.part.as_str(), file.path.as_str()) {
+        Ok(()) => Ok(()),
+        Err(cause) => {
+            // Where this fails too, the new file is left behind, as the usage says.
+            let _ = fs::remove_file(rt, file.part.as_str());
+            Err(PutFault::Write(file.part.clone()?, cause))
+        }
+    }
+}
+
+/// Removes new files.
+fn remove(rt: &impl Files, files: &[NewFile]) {
+    for file in files {
+        // Where this fails, the new file is left behind.
+        let _ = fs::remove_file(rt, file.part.as_str());
+    }
+}
+
+/// Writes the bytes to a new file of this name, and removes it where that fails.
+fn write_new(
+    rt: &impl Files,
+    part: &str,
+    permissions: Option<Permissions>,
+    bytes: &[u8],
+) -> io::Result<()> {
     let mode = match permissions {
         Some(_) => PRIVATE,
         None => PUBLIC,
@@ -46,10 +118,7 @@ fn replace(rt: &impl Files, part: &str, place: Place, bytes: &[u8]) -> io::Resul
         .create_new(true)
         .mode(mode)
         .open(rt, part)?;
-    let written = match fill(&mut file, bytes, permissions) {
-        Ok(()) => fs::rename(rt, part, path.as_str()),
-        failed => failed,
-    };
+    let written = fill(&mut file, bytes, permissions);
     if written.is_err() {
         // Where this fails too, the new file is left behind, as the usage says.
         let _ = fs::remove_file(rt, part);

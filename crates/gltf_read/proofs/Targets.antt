@@ -24,7 +24,8 @@ target_given Gives source i target x is reads =
 
 pub nth_given : {X : Type 0} {t : Ghosts X} (Gives : Results)
     (old new : Position (MorphTargetsOf Root valid.ghosts)) (n : ℕ)
-    (target : MorphTarget Root valid.ghosts) (x : Option (Iter X t) × Option (Iter X t) × Option (Iter X t))
+    (target : MorphTarget Root valid.ghosts) (x : Option (Iter X t) × Option (Iter X t) × Option
+    (Iter X t))
     → Nth (λ s i m. IsMorphTarget (primitive_handle s.primitive) i m) old n (Some target) new
     → IsTargetRead Gives (morph_target_handle target).document (morph_target_handle target).json x
     → Nth (GivesTarget Gives) old n (Some x) new

@@ -39,6 +39,8 @@ pub enum Status {
     NoRoom,
     /// The components of an accessor are of another type.
     OtherType,
+    /// An extension has a member that is missing or of another kind, or an index out of range.
+    BadExtension,
     /// What a later library answers.
     Unknown(u32),
 }
@@ -119,6 +121,7 @@ impl Status {
             sys::GLTF_UNREADABLE => Status::Unreadable,
             sys::GLTF_NO_ROOM => Status::NoRoom,
             sys::GLTF_OTHER_TYPE => Status::OtherType,
+            sys::GLTF_BAD_EXTENSION => Status::BadExtension,
             other => Status::Unknown(other),
         }
     }

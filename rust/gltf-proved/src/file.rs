@@ -9,7 +9,7 @@ use crate::error::{Error, Result};
 use crate::sys::{self, gltf_file, gltf_status};
 
 /// The version of the library: major, minor, patch. It works with this crate if its major version
-/// is 2 and it is not older than 2.0.0.
+/// is 2; this crate makes no call that 2.0.0 has not.
 pub fn library_version() -> (u32, u32, u32) {
     // SAFETY: the call takes nothing and changes nothing.
     let number = unsafe { sys::gltf_version() };

@@ -8,7 +8,7 @@
 use std::os::raw::{c_char, c_void};
 
 /// The version of the header: major * 10000 + minor * 100 + patch.
-pub const GLTF_VERSION: u32 = 20000;
+pub const GLTF_VERSION: u32 = 20100;
 
 /// The index of a record that is absent.
 pub const GLTF_NONE: usize = usize::MAX;
@@ -37,6 +37,7 @@ pub const GLTF_NO_SUCH_INDEX: u32 = 12;
 pub const GLTF_UNREADABLE: u32 = 13;
 pub const GLTF_NO_ROOM: u32 = 14;
 pub const GLTF_OTHER_TYPE: u32 = 16;
+pub const GLTF_BAD_EXTENSION: u32 = 17;
 pub const GLTF_EXTERNAL: u32 = 1;
 pub const GLTF_BUFFERS: u32 = 0;
 pub const GLTF_BUFFER_VIEWS: u32 = 1;
@@ -120,6 +121,13 @@ pub const GLTF_CUBIC_SPLINE: u32 = 2;
 pub const GLTF_DIRECTIONAL: u32 = 0;
 pub const GLTF_POINT: u32 = 1;
 pub const GLTF_SPOT: u32 = 2;
+pub const GLTF_MESHOPT_ATTRIBUTES: u32 = 0;
+pub const GLTF_MESHOPT_TRIANGLES: u32 = 1;
+pub const GLTF_MESHOPT_INDICES: u32 = 2;
+pub const GLTF_MESHOPT_NO_FILTER: u32 = 0;
+pub const GLTF_MESHOPT_OCTAHEDRAL: u32 = 1;
+pub const GLTF_MESHOPT_QUATERNION: u32 = 2;
+pub const GLTF_MESHOPT_EXPONENTIAL: u32 = 3;
 
 #[repr(C)]
 #[derive(Clone, Copy, Debug)]
@@ -374,6 +382,102 @@ pub struct gltf_light {
     pub reserved: [usize; 2],
 }
 
+#[repr(C)]
+#[derive(Clone, Copy, Debug)]
+pub struct gltf_clearcoat {
+    pub clearcoat_factor: f64,
+    pub clearcoat_roughness_factor: f64,
+    pub clearcoat: gltf_texture_use,
+    pub clearcoat_roughness: gltf_texture_use,
+    pub clearcoat_normal: gltf_texture_use,
+    pub reserved: [usize; 4],
+}
+
+#[repr(C)]
+#[derive(Clone, Copy, Debug)]
+pub struct gltf_sheen {
+    pub sheen_color_factor: [f64; 3],
+    pub sheen_roughness_factor: f64,
+    pub sheen_color: gltf_texture_use,
+    pub sheen_roughness: gltf_texture_use,
+    pub reserved: [usize; 4],
+}
+
+#[repr(C)]
+#[derive(Clone, Copy, Debug)]
+pub struct gltf_iridescence {
+    pub iridescence_factor: f64,
+    pub iridescence_ior: f64,
+    pub iridescence_thickness_minimum: f64,
+    pub iridescence_thickness_maximum: f64,
+    pub iridescence: gltf_texture_use,
+    pub iridescence_thickness: gltf_texture_use,
+    pub reserved: [usize; 4],
+}
+
+#[repr(C)]
+#[derive(Clone, Copy, Debug)]
+pub struct gltf_anisotropy {
+    pub anisotropy_strength: f64,
+    pub anisotropy_rotation: f64,
+    pub anisotropy: gltf_texture_use,
+    pub reserved: [usize; 4],
+}
+
+#[repr(C)]
+#[derive(Clone, Copy, Debug)]
+pub struct gltf_dispersion {
+    pub dispersion: f64,
+    pub reserved: [usize; 4],
+}
+
+#[repr(C)]
+#[derive(Clone, Copy, Debug)]
+pub struct gltf_diffuse_transmission {
+    pub diffuse_transmission_factor: f64,
+    pub diffuse_transmission_color_factor: [f64; 3],
+    pub diffuse_transmission: gltf_texture_use,
+    pub diffuse_transmission_color: gltf_texture_use,
+    pub reserved: [usize; 4],
+}
+
+#[repr(C)]
+#[derive(Clone, Copy, Debug)]
+pub struct gltf_texture_source {
+    pub image: usize,
+    pub reserved: [usize; 3],
+}
+
+#[repr(C)]
+#[derive(Clone, Copy, Debug)]
+pub struct gltf_instancing {
+    pub translation: usize,
+    pub rotation: usize,
+    pub scale: usize,
+    pub reserved: [usize; 5],
+}
+
+#[repr(C)]
+#[derive(Clone, Copy, Debug)]
+pub struct gltf_visibility {
+    pub visible: u32,
+    pub reserved_word: u32,
+    pub reserved: [usize; 3],
+}
+
+#[repr(C)]
+#[derive(Clone, Copy, Debug)]
+pub struct gltf_meshopt {
+    pub buffer: usize,
+    pub byte_offset: usize,
+    pub byte_length: usize,
+    pub byte_stride: usize,
+    pub count: usize,
+    pub mode: u32,
+    pub filter: u32,
+    pub reserved: [usize; 2],
+}
+
 extern "C" {
     pub fn gltf_version() -> u32;
     pub fn gltf_open(
@@ -553,5 +657,67 @@ extern "C" {
         file: *const gltf_file,
         index: usize,
         out: *mut gltf_light,
+    ) -> gltf_status;
+    pub fn gltf_clearcoat_info(
+        file: *const gltf_file,
+        material: usize,
+        out: *mut gltf_clearcoat,
+    ) -> gltf_status;
+    pub fn gltf_sheen_info(
+        file: *const gltf_file,
+        material: usize,
+        out: *mut gltf_sheen,
+    ) -> gltf_status;
+    pub fn gltf_iridescence_info(
+        file: *const gltf_file,
+        material: usize,
+        out: *mut gltf_iridescence,
+    ) -> gltf_status;
+    pub fn gltf_anisotropy_info(
+        file: *const gltf_file,
+        material: usize,
+        out: *mut gltf_anisotropy,
+    ) -> gltf_status;
+    pub fn gltf_dispersion_info(
+        file: *const gltf_file,
+        material: usize,
+        out: *mut gltf_dispersion,
+    ) -> gltf_status;
+    pub fn gltf_diffuse_transmission_info(
+        file: *const gltf_file,
+        material: usize,
+        out: *mut gltf_diffuse_transmission,
+    ) -> gltf_status;
+    pub fn gltf_basisu_info(
+        file: *const gltf_file,
+        texture: usize,
+        out: *mut gltf_texture_source,
+    ) -> gltf_status;
+    pub fn gltf_webp_info(
+        file: *const gltf_file,
+        texture: usize,
+        out: *mut gltf_texture_source,
+    ) -> gltf_status;
+    pub fn gltf_instancing_info(
+        file: *const gltf_file,
+        node: usize,
+        out: *mut gltf_instancing,
+    ) -> gltf_status;
+    pub fn gltf_visibility_info(
+        file: *const gltf_file,
+        node: usize,
+        out: *mut gltf_visibility,
+    ) -> gltf_status;
+    pub fn gltf_meshopt_info(
+        file: *const gltf_file,
+        view: usize,
+        out: *mut gltf_meshopt,
+    ) -> gltf_status;
+    pub fn gltf_xmp_packet(
+        file: *const gltf_file,
+        kind: u32,
+        index: usize,
+        part: usize,
+        packet: *mut usize,
     ) -> gltf_status;
 }

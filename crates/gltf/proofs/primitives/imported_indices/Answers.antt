@@ -17,7 +17,8 @@ returns-clause-indices c =
     let answer = slice_get (bytes_of_each c.args.buffers.now) in
     let p = primitive_of c.new.result in
     let read = rw c.new.ensures.closure at c.read_indices.ensures in
-    of_found primitive_handle (λ d i. IsMember AreIndices d answer i c.read_indices.result) (λ x. x.indices) r
+    of_found primitive_handle (λ d i. IsMember AreIndices d answer i c.read_indices.result)
+    (λ x. x.indices) r
     (primitive_at r c.args.mesh c.args.primitive) c.in_ok-primitive.primitive
     c.in_ok-primitive.ensures
     (subst (λ (h : Handle PrimitiveRecord). IsMember AreIndices h.document answer

@@ -19,7 +19,8 @@ returns-clause-positions c =
     let answer = slice_get (bytes_of_each c.args.buffers.now) in
     let p = primitive_of c.new.result in
     let read = rw c.new.ensures.closure at c.read_positions.ensures in
-    of_found primitive_handle (λ d i. IsMember AreItems d answer i c.read_positions.result) (λ x. get_by (semantic_cmp attributes.Positions) x.attributes) r
+    of_found primitive_handle (λ d i. IsMember AreItems d answer i c.read_positions.result)
+    (λ x. get_by (semantic_cmp attributes.Positions) x.attributes) r
     (primitive_at r c.args.mesh c.args.primitive) c.in_ok-primitive.primitive
     c.in_ok-primitive.ensures
     (subst (λ (h : Handle PrimitiveRecord). IsMember AreItems h.document answer

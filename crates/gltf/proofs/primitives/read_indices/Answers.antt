@@ -24,7 +24,9 @@ returns-clause-read c =
     c.listed_indices.ensures.ok
 
 pub returns-clause-refused : goal.returns-clause-refused
-returns-clause-refused c = memory_refuses c.args.bytes.now c.listed_indices.result c.listed_indices.ensures.refused
+returns-clause-refused c = memory_refuses c.args.bytes.now c.listed_indices.result
+    c.listed_indices.ensures.refused
 
 pub returns-clause-exact : goal.returns-clause-exact
-returns-clause-exact c = only_memory c.args.bytes.now c.listed_indices.result c.listed_indices.ensures.refused
+returns-clause-exact c = only_memory c.args.bytes.now c.listed_indices.result
+    c.listed_indices.ensures.refused

@@ -22,5 +22,6 @@ returns-in-Err g c =
     let room : length c.deref_mut.result.now ≡ a.json.now.count * item_size a.json.now =
     search rules in
     not_written (λ b o. goal.F-post g c.args.get_buffer_data.now b o) (item_size a.json.now)
-    a.document.now a.json.now c.write_bytes-2.result c.deref_mut.result.now c.write_bytes-2.new.out room
+    a.document.now a.json.now c.write_bytes-2.result c.deref_mut.result.now
+    c.write_bytes-2.new.out room
     c.in-Err.field-0 c.in-Err.is c.write_bytes-2.ensures

@@ -35,7 +35,8 @@ items-preserved-whole g c =
         _,
         (
           more_by (YieldsFirst (λ s. (counted_items s).items)) {s = c.args.items}
-              {t = c.items.items} (c.items.yielded, c.items.yielded_by) c.next.result c.next.new.self
+              {t = c.items.items} (c.items.yielded, c.items.yielded_by) c.next.result
+              c.next.new.self
               c.next.ensures.steps c.in-Some.is,
           left,
         ),

@@ -7,7 +7,7 @@ use Rattle.gltf_edit.specs.Embedded.{embedded}
 use Rattle.gltf_edit.specs.Faults.{NamesStray, IsTooLong}
 use Rattle.gltf_edit.specs.Joined.{joined}
 use Rattle.gltf_bundle.specs.Bundle.{IsJoined}
-use Rattle.gltf_bundle.proofs.Loaded.{is_bundle}
+use Rattle.gltf_bundle.proofs.Sourced.{is_bundle}
 use Rattle.gltf_bundle.proofs.Refused.{join_refused, edit_refused, answer_refused, import_refused}
 use Rattle.gltf_bundle.proofs.bundling.bundle.Goals as goal
 

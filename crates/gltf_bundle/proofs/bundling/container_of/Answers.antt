@@ -10,6 +10,7 @@ returns-in-Ok-clause-written c =
     record {
       json = text;
       reads = λ short. (c.as_bytes.ensures.utf8, ap read whole ∙ c.in_ok-written.ensures.reads_back short);
+      compact = λ none. whole ∙ c.in_ok-written.ensures.text none;
       fits = w.0;
       written = w.1;
     }

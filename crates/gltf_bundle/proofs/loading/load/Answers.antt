@@ -1,7 +1,7 @@
 use Rattle.gltf_buffers.specs.Names.{names_of}
 use Rattle.gltf.specs.Shown.{blob_bytes, bytes_of_each}
 use Rattle.serde_json.specs.View.{view}
-use Rattle.gltf_bundle.proofs.Loaded.{loaded}
+use Rattle.gltf_bundle.proofs.Sourced.{loaded}
 use Rattle.gltf_bundle.proofs.Refused.{buffers_refused}
 use Rattle.gltf_bundle.proofs.loading.load.Goals as goal
 

@@ -21,8 +21,10 @@ returns-clause-count c =
 pub returns-clause-written : goal.returns-clause-written
 returns-clause-written c =
     let xs = listed_numbers (option_copied c.args.member) in
-    let same = count_of_values c.number_values-values.result.now xs c.number_values-values.ensures in
-    let end : c.loop-i.i ≡ c.min-count.result = omega (arith, c.loop-i.auto.i-end, c.loop-i-test.false) in
+    let same = count_of_values c.number_values-values.result.now
+    xs c.number_values-values.ensures in
+    let end : c.loop-i.i ≡ c.min-count.result =
+    omega (arith, c.loop-i.auto.i-end, c.loop-i-test.false) in
     c.loop-i.invariant
     ∙ all_written xs c.args.out.now c.loop-i.i
     (end ∙ c.min-count.ensures ∙ ap (λ n. min n (length c.args.out.now)) same)

@@ -10,7 +10,8 @@ returns-then-size-clause-outcome g c =
     let a = c.args.accessor.inner in
     other_size g.T.Item a.document.now a.json.now _ (search rules) (search rules)
 
-pub returns-in_err-standard-in-None-clause-outcome : goal.returns-in_err-standard-in-None-clause-outcome
+pub returns-in_err-standard-in-None-clause-outcome :
+    goal.returns-in_err-standard-in-None-clause-outcome
 returns-in_err-standard-in-None-clause-outcome g c =
     let t = g.T.Item in
     let r = c.args.accessor.inner.document.now in
@@ -19,7 +20,8 @@ returns-in_err-standard-in-None-clause-outcome g c =
     {out = result_map_both items_left (λ e. e) c.standard.result} (search rules)
     (no_sparse r a.sparse (search rules)) (plain_read t r a c.standard.ensures) (search rules)
 
-pub returns-in_err-sparse_items-in-Some-clause-outcome : goal.returns-in_err-sparse_items-in-Some-clause-outcome
+pub returns-in_err-sparse_items-in-Some-clause-outcome :
+    goal.returns-in_err-sparse_items-in-Some-clause-outcome
 returns-in_err-sparse_items-in-Some-clause-outcome g c =
     let t = g.T.Item in
     let r = c.args.accessor.inner.document.now in
@@ -29,7 +31,8 @@ returns-in_err-sparse_items-in-Some-clause-outcome g c =
     (sparse_is r a.sparse c.in-Some.sparse (search rules)) c.sparse_items.ensures.items
     (search rules)
 
-pub returns-in_ok-standard-in-None-clause-outcome : goal.returns-in_ok-standard-in-None-clause-outcome
+pub returns-in_ok-standard-in-None-clause-outcome :
+    goal.returns-in_ok-standard-in-None-clause-outcome
 returns-in_ok-standard-in-None-clause-outcome g c =
     let t = g.T.Item in
     let r = c.args.accessor.inner.document.now in
@@ -38,7 +41,8 @@ returns-in_ok-standard-in-None-clause-outcome g c =
     {out = result_map_both items_left (λ e. e) c.standard.result} (search rules)
     (no_sparse r a.sparse (search rules)) (plain_read t r a c.standard.ensures) (search rules)
 
-pub returns-in_ok-sparse_items-in-Some-clause-outcome : goal.returns-in_ok-sparse_items-in-Some-clause-outcome
+pub returns-in_ok-sparse_items-in-Some-clause-outcome :
+    goal.returns-in_ok-sparse_items-in-Some-clause-outcome
 returns-in_ok-sparse_items-in-Some-clause-outcome g c =
     let t = g.T.Item in
     let r = c.args.accessor.inner.document.now in

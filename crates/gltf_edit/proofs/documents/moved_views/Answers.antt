@@ -47,7 +47,8 @@ returns-clause-value c =
     let all : take c.loop-i.i vs ≡ vs = grind (arith, common_steps) in
     rw (c.in-Array.is, view-Array c.in-Array.list, ← same)
     (view-Array c.loop-i.all
-    ∙ ap (λ ds. array (items_of ds)) (c.loop-i.invariant.seen ∙ ap (map (λ (v : Value). f (view v))) all)
+    ∙ ap (λ ds. array (items_of ds)) (c.loop-i.invariant.seen
+    ∙ ap (map (λ (v : Value). f (view v))) all)
     ∙ ap array (mapped_view f vs))
 
 pub returns-clause-placed : goal.returns-clause-placed

@@ -7,7 +7,8 @@ use Rattle.serde_json.specs.declared.value.Value.{Object}
 use Rattle.gltf_edit.specs.Bundled.{whole}
 use Rattle.gltf_edit.proofs.Views.{some_of, none_of}
 use Rattle.gltf_edit.proofs.documents.one_buffer.Goals as goal
-use Rattle.gltf_edit.proofs.documents.one_buffer.Goals.{then-not-is_empty+in_ok-put+in_ok-push, else-not-is_empty}
+use Rattle.gltf_edit.proofs.documents.one_buffer.Goals.{then-not-is_empty+in_ok-put+in_ok-push}
+use Rattle.gltf_edit.proofs.documents.one_buffer.Goals.{else-not-is_empty}
 
 pub returns : goal.returns
 returns c =

@@ -17,7 +17,8 @@ loop-i-preserved c =
     let some = few (first (drop far.i ps)) in
     let taken : c.seats.result ≡ seats (first (drop far.i ps)) =
     c.seats.ensures ∙ ap seats c.picture_at-picture.ensures in
-    let seen : view c.in_ok-shown.field-0 ≡ shown far.next (first (drop far.i ps)) (view c.image-item.result) =
+    let seen : view c.in_ok-shown.field-0 ≡ shown far.next (first (drop far.i ps))
+    (view c.image-item.result) =
     c.in_ok-shown.ensures
     ∙ ap (λ (o : Option Picture). shown far.next o (view c.image-item.result))
     c.picture_at-picture.ensures in
@@ -38,9 +39,11 @@ returns c =
     let far = c.loop-i in
     let same : vs ≡ c.in-Array.list.items = c.deref-image-items.ensures.value in
     let none : drop far.i vs ≡ [] = grind (arith, common_steps) in
-    let whole : with_items (items_view far.all.items) (pictured far.next (drop far.i ps) (items_view []))
+    let whole : with_items (items_view far.all.items)
+    (pictured far.next (drop far.i ps) (items_view []))
     ≡ pictured c.args.first ps (items_view vs) =
-    subst (λ ws. with_items (items_view far.all.items) (pictured far.next (drop far.i ps) (items_view ws))
+    subst (λ ws. with_items (items_view far.all.items)
+    (pictured far.next (drop far.i ps) (items_view ws))
     ≡ pictured c.args.first ps (items_view vs)) none far.invariant.seen in
     rw (c.in-Array.is, view-Array c.in-Array.list, ← same)
     (view-Array far.all ∙ ap array (sym (with_none (items_view far.all.items)) ∙ whole))

@@ -13,7 +13,8 @@ byte b false u = rw u refl
 text : (bs : List ℕ) → list_any is_less_than (data_text bs) ≡ false
 text [] = refl
 text (b ∷ bs) =
-    rw (list_any-append is_less_than (data_byte b) (data_text bs), byte b (b == 60) refl, text bs) refl
+    rw (list_any-append is_less_than (data_byte b) (data_text bs), byte b (b == 60) refl, text bs)
+    refl
 
 pub returns : goal.returns
 returns c = text

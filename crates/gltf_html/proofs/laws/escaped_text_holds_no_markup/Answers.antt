@@ -6,9 +6,11 @@ use Rattle.gltf_html.specs.Html.{html_byte, html_text, is_markup}
 use Rattle.gltf_html.proofs.laws.escaped_text_holds_no_markup.Goals as goal
 
 -- by which of the five bytes it is
-byte : (b : ℕ) (u v w x y : Bool) → b == 38 ≡ u → b == 60 ≡ v → b == 62 ≡ w → b == 34 ≡ x → b == 39 ≡ y
+byte : (b : ℕ) (u v w x y : Bool) → b == 38 ≡ u → b == 60 ≡ v → b == 62 ≡ w
+    → b == 34 ≡ x → b == 39 ≡ y
     → list_any is_markup (if u then codes "&amp;" else if v then codes "&lt;"
-    else if w then codes "&gt;" else if x then codes "&quot;" else if y then codes "&#39;" else b ∷ []) ≡ false
+    else if w then codes "&gt;" else if x then codes "&quot;"
+    else if y then codes "&#39;" else b ∷ []) ≡ false
 byte b true v w x y _ _ _ _ _ = refl
 byte b false true w x y _ _ _ _ _ = refl
 byte b false false true x y _ _ _ _ _ = refl

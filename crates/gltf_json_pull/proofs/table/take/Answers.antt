@@ -21,6 +21,7 @@ returns g c =
       passed.0,
       ap (data_at c.args.depth) (sym left.0) ∙ passed.1,
       λ ms is. subst
-          (λ f. (g.R.PullRows.found_kind rows names).is (object (put name passed.0 ms)) f) (sym left.1)
+          (λ f. (g.R.PullRows.found_kind rows names).is (object (put name passed.0 ms)) f)
+          (sym left.1)
           (g.met.R.PullRows.apart rows names name passed.0 ms c.args.found.now left.2 some is),
     )

@@ -1,6 +1,6 @@
--- `build` reads at the next tokens what `serde_json` reads there. Both loops keep that the values, or
--- the members, so far are a run of the grammar from the token that opened; a closing token then makes
--- the run an array or an object, and the tokens left get fewer at each step.
+-- `build` reads at the next tokens what `serde_json` reads there. Both loops keep that the values,
+-- or the members, so far are a run of the grammar from the token that opened; a closing token then
+-- makes the run an array or an object, and the tokens left get fewer at each step.
 use Rattle.std.proofs.Common.{◌≡◌, ◌-◌, ◌<◌, [], ◌∷◌, ◌++◌, List, ℕ, length, map, Some, None, false}
 use Rattle.std.proofs.Common.{⊎_elim, option_map, string_bytes, string_cmp}
 use Rattle.std.proofs.Common.{refl, sym, ap, subst, ◌∙◌, arith, rules}

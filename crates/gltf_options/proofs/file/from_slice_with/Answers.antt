@@ -14,12 +14,14 @@ returns-in_err-raw-clause-exact c =
 pub returns-clause-valid : goal.returns-clause-valid
 returns-clause-valid c =
     ok_valid (listed c.args.options.now) c.args.slice.now c.in_ok-raw.raw.document
-    c.in_ok-raw.raw.blob c.without_names.result c.in_ok-raw.ensures.document c.without_names.ensures.opened
+    c.in_ok-raw.raw.blob c.without_names.result c.in_ok-raw.ensures.document
+    c.without_names.ensures.opened
 
 pub returns-clause-only : goal.returns-clause-only
 returns-clause-only c =
     ok_only (listed c.args.options.now) c.args.slice.now c.in_ok-raw.raw.document
-    c.in_ok-raw.raw.blob c.without_names.result c.what_shows_the_same_is_alike_in_each_member.ensures
+    c.in_ok-raw.raw.blob c.without_names.result
+    c.what_shows_the_same_is_alike_in_each_member.ensures
     c.in_ok-raw.ensures.only c.without_names.ensures.opened
 
 pub returns-clause-refused : goal.returns-clause-refused

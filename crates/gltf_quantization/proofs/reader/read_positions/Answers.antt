@@ -5,5 +5,6 @@ use Rattle.gltf_quantization.proofs.reader.read_positions.Goals as goal
 
 pub returns : goal.returns
 returns g c =
-    of_member (AreQuantized added.Position) (λ b o. goal.F-post g c.args.get_buffer_data.now b o) _ _
+    of_member (AreQuantized added.Position)
+    (λ b o. goal.F-post g c.args.get_buffer_data.now b o) _ _
     c.in_ok-accessor.accessor c.read_as.result c.in_ok-accessor.ensures c.read_as.ensures

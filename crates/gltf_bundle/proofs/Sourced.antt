@@ -1,0 +1,94 @@
+-- What was loaded, and what is made of it.
+use Rattle.std.proofs.Common.{◌≡◌, ℕ, ◌≤◌, ◌<◌, ◌^◌, List, length, Option, Bool, sym, ap, subst, ◌∙◌, arith}
+use Rattle.std.proofs.Common.{◌++◌, false}
+use Rattle.serde_json.specs.Data.{Data, depth}
+use Rattle.serde_json.specs.Read.{max_depth}
+use Rattle.serde_json.specs.Written.{has_float, compact_text}
+use Rattle.gltf_json.specs.Documents.{root}
+use Rattle.gltf_json.specs.Reading.{Reads}
+use Rattle.gltf_json.specs.declared.root.Root.{Root}
+use Rattle.gltf_glb.specs.Laws.{OneReading}
+use Rattle.gltf_glb.specs.Written.{container_bytes, total_of}
+use Rattle.gltf_names.specs.Named.{File}
+use Rattle.gltf_buffers.specs.Buffers.{sources_of, AreBytes}
+use Rattle.gltf_buffers.specs.Names.{Names, Gives}
+use Rattle.gltf.specs.Import.{IsValidDocument}
+use Rattle.gltf.specs.Shown.{blob_bytes}
+use Rattle.gltf_edit.specs.Bundled.{bundled, ArePlaced}
+use Rattle.gltf_edit.specs.DepthLaws.{bundled_depth}
+use Rattle.gltf_edit.specs.Embedded.{embedded}
+use Rattle.gltf_edit.specs.EmbeddedLaws.{embedded_depth}
+use Rattle.gltf_edit.specs.Joined.{joined, spans_from}
+use Rattle.gltf_edit.specs.declared.picture.Picture.{Picture}
+use Rattle.gltf_moved.specs.Laws.{moved_value}
+use Rattle.gltf_bundle.specs.declared.bundling.Joined.{Joined}
+use Rattle.gltf_bundle.specs.Bundle.{IsValueOf, IsSource, IsGathered, IsJoined, IsContainerOf}
+use Rattle.gltf_bundle.specs.Bundle.{IsBundle}
+use Rattle.gltf_bundle.proofs.Parts.{one_parts, one_value}
+
+pub loaded : OneReading → (names : Names) (path bytes : List ℕ) → Gives names (File path) bytes
+    → (r : Root) (blob : Option (List ℕ)) → IsValidDocument bytes r blob
+    → (value : Data) → IsValueOf bytes value → (buffers : List (List ℕ))
+    → AreBytes names (sources_of r) blob (length (sources_of r)) buffers
+    → IsSource names path value r buffers
+loaded law names path bytes gives r blob valid value is buffers data_ =
+    let document = valid.document in
+    let same =
+    one_parts law bytes document.text is.text blob is.blob document.parts is.parts in
+    record {
+      bytes = bytes;
+      gives = gives;
+      text = document.text;
+      blob = blob;
+      parts = document.parts;
+      reads = subst (λ (t : List ℕ). Reads t value) same.0 is.reads;
+      nests = is.nests;
+      records =
+          subst (λ (d : Data). root.is d r)
+          (one_value document.text is.text document.value value (sym same.0) document.reads is.reads)
+          document.records;
+      rules = valid.rules;
+      data_ = data_;
+    }
+
+-- the container's value nests no deeper than the file's may
+pub moved_depth : (all : List (List ℕ)) (ps : List (Option Picture)) (value : Data)
+    → depth value ≤ max_depth → depth (moved_value all ps value) ≤ max_depth
+moved_depth all ps value nests =
+    bundled_depth (spans_from 0 all) (length (joined all)) (embedded ps value) max_depth (omega arith)
+    (embedded_depth ps value max_depth (omega arith) nests)
+
+pub is_bundle : (names : Names) (path : List ℕ) (keep : Bool) (value : Data) (r : Root)
+    (buffers images : List (List ℕ)) (ps : List (Option Picture))
+    → IsGathered names path keep value r buffers images ps
+    → (all : Joined) → IsJoined (buffers ++ images) all
+    → ArePlaced all.spans.items (embedded ps value)
+    → (after : Data) → after ≡ bundled all.spans.items all.total (embedded ps value)
+    → (answer : List ℕ) → IsContainerOf after (blob_bytes all.blob) answer
+    → IsBundle names path keep answer
+is_bundle names path keep value r buffers images ps gathered all is placed after edited answer
+    container =
+    let same : after ≡ moved_value (buffers ++ images) ps value =
+    edited ∙ (λ i. bundled (is.spans i) (is.total i) (embedded ps value)) in
+    let short : depth after ≤ max_depth =
+    subst (λ (d : Data). depth d ≤ max_depth) (sym same)
+    (moved_depth (buffers ++ images) ps value gathered.source.nests) in
+    record {
+      value = value;
+      root_ = r;
+      buffers = buffers;
+      images = images;
+      pictures = ps;
+      gathered = gathered;
+      placed = subst (λ spans. ArePlaced spans (embedded ps value)) is.spans placed;
+      short = is.fits;
+      json = container.json;
+      reads = subst (λ (d : Data). Reads container.json d) same (container.reads short);
+      compact =
+          subst (λ (d : Data). has_float d ≡ false → container.json ≡ compact_text d) same
+          container.compact;
+      fits = subst (λ (b : Option (List ℕ)). total_of container.json b < 2 ^ 32) is.blob container.fits;
+      written =
+          container.written
+          ∙ ap (λ (b : Option (List ℕ)). container_bytes container.json b) is.blob;
+    }

@@ -1,0 +1,90 @@
+//! The extensions of nodes that the loader keeps as JSON.
+ghost use Rattle.std.specs.Prelude.{◌≡◌};
+ghost use Rattle.std.specs.Option.{option_copied};
+ghost use Rattle.gltf_c_extensions.specs.Nodes.{IsInstancing, IsVisibility};
+ghost use Rattle.gltf_c_extensions.specs.Nodes.{shown_instancing, shown_visibility};
+ghost use Rattle.gltf_c_extensions.specs.Reading.{node_value};
+
+use crate::reading::{Missing, read};
+use gltf_c_look::json::extension;
+use gltf_c_scene::numbers::{index_or_none, one_or_zero};
+use gltf_extension_records::node::{MeshGpuInstancing, NodeVisibility};
+use gltf_json::Root;
+use serde_json::Value;
+use std::alloc::Global;
+
+/// The extension `EXT_mesh_gpu_instancing`. C declares the same struct.
+#[repr(C)]
+#[derive(Clone, Copy, Drop)]
+pub struct GltfInstancing {
+    /// The accessor of the translations of the instances, or `NONE`.
+    pub translation: usize,
+    /// The accessor of their rotations, or `NONE`.
+    pub rotation: usize,
+    /// The accessor of their scales, or `NONE`.
+    pub scale: usize,
+    /// 0.
+    pub reserved: [usize; 5],
+}
+
+/// The extension `KHR_node_visibility`. C declares the same struct.
+#[repr(C)]
+#[derive(Clone, Copy, Drop)]
+pub struct GltfVisibility {
+    /// 1 where the node and those below it are shown, else 0.
+    pub visible: u32,
+    /// 0.
+    pub reserved_word: u32,
+    /// 0.
+    pub reserved: [usize; 3],
+}
+
+/// What the node at an index has under a name. 4 is the number of the kind.
+fn node_value<'a>(root: &'a Root, index: usize, name: &str) -> Option<&'a Value>
+    ensures { option_copied result ≡ node_value name.now index root.now }
+{
+    extension(root, 4, index, 0, name)
+}
+
+/// The instances of the mesh of the node at an index (`EXT_mesh_gpu_instancing`).
+pub fn instancing(alloc: Global, root: &Root, index: usize) -> Result<GltfInstancing, Missing>
+    ensures { IsInstancing index root.now result }
+{
+    let value = node_value(root, index, "EXT_mesh_gpu_instancing");
+    match read(alloc, root, value) {
+        Ok(it) => Ok(shown_instancing(&it)),
+        Err(missing) => Err(missing),
+    }
+}
+
+fn shown_instancing(it: &MeshGpuInstancing) -> GltfInstancing
+    ensures { result ≡ shown_instancing it.now }
+{
+    GltfInstancing {
+        translation: index_or_none(it.attributes.translation),
+        rotation: index_or_none(it.attributes.rotation),
+        scale: index_or_none(it.attributes.scale),
+        reserved: [0; 5],
+    }
+}
+
+/// Whether the node at an index is shown (`KHR_node_visibility`).
+pub fn visibility(alloc: Global, root: &Root, index: usize) -> Result<GltfVisibility, Missing>
+    ensures { IsVisibility index root.now result }
+{
+    let value = node_value(root, index, "KHR_node_visibility");
+    match read(alloc, root, value) {
+        Ok(it) => Ok(shown_visibility(&it)),
+        Err(missing) => Err(missing),
+    }
+}
+
+fn shown_visibility(it: &NodeVisibility) -> GltfVisibility
+    ensures { result ≡ shown_visibility it.now }
+{
+    GltfVisibility {
+        visible: one_or_zero(it.visible),
+        reserved_word: 0,
+        reserved: [0; 3],
+    }
+}

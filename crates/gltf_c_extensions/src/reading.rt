@@ -1,0 +1,64 @@
+//! How an extension is read, and why there is none.
+ghost use Rattle.std.specs.Prelude.{◌≡◌};
+ghost use Rattle.std.specs.Option.{option_copied};
+ghost use Rattle.serde_json.specs.View.{view};
+ghost use Rattle.gltf_c_extensions.specs.Reading.{IsValid, IsRead};
+
+use gltf_json::Root;
+use gltf_json_record::error::Error;
+use gltf_json_record::read as record;
+use gltf_json_record::read::FromValue;
+use gltf_validation::counts::Counts;
+use gltf_validation::validate::{Validate, faults_of};
+use serde_json::Value;
+use std::alloc::Global;
+
+/// Why there is no answer.
+#[derive(Clone, Copy, Debug, PartialEq, Eq)]
+pub enum Missing {
+    /// There is no such record, or it has no such extension.
+    Absent,
+    /// The extension does not fit its table, or breaks its rules.
+    Bad,
+    /// There was not enough memory.
+    Memory,
+}
+
+/// The reading of a value whose rules hold in a document.
+fn read_valid<R: FromValue + Validate>(
+    alloc: Global,
+    root: &Root,
+    value: &Value,
+) -> Result<R, Missing>
+    ensures { IsValid R.kind R.rules root.now (view value.now) result }
+{
+    let read: R = match record::read(alloc, value) {
+        Ok(read) => read,
+        Err(Error::Memory) => return Err(Missing::Memory),
+        Err(_) => return Err(Missing::Bad),
+    };
+    match faults_of(alloc, &read, &Counts::of(root)) {
+        Ok(faults) => {
+            if faults.is_empty() {
+                Ok(read)
+            } else {
+                Err(Missing::Bad)
+            }
+        }
+        Err(_) => Err(Missing::Memory),
+    }
+}
+
+/// The same of an extension that may be absent.
+pub(crate) fn read<R: FromValue + Validate>(
+    alloc: Global,
+    root: &Root,
+    value: Option<&Value>,
+) -> Result<R, Missing>
+    ensures { IsRead R.kind R.rules root.now (option_copied value.entry) result }
+{
+    match value {
+        Some(value) => read_valid(alloc, root, value),
+        None => Err(Missing::Absent),
+    }
+}

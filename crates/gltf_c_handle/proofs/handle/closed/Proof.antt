@@ -1,0 +1,34 @@
+-- `closed` makes a handle at null.
+use Rattle.std.proofs.Common.{[], ◌∷◌, refl, lit<}
+use types.Kit.{raw, ◌$◌, ◌∵◌, !, qed, drop, suffices, feq_i, done}
+use types.Run.{lit, no_more, and_then, returns, enter}
+use types.ByLocal.{alloc_all, pass_all, free_all, look_at, sets}
+use types.Part.{agg}
+use denote.RawPtr.{Ptr, null_ptr}
+use denote.Steps.{nothing}
+use denote.Triple.Entry.{on_entry}
+use denote.Triple.Walked.{walk_of, says, ends_at}
+use Rattle.std.proofs.raw_atomic.Walks.{proved}
+use Rattle.std.specs.declared.option.Option.TheVariants.{None}
+use Rattle.gltf_c_handle.proofs.Pointed.{pointer}
+use Rattle.gltf_c_handle.proofs.Held.{handle_in}
+use Rattle.gltf_c_handle.specs.declared.handle.GltfFile.{GltfFile}
+use Rattle.gltf_c_handle.specs.contracts.handle.closed as f
+use Rattle.gltf_c_handle.proofs.handle.closed.Statement.{statement}
+use Rattle.gltf_c_handle.proofs.handle.closed.Code as code
+
+pub closed_spec : {M : Type 1} → statement M
+closed_spec 𝓤 𝓛 𝓜 𝓡 wired =
+    let c = f.clauses 𝓛 𝓜.mem 𝓡.returns in let W = walk_of 𝓛 f.ended tt c in
+    proved 𝓛 f.ended tt c 𝓜 𝓡 tt f.Key.name code.function (code.unfolded 𝓤 𝓛.H 𝓜 𝓡 wired)
+    (λ κs. tt) (λ κs. tt) (λ κs qs bounds a n are.
+    let z : W.Ghost = ((κs, qs, bounds, a, tt), n) in
+    let made : GltfFile = record { at = null_ptr; value = None } in
+    qed 𝓛 (raw (on_entry 𝓛 f.signature κs qs a tt) ∷ raw ((c κs a).requires n) ∷ []) ∵ drop ! $
+    drop ! $
+    enter ! _ _ _ _ _ $ alloc_all ! (λ l. pass_all ! refl tt $
+    sets ! (agg ! (and_then ! (lit ! tt) (no_more !))) refl (tt, (record { fits = lit< tt }, tt)) $
+    returns ! (look_at ! 0 refl) $ free_all ! refl $
+    suffices ! _ (ends_at 𝓛 f.ended tt c z (pointer null_ptr) made tt tt) $ says ! refl $
+    feq_i ! Ptr null_ptr null_ptr refl $ handle_in ! null_ptr None $ nothing ! $ nothing ! $ done
+    !))

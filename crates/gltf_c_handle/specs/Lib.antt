@@ -1,0 +1,6 @@
+pub mod Heap
+pub mod Owned
+pub mod Given
+pub mod Calls
+pub mod Opened
+pub mod Waiting

@@ -1,0 +1,110 @@
+//! Opening and closing files, and bytes for buffers that wait for them.
+ghost use Rattle.std.specs.Prelude.{◌≡◌, None, IfOk, IfErr, map};
+ghost use Rattle.gltf_c_handle.specs.Opened.{IsOpened, HoldsAs, RefusesAs, HoldsOpen, RefusesOpen};
+ghost use Rattle.gltf_c_handle.specs.Waiting.{IsTaken, IsGivenBytes, given_number};
+
+use crate::handle;
+use crate::handle::GltfFile;
+use gltf::Result;
+use gltf_c_fault::fault::{GltfFault, fault_of, no_fault};
+use gltf_c_fault::status::Status;
+use gltf_c_open::file::File;
+use gltf_c_open::given::GiveError;
+use gltf_c_open::{given, names, open as opening};
+use std::alloc::Global;
+
+/// Opens a file from its bytes: a GLB container where they begin with `glTF`, else JSON text (glTF
+/// 2.0, sections 2.8, 3.6.1 and 4.4). A copy is made of what is needed. What `file` held is freed.
+///
+/// `names` has the names of extensions that the caller handles, each with a zero byte after it.
+/// With an odd number in `flags` a buffer whose URI leads to another file waits for its bytes.
+///
+/// Returns 0 where the bytes are accepted, and then `file` holds their document and buffers, and
+/// `fault` says that there is none. Else `file` is closed, and `fault` has the first fault; the
+/// number is that of its status.
+pub fn open(
+    alloc: Global,
+    bytes: &[u8],
+    names: &[u8],
+    flags: u32,
+    file: &mut GltfFile,
+    fault: &mut GltfFault,
+) -> u32
+    ensures { IsOpened flags names.now bytes.now result file.new.value fault.new }
+{
+    match opened(alloc, bytes, names, flags) {
+        Ok(held) => {
+            handle::put(alloc, file, held);
+            *fault = no_fault();
+            Status::Success.code()
+        }
+        Err(error) => {
+            close(alloc, file);
+            *fault = fault_of(alloc, &error);
+            Status::of(&error).code()
+        }
+    }
+}
+
+/// The file that these bytes are.
+fn opened(alloc: Global, bytes: &[u8], names: &[u8], flags: u32) -> Result<Box<File>>
+    ensures held { IfOk result (λ held. HoldsAs flags names.now bytes.now held.value) }
+    ensures refused { IfErr result (RefusesAs flags names.now bytes.now) }
+{
+    let also = names::names_of(alloc, names)?;
+    opened_with(alloc, bytes, also.as_slice(), flags)
+}
+
+/// The same with these names of extensions.
+fn opened_with(alloc: Global, bytes: &[u8], also: &[&str], flags: u32) -> Result<Box<File>>
+    ensures held { IfOk result (λ held.
+        HoldsOpen flags (map (λ k. k.now) also.now) bytes.now held.value) }
+    ensures refused { IfErr result (RefusesOpen flags (map (λ k. k.now) also.now) bytes.now) }
+{
+    if flags % 2 == 1 {
+        opening::open_waiting(alloc, bytes, also)
+    } else {
+        opening::open(alloc, bytes, also)
+    }
+}
+
+/// Gives the bytes of the buffer at an index, which waits for them. They are copied, with zeros
+/// after them up to a multiple of four. `NoSuchIndex` where it does not wait, `ShortBuffer` where
+/// there are fewer bytes than it declares, and `NoMemory` where there is none for the copy. It
+/// waits for them still where the call fails.
+pub fn give(alloc: Global, file: &mut GltfFile, index: usize, bytes: &[u8]) -> u32
+    ensures { IsGivenBytes index bytes.now result file.old.value file.new.value }
+{
+    let Some(mut held) = handle::take(alloc, file) else {
+        return Status::Closed.code();
+    };
+    let number = give_to(alloc, &mut held, index, bytes);
+    handle::put(alloc, file, held);
+    number
+}
+
+/// The same of an open file.
+fn give_to(alloc: Global, file: &mut File, index: usize, bytes: &[u8]) -> u32
+    ensures { IsTaken index bytes.now result file.old file.new }
+{
+    given_number(given::give(alloc, file, index, bytes))
+}
+
+/// The number of what came of bytes for a buffer.
+fn given_number(given: Result<(), GiveError>) -> u32
+    ensures { result ≡ given_number given }
+{
+    match given {
+        Ok(()) => Status::Success.code(),
+        Err(GiveError::NotAwaited) => Status::NoSuchIndex.code(),
+        Err(GiveError::TooShort) => Status::ShortBuffer.code(),
+        Err(GiveError::Memory) => Status::NoMemory.code(),
+    }
+}
+
+/// Gives back all that a file took. A closed one stays closed.
+pub fn close(alloc: Global, file: &mut GltfFile)
+    ensures { file.new.value ≡ None }
+{
+    handle::take(alloc, file);
+}

@@ -1,0 +1,39 @@
+-- What is read of files that are converted there and back (glTF 2.0, sections 3.6.1 and 3.6.2).
+use Rattle.std.specs.Prelude.{◌≡◌, ◌↔◌, ℕ, List, Option, Some, Bool, slice_get, string_bytes}
+use Rattle.gltf_json.specs.declared.root.Root.{Root}
+use Rattle.gltf_items.specs.declared.item.Item.{Ghosts}
+use Rattle.gltf_data.specs.Documents.{ReadsAt}
+use Rattle.gltf_names.specs.Named.{File}
+use Rattle.gltf_buffers.specs.Names.{Names, Held}
+use Rattle.gltf.specs.Import.{AcceptsWith}
+use Rattle.gltf_bundle.specs.Bundle.{IsBundle}
+use Rattle.gltf_split.specs.Laws.{Holds, HoldsBuffers}
+use Rattle.gltf_split.specs.Splits.{IsSplit, bytes_of_parts}
+use Rattle.gltf_split.specs.declared.splitting.Pieces.{Pieces}
+
+-- where a source has the text of a set and the files of its buffers, the container of this text has
+-- at each accessor the items of the file that the set is of, whatever it is imported as
+abbrev pub KeepsItemsThere : {X : Type 0} → Ghosts X → Type 0
+KeepsItemsThere {X} t =
+    (names : Names) (path stem : List ℕ) (keep : Bool) (set : Pieces)
+    (is : IsSplit names path stem keep set) (there : Holds) → HoldsBuffers there set
+    → (other : List ℕ) → there (File other) ≡ Some (string_bytes set.json)
+    → (kept : Bool) (answer : List ℕ) → IsBundle (Held there) other kept answer
+    → (over : Names) (s : Root) (others : List (List ℕ)) → AcceptsWith over answer s others
+    → (index : ℕ) (result : Option (List X))
+    → ReadsAt t is.root_ (slice_get (bytes_of_parts set.buffers.items)) index result
+    ↔ ReadsAt t s (slice_get others) index result
+
+-- where a source has a container, the set of it has at each accessor the items of the file that the
+-- container is of, whatever its text is imported as over a source that has the files of its buffers
+abbrev pub KeepsItemsBack : {X : Type 0} → Ghosts X → Type 0
+KeepsItemsBack {X} t =
+    (names : Names) (path : List ℕ) (keep : Bool) (answer : List ℕ)
+    (is : IsBundle names path keep answer) (from : Holds) (other : List ℕ)
+    → from (File other) ≡ Some answer
+    → (stem : List ℕ) (kept : Bool) (set : Pieces) → IsSplit (Held from) other stem kept set
+    → (there : Holds) → HoldsBuffers there set → (s : Root) (others : List (List ℕ))
+    → AcceptsWith (Held there) (string_bytes set.json) s others
+    → (index : ℕ) (result : Option (List X))
+    → ReadsAt t is.root_ (slice_get is.buffers) index result
+    ↔ ReadsAt t s (slice_get others) index result

@@ -1,0 +1,23 @@
+//! Laws of two conversions, one after the other. Each is a statement over definitions, proved as
+//! the contract of a function that does nothing.
+ghost use Rattle.gltf_converted.specs.Laws.{KeepsItemsThere, KeepsItemsBack};
+
+use gltf_items::Item;
+
+/// Where a file is split, and the set is bundled over a source that has its files, each accessor of
+/// the container has the items that it has in the file.
+pub fn items_are_kept_by_bundles<T: Item>()
+    ensures { KeepsItemsThere ⟦<T as Item>⟧ }
+{
+    gltf_split::laws::items_are_kept::<T>();
+    gltf_bundle::laws::items_are_kept::<T>();
+}
+
+/// Where a file is bundled, and the container is split, each accessor of the set, over a source
+/// that has its files, has the items that it has in the file.
+pub fn items_are_kept_by_sets<T: Item>()
+    ensures { KeepsItemsBack ⟦<T as Item>⟧ }
+{
+    gltf_bundle::laws::items_are_kept::<T>();
+    gltf_split::laws::items_are_kept::<T>();
+}

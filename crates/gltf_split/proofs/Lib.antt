@@ -1,0 +1,7 @@
+mod Texts
+mod Made
+mod Own
+mod Whole
+mod Refused
+mod Imported
+mod Apart

@@ -1,0 +1,95 @@
+-- The files of buffers and images, one after the other.
+use Rattle.std.proofs.Common.{◌≡◌, ℕ, zero, suc, ◌+◌, ◌<◌, List, [], ◌∷◌, ◌++◌, length, take}
+use Rattle.std.proofs.Common.{refl, sym, ap, subst, ◌∙◌, arith, add-one, get_or, Option}
+use Rattle.std.proofs.Common.{string_bytes}
+use Rattle.std.proofs.Math.Seq.{take-suc}
+use Rattle.std.proofs.lemmas.List.{map-append}
+use Rattle.serde_json.specs.Data.{Data}
+use Rattle.serde_json.specs.View.{view, items_view}
+use Rattle.serde_json.specs.declared.value.Value.{Value}
+use Rattle.gltf_buffers.specs.Names.{Names}
+use Rattle.gltf_buffers.specs.Shown.{bytes_of_each}
+use Rattle.gltf_buffers.specs.declared.data.Data.{Data as Buffer}
+use Rattle.gltf_detach.specs.Naming.{buffer_name}
+use Rattle.gltf_detach.specs.declared.part.Part.{Part}
+use Rattle.gltf_split.specs.Images.{AreParts, MayBePart}
+use Rattle.gltf_split.specs.Splits.{AreNamed, bytes_of_parts}
+
+-- ---- buffers
+
+named_at : (stem : List ℕ) (count i : ℕ) (ps : List Part) (p : Part)
+    → AreNamed stem count i ps → (n : ℕ) → n ≡ i + length ps
+    → string_bytes p.name ≡ buffer_name stem count n → AreNamed stem count i (ps ++ p ∷ [])
+named_at stem count i [] p named n is name =
+    let same : n ≡ i = is ∙ omega arith in
+    (name ∙ ap (buffer_name stem count) same, tt)
+named_at stem count i (q ∷ ps) p named n is name =
+    let one : i + suc (length ps) ≡ i + 1 + length ps = omega arith in
+    (named.0, named_at stem count (i + 1) ps p named.1 n (is ∙ one) name)
+
+pub named_more : (stem : List ℕ) (count : ℕ) (ps : List Part) (p : Part)
+    → AreNamed stem count 0 ps → string_bytes p.name ≡ buffer_name stem count (length ps)
+    → AreNamed stem count 0 (ps ++ p ∷ [])
+named_more stem count ps p named name =
+    named_at stem count 0 ps p named (length ps) (omega arith) name
+
+pub bytes_more : (ps : List Part) (p : Part) (bs : List Buffer) (b : Buffer)
+    → bytes_of_parts ps ≡ bytes_of_each bs → p.bytes.items ≡ b.0.items
+    → bytes_of_parts (ps ++ p ∷ []) ≡ bytes_of_each (bs ++ b ∷ [])
+bytes_more ps p bs b far same =
+    map-append (λ (p : Part). p.bytes.items) ps (p ∷ [])
+    ∙ ap (λ (xs : List (List ℕ)). xs ++ p.bytes.items ∷ []) far
+    ∙ ap (λ (x : List ℕ). bytes_of_each bs ++ x ∷ []) same
+    ∙ sym (map-append (λ (b : Buffer). b.0.items) bs (b ∷ []))
+
+length_of_parts : (ps : List Part) → length (bytes_of_parts ps) ≡ length ps
+length_of_parts [] = refl
+length_of_parts (p ∷ ps) = ap suc (length_of_parts ps)
+
+length_of_each : (bs : List Buffer) → length (bytes_of_each bs) ≡ length bs
+length_of_each [] = refl
+length_of_each (b ∷ bs) = ap suc (length_of_each bs)
+
+-- as many files as buffers
+pub as_many : (ps : List Part) (bs : List Buffer) → bytes_of_parts ps ≡ bytes_of_each bs
+    → length bs ≡ length ps
+as_many ps bs same =
+    sym (length_of_each bs) ∙ sym (ap (λ (xs : List (List ℕ)). length xs) same)
+    ∙ length_of_parts ps
+
+-- ---- images
+
+length_of_take : (n : ℕ) (vs : List Value) → n < length vs → length (take n vs) ≡ n
+length_of_take zero vs h = refl
+length_of_take (suc n) [] h = absurd (omega arith)
+length_of_take (suc n) (v ∷ vs) h = ap suc (length_of_take n vs (omega arith))
+
+module _ (names : Names) (stem : List ℕ) (buffers : List (List ℕ)) (document : Data) where
+  part_at : (i : ℕ) (vs : List Value) (ps : List (Option Part)) (v : Value) (p : Option Part)
+      → AreParts names stem buffers document i (items_view vs) ps → (n : ℕ) → n ≡ i + length vs
+      → MayBePart names stem buffers document n (view v) p
+      → AreParts names stem buffers document i (items_view (vs ++ v ∷ [])) (ps ++ p ∷ [])
+  part_at i [] [] v p far n is here =
+      let same : n ≡ i = is ∙ omega arith in
+      (subst (λ (k : ℕ). MayBePart names stem buffers document k (view v) p) same here, tt)
+  part_at i [] (q ∷ ps) v p far n is here = absurd far
+  part_at i (w ∷ vs) [] v p far n is here = absurd far
+  part_at i (w ∷ vs) (q ∷ ps) v p far n is here =
+      let one : i + suc (length vs) ≡ i + 1 + length vs = omega arith in
+      (far.0, part_at (i + 1) vs ps v p far.1 n (is ∙ one) here)
+
+  -- one more
+  pub one_more : (vs : List Value) (n : ℕ) (ps : List (Option Part)) (v : Value) (p : Option Part)
+      → n < length vs → v ≡ get_or vs n v
+      → AreParts names stem buffers document 0 (items_view (take n vs)) ps
+      → MayBePart names stem buffers document n (view v) p
+      → AreParts names stem buffers document 0 (items_view (take (n + 1) vs)) (ps ++ p ∷ [])
+  one_more vs n ps v p h is far here =
+      let more : take (n + 1) vs ≡ take n vs ++ v ∷ [] =
+      ap (λ (n : ℕ). take n vs) (add-one n) ∙ take-suc vs n v h
+      ∙ ap (λ (w : Value). take n vs ++ w ∷ []) (sym is) in
+      let taken = length_of_take n vs h in
+      let long : n ≡ 0 + length (take n vs) = omega arith in
+      subst (λ (ws : List Value).
+      AreParts names stem buffers document 0 (items_view ws) (ps ++ p ∷ [])) (sym more)
+      (part_at 0 (take n vs) ps v p far n long here)

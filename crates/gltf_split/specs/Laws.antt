@@ -1,0 +1,107 @@
+-- Laws over the definitions.
+use Rattle.std.specs.Prelude.{◌≡◌, ◌≢◌, ◌↔◌, ℕ, List, [], ◌∷◌, ◌++◌, Option, Some, None, Bool, ⊤}
+use Rattle.std.specs.Prelude.{slice_get, string_bytes, Ok, option_map, map, codes}
+use Rattle.gltf_json.specs.declared.root.Root.{Root}
+use Rattle.gltf_json_scene.specs.declared.image.Image.{Image}
+use Rattle.gltf_items.specs.declared.item.Item.{Ghosts}
+use Rattle.gltf_data.specs.Documents.{ReadsAt}
+use Rattle.gltf_detach.specs.declared.part.Part.{Part}
+use Rattle.gltf_detach.specs.Naming.{buffer_uris, image_uris}
+use Rattle.gltf_detached.specs.Laws.{IsDetached, HoldsPart}
+use Rattle.gltf_names.specs.Named.{Named}
+use Rattle.gltf_buffers.specs.Buffers.{IsMeant}
+use Rattle.gltf_buffers.specs.Names.{Names, Held}
+use Rattle.gltf_buffers.specs.Uri.{uri_of}
+use Rattle.gltf.specs.Import.{AcceptsWith}
+use Rattle.gltf_split.specs.Splits.{IsSplit, IsValidText, bytes_of_parts}
+use Rattle.gltf_split.specs.declared.splitting.Pieces.{Pieces}
+
+abbrev pub Holds : Type 0
+Holds = Named → Option (List ℕ)
+
+-- a source has the bytes of all files of buffers
+abbrev pub HoldsBuffers : Holds → Pieces → Type 0
+HoldsBuffers there set =
+    (i : ℕ) (p : Part) → slice_get set.buffers.items i ≡ Some p → HoldsPart there p
+
+-- the text of a set is imported, over a source of these files
+abbrev pub IsAcceptedOver : Holds → Pieces → Type 0
+IsAcceptedOver there set =
+    (s : Root) × (others : List (List ℕ)) × AcceptsWith (Held there) (string_bytes set.json) s others
+
+-- so it is over each source that has the files of its buffers
+abbrev pub IsTakenOver : Type 0
+IsTakenOver =
+    (names : Names) (path stem : List ℕ) (keep : Bool) (set : Pieces)
+    → IsSplit names path stem keep set → IsValidText (string_bytes set.json)
+    → (there : Holds) → HoldsBuffers there set → IsAcceptedOver there set
+
+-- whatever the text of a set is imported as, where a source has the files of its buffers: the
+-- records are those of the edited value, and the buffers are those of the file
+abbrev pub HasItsBuffers : Type 0
+HasItsBuffers =
+    (names : Names) (path stem : List ℕ) (keep : Bool) (set : Pieces)
+    (is : IsSplit names path stem keep set) (there : Holds) → HoldsBuffers there set
+    → (s : Root) (others : List (List ℕ)) → AcceptsWith (Held there) (string_bytes set.json) s others
+    → IsDetached (buffer_uris set.buffers.items) (image_uris set.images.items) is.root_ s
+    × (others ≡ bytes_of_parts set.buffers.items)
+
+-- and each accessor has the items that it has in the file
+abbrev pub KeepsItems : {X : Type 0} → Ghosts X → Type 0
+KeepsItems {X} t =
+    (names : Names) (path stem : List ℕ) (keep : Bool) (set : Pieces)
+    (is : IsSplit names path stem keep set) (there : Holds) → HoldsBuffers there set
+    → (s : Root) (others : List (List ℕ)) → AcceptsWith (Held there) (string_bytes set.json) s others
+    → (index : ℕ) (result : Option (List X))
+    → ReadsAt t is.root_ (slice_get (bytes_of_parts set.buffers.items)) index result
+    ↔ ReadsAt t s (slice_get others) index result
+
+-- image i of s has a URI that leads to the bytes of this file, and no view
+pub record IsShown (there : Holds) (p : Part) (s : Root) (i : ℕ) : Type 0 where
+  pub image : Image
+  pub is_there : slice_get s.images.items i ≡ Some image
+  pub uri : List ℕ
+  pub has_uri : option_map string_bytes image.uri ≡ Some uri
+  pub no_view : image.buffer_view ≡ None
+  pub meant : IsMeant (Held there) (uri_of uri) (Ok p.bytes.items)
+
+-- so is each image that has a file, where a source has this one too
+abbrev pub ShowsImages : Type 0
+ShowsImages =
+    (names : Names) (path stem : List ℕ) (keep : Bool) (set : Pieces)
+    (is : IsSplit names path stem keep set) (there : Holds) (s : Root) (others : List (List ℕ))
+    → AcceptsWith (Held there) (string_bytes set.json) s others
+    → (i : ℕ) (p : Part) → slice_get set.images.items i ≡ Some (Some p) → HoldsPart there p
+    → (x : Image) → slice_get is.root_.images.items i ≡ Some x → IsShown there p s i
+
+-- ---- names
+
+abbrev pub names_of_buffers : List Part → List (List ℕ)
+names_of_buffers ps = map (λ p. string_bytes p.name) ps
+
+abbrev pub names_of_images : List (Option Part) → List (List ℕ)
+names_of_images [] = []
+names_of_images (None ∷ ps) = names_of_images ps
+names_of_images (Some p ∷ ps) = string_bytes p.name ∷ names_of_images ps
+
+-- the names of the text and of all files beside it
+abbrev pub file_names : List ℕ → Pieces → List (List ℕ)
+file_names stem set =
+    (stem ++ codes ".gltf")
+    ∷ (names_of_buffers set.buffers.items ++ names_of_images set.images.items)
+
+-- none of these is x
+abbrev pub IsNoneOf : List ℕ → List (List ℕ) → Type 0
+IsNoneOf x [] = ⊤
+IsNoneOf x (y ∷ ys) = (x ≢ y) × IsNoneOf x ys
+
+-- no two of these are the same
+abbrev pub AreApart : List (List ℕ) → Type 0
+AreApart [] = ⊤
+AreApart (x ∷ xs) = IsNoneOf x xs × AreApart xs
+
+-- no two files of a set have the same name, and none has that of the text
+abbrev pub HasNamesApart : Type 0
+HasNamesApart =
+    (names : Names) (path stem : List ℕ) (keep : Bool) (set : Pieces)
+    → IsSplit names path stem keep set → AreApart (file_names stem set)

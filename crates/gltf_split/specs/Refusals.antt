@@ -1,0 +1,46 @@
+-- What the errors of a split say.
+use Rattle.std.specs.Prelude.{◌≡◌, ℕ, List, Bool, false, string_bytes, codes}
+use Rattle.serde_json.specs.Data.{Data}
+use Rattle.gltf_json.specs.declared.root.Root.{Root}
+use Rattle.gltf_edit.specs.Embedded.{items_at}
+use Rattle.gltf_glb.specs.declared.error.Error.{Error}
+use Rattle.gltf_names.specs.Named.{Named}
+use Rattle.gltf_buffers.specs.Names.{Names}
+use Rattle.gltf.specs.Errors.{OutOfMemoryOr}
+use Rattle.gltf.specs.Files.{RefusesFileAt}
+use Rattle.gltf.specs.Import.{RefusesDocument}
+use Rattle.gltf_bundle.specs.Bundle.{IsSource}
+use Rattle.gltf_bundle.specs.declared.error.BundleError.{BundleError}
+use Rattle.gltf_bundle.specs.declared.error.BundleError.TheVariants as bundle
+use Rattle.gltf_split.specs.Images.{RefusesImages}
+use Rattle.gltf_split.specs.Splits.{IsSplit}
+use Rattle.gltf_split.specs.declared.splitting.Pieces.{Pieces}
+
+-- the file is accepted, and its images are not kept and are refused so
+pub record HasBadImage (names : Names) (path : List ℕ) (keep : Bool) (old new : List Named)
+    (e : BundleError) : Type 0 where
+  pub value : Data
+  pub root_ : Root
+  pub buffers : List (List ℕ)
+  pub source : IsSource names path value root_ buffers
+  pub not_kept : keep ≡ false
+  pub told : RefusesImages names buffers value (items_at (codes "images") value) old new e
+
+-- the text of the set is refused
+pub record HasBadText (names : Names) (path stem : List ℕ) (keep : Bool) (e : Error) : Type 0 where
+  pub set : Pieces
+  pub is : IsSplit names path stem keep set
+  pub fault : OutOfMemoryOr (RefusesDocument (string_bytes set.json)) e
+
+-- the error is that of the import, or names what does not hold
+abbrev pub RefusesSplit : Names → List ℕ → List ℕ → Bool → List Named → List Named → BundleError
+    → Type 0
+RefusesSplit names path stem keep old new (bundle.Import e) =
+    OutOfMemoryOr (RefusesFileAt names path old new) e
+RefusesSplit names path stem keep old new (bundle.View v) =
+    HasBadImage names path keep old new (bundle.View v)
+RefusesSplit names path stem keep old new (bundle.Image i e) =
+    HasBadImage names path keep old new (bundle.Image i e)
+RefusesSplit names path stem keep old new (bundle.Answer e) =
+    HasBadText names path stem keep e
+RefusesSplit names path stem keep old new _ = ⊥

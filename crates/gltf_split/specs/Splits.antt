@@ -1,0 +1,43 @@
+-- What a file is split into (glTF 2.0, sections 2.8, 3.6.1 and 3.8.3).
+use Rattle.std.specs.Prelude.{◌≡◌, ℕ, ◌+◌, List, [], ◌∷◌, length, map, Bool, ⊤, string_bytes, Option}
+use Rattle.serde_json.specs.Data.{Data}
+use Rattle.gltf_json.specs.Reading.{Reads}
+use Rattle.gltf_json.specs.declared.root.Root.{Root}
+use Rattle.gltf_detach.specs.Detached.{detached}
+use Rattle.gltf_detach.specs.Naming.{buffer_name, buffer_uris, image_uris}
+use Rattle.gltf_detach.specs.declared.part.Part.{Part}
+use Rattle.gltf_buffers.specs.Names.{Names}
+use Rattle.gltf.specs.Import.{IsValidDocument}
+use Rattle.gltf_bundle.specs.Bundle.{IsSource}
+use Rattle.gltf_split.specs.Images.{AreImages}
+use Rattle.gltf_split.specs.declared.splitting.Pieces.{Pieces}
+
+-- the bytes of files
+abbrev pub bytes_of_parts : List Part → List (List ℕ)
+bytes_of_parts ps = map (λ p. p.bytes.items) ps
+
+-- each of these files, from index i on, has the name of that of a buffer, one of so many
+abbrev pub AreNamed : List ℕ → ℕ → ℕ → List Part → Type 0
+AreNamed stem count i [] = ⊤
+AreNamed stem count i (p ∷ ps) =
+    (string_bytes p.name ≡ buffer_name stem count i) × AreNamed stem count (i + 1) ps
+
+-- the value of the text
+abbrev pub split_value : Pieces → Data → Data
+split_value set value =
+    detached (buffer_uris set.buffers.items) (image_uris set.images.items) value
+
+-- the text is accepted, but for the bytes of its buffers
+abbrev pub IsValidText : List ℕ → Type 0
+IsValidText text = (r : Root) × (blob : Option (List ℕ)) × IsValidDocument text r blob
+
+-- the files of the buffers have the bytes that the file at the path is imported with, those of the
+-- images have the bytes of the images, unless these are kept, and the text is that of the value of
+-- the file whose buffers and images name these files
+pub record IsSplit (names : Names) (path stem : List ℕ) (keep : Bool) (set : Pieces) : Type 0 where
+  pub value : Data
+  pub root_ : Root
+  pub source : IsSource names path value root_ (bytes_of_parts set.buffers.items)
+  pub named : AreNamed stem (length set.buffers.items) 0 set.buffers.items
+  pub images : AreImages names stem keep (bytes_of_parts set.buffers.items) value set.images.items
+  pub reads : Reads (string_bytes set.json) (split_value set value)

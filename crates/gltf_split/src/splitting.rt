@@ -1,0 +1,125 @@
+//! A file as JSON text with other files beside it.
+ghost use Rattle.std.specs.Prelude.{◌≡◌, ◌≤◌, IfOk, IfErr, OnOk, length, string_bytes};
+ghost use Rattle.serde_json.specs.Data.{depth};
+ghost use Rattle.serde_json.specs.Read.{max_depth};
+ghost use Rattle.serde_json.specs.View.{view};
+ghost use Rattle.gltf_json.specs.Reading.{Reads};
+ghost use Rattle.gltf_buffers.specs.Names.{names_of};
+ghost use Rattle.gltf_buffers.specs.Shown.{bytes_of_each};
+ghost use Rattle.gltf_split.specs.Splits.{IsSplit, IsValidText, AreNamed, bytes_of_parts};
+ghost use Rattle.gltf_split.specs.Refusals.{RefusesSplit};
+
+use crate::images::image_parts;
+use crate::options::SplitOptions;
+use gltf::buffer::Data;
+use gltf::{Error, Gltf, NamedBytes};
+use gltf_bundle::{BundleError, Loaded, load};
+use gltf_detach::{Part, buffer_name, detached};
+use serde_json::Value;
+use std::alloc::{AllocError, Global};
+
+/// A document as JSON text, with the files that it names.
+#[derive(Debug, Drop)]
+pub struct Pieces {
+    /// The JSON text.
+    pub json: String,
+    /// The file of each buffer, by index.
+    pub buffers: Vec<Part>,
+    /// The file of each image that has one, by index.
+    pub images: Vec<Option<Part>>,
+}
+
+/// The file at a path as JSON text with files beside it that it names (glTF 2.0, sections 2.8,
+/// 3.6.1 and 3.8.3), where files are asked of a source as [`gltf::import_from`] asks them.
+///
+/// Each buffer has a file of the bytes that it is imported with, whose name is `STEM.bin`, or
+/// `STEM0.bin` and so on where there are several. Each image that names a view has a file of the
+/// bytes of this view, and each other one that has a URI has a file of the bytes that this leads
+/// to, as that of a buffer does; the source is asked once for each of these. Its name is
+/// `STEM_image0` with its index and an ending: `.png`, `.jpg`, `.webp` or `.ktx2` where the bytes
+/// begin so, or, where they begin as none of these, the member `mimeType` says so; else `.bin`.
+/// With [`SplitOptions::keep_images`] images have no files.
+///
+/// What has a file names it by its `uri`, and such an image names no view. All other members keep
+/// their values: views stay, also those that no image names any more. A chunk of unknown type and
+/// a blob that no buffer takes are dropped.
+///
+/// Returns [`BundleError::Import`] with the error of the import, or where there is not enough
+/// memory. Each other error is of a file that is imported: [`BundleError::View`] with a view that
+/// an image names, which is not there or does not lie in the bytes of its buffer;
+/// [`BundleError::Image`] with an image whose URI leads to no bytes, and why. The text is read
+/// before it is returned: [`BundleError::Answer`] says that it is refused, which is not expected
+/// of any file.
+pub fn split<S: NamedBytes>(
+    alloc: Global,
+    source: &mut S,
+    path: &str,
+    stem: &str,
+    options: &SplitOptions,
+) -> Result<Pieces, BundleError>
+    ensures split { IfOk result (IsSplit (names_of (S.bytes_by_name source.old)) path.now stem.now
+        options.now.keep_images) }
+    ensures accepted { IfOk result (λ set. IsValidText (string_bytes set.json)) }
+    ensures refused { IfErr result (RefusesSplit (names_of (S.bytes_by_name source.old)) path.now
+        stem.now options.now.keep_images (S.failures source.old) (S.failures source.new)) }
+{
+    let set = gathered(alloc, source, path, stem, options)?;
+    match Gltf::from_slice(alloc, set.json.as_bytes()) {
+        Ok(_) => Ok(set),
+        Err(Error::Memory) => Err(BundleError::Import(Error::Memory)),
+        Err(error) => Err(BundleError::Answer(error)),
+    }
+}
+
+/// The text and the files.
+fn gathered<S: NamedBytes>(
+    alloc: Global,
+    source: &mut S,
+    path: &str,
+    stem: &str,
+    options: &SplitOptions,
+) -> Result<Pieces, BundleError>
+    ensures split { IfOk result (IsSplit (names_of (S.bytes_by_name source.old)) path.now stem.now
+        options.now.keep_images) }
+    ensures refused { IfErr result (RefusesSplit (names_of (S.bytes_by_name source.old)) path.now
+        stem.now options.now.keep_images (S.failures source.old) (S.failures source.new)) }
+{
+    let Loaded { value, buffers } = load(alloc, source, path)?;
+    let images = image_parts(alloc, source, &value, options.keep_images, stem, &buffers)?;
+    let buffers = buffer_parts(alloc, stem, buffers)?;
+    let value = detached(alloc, value, &buffers, &images)?;
+    let json = written(alloc, &value, options.pretty)?;
+    Ok(Pieces {
+        json,
+        buffers,
+        images,
+    })
+}
+
+/// A file for each buffer.
+fn buffer_parts(alloc: Global, stem: &str, buffers: Vec<Data>) -> Result<Vec<Part>, AllocError>
+    ensures bytes { IfOk result (λ ps. bytes_of_parts ps.items ≡ bytes_of_each buffers.items) }
+    ensures named { IfOk result (λ ps. AreNamed stem.now (length buffers.items) 0 ps.items) }
+{
+    let count = buffers.len();
+    let mut parts = Vec::with_capacity(alloc, count)?;
+    'buffers: for buffer in buffers {
+        let name = buffer_name(alloc, stem, count, parts.len())?;
+        parts.push(Part {
+            name,
+            bytes: buffer.0,
+        })?;
+    }
+    Ok(parts)
+}
+
+/// The text of a value.
+fn written(alloc: Global, value: &Value, pretty: bool) -> Result<String, AllocError>
+    ensures { IfOk result (λ s. depth (view value.now) ≤ max_depth
+        → Reads (string_bytes s) (view value.now)) }
+{
+    if pretty {
+        return value.to_string_pretty(alloc);
+    }
+    value.to_string(alloc)
+}

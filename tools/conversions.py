@@ -1,0 +1,399 @@
+#!/usr/bin/env python3
+"""Runs the proved program `gltf_convert` on files that it makes, and on examples. A row is a call:
+its words, its status, and what it writes, with the files that are left. What it writes is accepted
+by `gltf_show` in a folder of its own, and converted to itself. `make test` calls it after `rt ci`.
+The last line is `N passed, M failed`."""
+import base64
+import json
+import pathlib
+import struct
+import subprocess
+import sys
+import tempfile
+import zlib
+
+sys.dont_write_bytecode = True
+
+import crates
+import programs
+from programs import DANGLING, Begins, Failed
+
+
+def data(media, contents):
+    """A data: URI of these bytes."""
+    return f"data:{media};base64,{base64.b64encode(contents).decode()}"
+
+
+# Files that begin as images of the four known types do, in the order of their types.
+TYPES = ["image/png", "image/jpeg", "image/webp", "image/ktx2"]
+PICTURES = [
+    b"\x89PNG\r\n\x1a\n12345",
+    b"\xff\xd8\xff12",
+    b"RIFF\4\0\0\0WEBP",
+    b"\xabKTX 20\xbb\r\n\x1a\n1",
+]
+NO_TYPE = "images[1]: neither a mimeType nor bytes of PNG, JPEG, WebP or KTX2\n"
+# A file of two buffers and two images beside it, of which one buffer is no multiple of four bytes
+# long. A third image is a data: URI, and one is in a view.
+TWO = {
+    "asset": {"version": "2.0", "extras": [1.5, "\u00e9\n", None, 9007199254740993]},
+    "buffers": [{"byteLength": 3, "uri": "a%20b.bin"}, {"byteLength": 5, "uri": "c.bin"}],
+    "bufferViews": [
+        {"buffer": 0, "byteLength": 2, "byteOffset": 1, "name": "first"},
+        {"buffer": 1, "byteLength": 4, "byteOffset": 1, "STUDIO": {"buffer": 1}},
+        {"buffer": 1, "byteLength": 5, "extensions": {"EXT_meshopt_compression": {
+            "buffer": 0, "byteLength": 3, "byteStride": 1, "count": 3, "mode": "INDICES"}}},
+    ],
+    "accessors": [{"bufferView": 1, "componentType": 5121, "count": 4, "type": "SCALAR"}],
+    "images": [
+        {"uri": "p%20q.png", "name": "\u00e9", "extras": {"b": [1, None], "a": 1e3}},
+        {"bufferView": 2, "mimeType": "image/x-own"},
+        {"uri": data("image/jpeg", PICTURES[1])},
+        {"uri": "own", "mimeType": "image/x-own", "extensions": {"STUDIO": {"uri": "stays"}}},
+    ],
+    "unknown": {"b": 1e3, "a": []},
+}
+VIEWS = [
+    {"buffer": 0, "byteLength": 2, "byteOffset": 1, "name": "first"},
+    {"buffer": 0, "byteLength": 4, "byteOffset": 9, "STUDIO": {"buffer": 1}},
+    {"buffer": 0, "byteLength": 5, "byteOffset": 8, "extensions": {"EXT_meshopt_compression": {
+        "buffer": 0, "byteLength": 3, "byteOffset": 0, "byteStride": 1, "count": 3,
+        "mode": "INDICES"}}},
+]
+# The same with one buffer, where images are kept. Each of the two is filled up to a multiple of
+# eight, so the second begins at byte 8, and both have 16 bytes.
+KEPT = TWO | {"buffers": [{"byteLength": 16}], "bufferViews": VIEWS}
+# And where they are taken in: behind the buffers stand 13 bytes, which are filled up to 16, then 5,
+# which are filled up to 8, and then 8.
+ONE = TWO | {
+    "buffers": [{"byteLength": 48}],
+    "bufferViews": VIEWS + [
+        {"buffer": 0, "byteLength": 13, "byteOffset": 16},
+        {"buffer": 0, "byteLength": 5, "byteOffset": 32},
+        {"buffer": 0, "byteLength": 8, "byteOffset": 40},
+    ],
+    "images": [
+        {"bufferView": 3, "mimeType": "image/png", "name": "\u00e9",
+         "extras": {"b": [1, None], "a": 1e3}},
+        {"bufferView": 2, "mimeType": "image/x-own"},
+        {"bufferView": 4, "mimeType": "image/jpeg"},
+        {"bufferView": 5, "mimeType": "image/x-own", "extensions": {"STUDIO": {"uri": "stays"}}},
+    ],
+}
+JOINED = bytes([1, 2, 3, 0, 0, 0, 0, 0, 4, 5, 6, 7, 8, 0, 0, 0])
+TAKEN = JOINED + PICTURES[0] + bytes(3) + PICTURES[1] + bytes(3) + b"12345678"
+# Images alone: what a URI names goes before what the bytes are, and their own type between the two.
+KINDS = {
+    "asset": {"version": "2.0"},
+    "images": [{"uri": data("", picture)} for picture in PICTURES]
+    + [{"uri": data(media, b"1")} for media in TYPES]
+    + [{"uri": data("image/png", PICTURES[1]), "mimeType": "image/x-own"}]
+    + [{"uri": data("text/plain", PICTURES[1]), "mimeType": "image/x-own"}],
+}
+FOUND = [*TYPES, *TYPES, "image/png", "image/x-own"]
+LONGS = [13, 5, 12, 13, 1, 1, 1, 1, 5, 5]
+STARTS = [0, 16, 24, 40, 56, 64, 72, 80, 88, 96]
+OWN_KINDS = {
+    "asset": {"version": "2.0"},
+    "buffers": [{"byteLength": 104}],
+    "bufferViews": [
+        {"buffer": 0, "byteLength": n, "byteOffset": at} for n, at in zip(LONGS, STARTS)
+    ],
+    "images": [{"bufferView": i, "mimeType": media} for i, media in enumerate(FOUND)],
+}
+ALL_KINDS = [*PICTURES, *[b"1"] * 4, PICTURES[1], PICTURES[1]]
+CONVERT_USAGE = Begins("usage: gltf_convert IN OUT.glb [--keep-images]\n")
+ENDING = "out.txt: has to end in .glb or .gltf\n"
+# The words, the status and the error of calls that write nothing.
+NOT_CONVERTED = [
+    (["two.gltf", "out.txt"], 2, ENDING),
+    (["two.gltf", ".gltf"], 2, ".gltf" + ENDING[len("out.txt"):]),
+    (["no.gltf", "out.glb"], 1, Failed("no.gltf")),
+    (["lacks.gltf", "out.glb"], 1, Failed("no.bin")),
+    (["beyond.gltf", "out.glb"], 1, "bufferViews[0]: not within its buffer\n"),
+    (["dangling.gltf", "out.glb"], 1, DANGLING),
+    (["two.gltf", "folder"], 2, "folder: " + ENDING.partition(": ")[2]),
+    (["two.gltf"], 2, CONVERT_USAGE),
+    (["two.gltf", "out.glb", "out.glb"], 2, CONVERT_USAGE),
+    (["two.gltf", "out.glb", "--keep"], 2, CONVERT_USAGE),
+    (["--keep-images", "two.gltf", "out.glb"], 2, CONVERT_USAGE),
+    (["two.gltf", "out.glb", "--keep-images", "--keep-images"], 2, CONVERT_USAGE),
+    (["lost.gltf", "out.glb"], 1, Failed("lost.png")),
+    (["odd.gltf", "out.glb"], 1, NO_TYPE),
+    (["scheme.gltf", "out.glb"], 1, Begins("images[0].uri: ")),
+    (["payload.gltf", "out.glb"], 1, Begins("images[0].uri: ")),
+    (["two.gltf", "out.glb", "--pretty"], 2, CONVERT_USAGE),
+    (["two.gltf", "out.gltf", "--pretty", "--pretty"], 2, CONVERT_USAGE),
+    (["no.gltf", "out.gltf"], 1, Failed("no.gltf")),
+    (["lacks.gltf", "out.gltf"], 1, Failed("no.bin")),
+    (["dangling.gltf", "out.gltf"], 1, DANGLING),
+    (["stray.gltf", "out.gltf"], 1, "bufferViews[0]: not within its buffer\n"),
+    (["lost.gltf", "out.gltf"], 1, Failed("lost.png")),
+    (["scheme.gltf", "out.gltf"], 1, Begins("images[0].uri: ")),
+    (["payload.gltf", "out.gltf"], 1, Begins("images[0].uri: ")),
+    (["two.gltf", "taken.gltf"], 1, "taken1.bin: not a regular file\n"),
+    (["two.gltf", "away/out.gltf"], 1, Failed("away/out0.bin.part")),
+]
+# Files with one image or two, which are refused unless images are kept.
+IMAGES = {
+    "lost.gltf": [{"uri": "lost.png"}],
+    "odd.gltf": [{"uri": "p%20q.png"}, {"uri": data("image/x-odd", b"odd")}],
+    "scheme.gltf": [{"uri": "http://example.org/p.png"}],
+    "payload.gltf": [{"uri": "data:image/png;base64,?"}],
+}
+# The words, the JSON value and the bytes of calls that write `out.glb`.
+CONVERTED = [
+    (["two.gltf"], [], ONE, TAKEN),
+    (["two.gltf"], ["--keep-images"], KEPT, JOINED),
+    (["kinds.gltf"], [], OWN_KINDS, b"".join(p + bytes(-len(p) % 8) for p in ALL_KINDS)),
+    (["kinds.gltf"], ["--keep-images"], KINDS, b""),
+    *[([name], ["--keep-images"], {"asset": {"version": "2.0"}, "images": images}, b"")
+      for name, images in IMAGES.items()],
+]
+
+# A file as JSON text: each buffer has a file, filled up to a multiple of four bytes, and each image
+# too. What the others say stays.
+APART = TWO | {
+    "buffers": [{"byteLength": 3, "uri": "out0.bin"}, {"byteLength": 5, "uri": "out1.bin"}],
+    "images": [
+        {"uri": "out_image0.png", "name": "\u00e9", "extras": {"b": [1, None], "a": 1e3}},
+        {"uri": "out_image1.bin", "mimeType": "image/x-own"},
+        {"uri": "out_image2.jpg"},
+        {"uri": "out_image3.bin", "mimeType": "image/x-own",
+         "extensions": {"STUDIO": {"uri": "stays"}}},
+    ],
+}
+HALVES = {"out0.bin": JOINED[:4], "out1.bin": JOINED[8:]}
+BESIDE = HALVES | {
+    "out_image0.png": PICTURES[0],
+    "out_image1.bin": JOINED[8:13],
+    "out_image2.jpg": PICTURES[1],
+    "out_image3.bin": b"12345678",
+}
+# The name of a file is escaped where its URI needs it.
+ODD = "\u00fc a%:b"
+ODD_URI = "%C3%BC%20a%25%3Ab"
+# The type that the bytes begin as goes before that which an image names.
+ENDS = ["png", "jpg", "webp", "ktx2"]
+SPELLED = b"[1e3,1E+3,0.1,-0.0,1.5e-7,12345678901234567890,-9007199254740993,1.0]"
+# The words, the name without its ending, the JSON value and the files of calls that write text.
+SPLIT = [
+    (["two.gltf"], "out", [], APART, BESIDE),
+    (["two.gltf"], "out", ["--pretty"], APART, BESIDE),
+    (["two.gltf"], "out", ["--keep-images"], TWO | {"buffers": APART["buffers"]}, HALVES),
+    (["two.gltf"], "out", ["--pretty", "--keep-images"], TWO | {"buffers": APART["buffers"]},
+     HALVES),
+    (["pair.gltf"], ODD, [], APART | {
+        "buffers": [{"byteLength": 3, "uri": ODD_URI + "0.bin"},
+                    {"byteLength": 5, "uri": ODD_URI + "1.bin"}],
+        "images": [{"uri": ODD_URI + "_image0.png"}]},
+     {ODD + "0.bin": JOINED[:4], ODD + "1.bin": JOINED[8:], ODD + "_image0.png": PICTURES[0]}),
+    (["alone.glb"], "out", [], ONE | {
+        "buffers": [{"byteLength": 48, "uri": "out.bin"}],
+        "images": [{"uri": f"out_image{i}.{kind}", **{k: v for k, v in image.items()
+                                                       if k != "bufferView"}}
+                   for i, (kind, image) in enumerate(zip(["png", "bin", "jpg", "bin"],
+                                                         ONE["images"]))]},
+     {"out.bin": TAKEN, **{name: held for name, held in BESIDE.items() if "image" in name}}),
+    (["begun.gltf"], "out", [], {
+        "asset": {"version": "2.0"},
+        "images": [{"uri": f"out_image{i}.{kind}", "mimeType": "image/x-own"}
+                   for i, kind in enumerate(ENDS)]
+        + [{"uri": f"out_image{i}.{kind}", "mimeType": media}
+           for i, (kind, media) in enumerate(zip(ENDS, TYPES), 4)]},
+     {f"out_image{i}.{kind}": held
+      for i, (kind, held) in enumerate(zip(ENDS * 2, [*PICTURES, *[b"1"] * 4]))}),
+    (["numbers.gltf"], "out", ["--pretty"], {
+        "asset": {"version": "2.0", "extras": json.loads(SPELLED)}}, {}),
+]
+
+
+def make_converted(room):
+    """The folder that `gltf_convert` is called in."""
+    one = json.dumps(ONE).encode()
+    beyond = TWO | {"bufferViews": [{"buffer": 0, "byteLength": 5}], "accessors": [], "images": []}
+    lacks = TWO | {"buffers": [TWO["buffers"][0], {"byteLength": 5, "uri": "no.bin"}]}
+    programs.make(room, {
+        "two.gltf": json.dumps(TWO).encode(),
+        "kinds.gltf": json.dumps(KINDS).encode(),
+        "beyond.gltf": json.dumps(beyond).encode(),
+        "lacks.gltf": json.dumps(lacks).encode(),
+        "dangling.gltf": programs.document(nodes=[{"mesh": 3, "skin": 0}]),
+        "a b.bin": JOINED[:3],
+        "c.bin": JOINED[8:13],
+        "p q.png": PICTURES[0],
+        "own": b"12345678",
+        **{name: programs.document(images=images) for name, images in IMAGES.items()},
+        "pair.gltf": json.dumps(TWO | {"images": [{"uri": "p%20q.png"}]}).encode(),
+        "stray.gltf": json.dumps(beyond | {"images": [
+            {"bufferView": 0, "mimeType": "image/png"}]}).encode(),
+        "alone.glb": programs.container(programs.chunk(b"JSON", one + b" " * (-len(one) % 4)),
+                               programs.chunk(b"BIN\0", TAKEN)),
+        "begun.gltf": programs.document(images=[
+            *[{"uri": data("", picture), "mimeType": "image/x-own"} for picture in PICTURES],
+            *[{"uri": data("", b"1"), "mimeType": media} for media in TYPES]]),
+        "numbers.gltf": b'{"asset":{"version":"2.0","extras":' + SPELLED + b"}}",
+        "taken1.bin/file": b"",
+    })
+
+
+def converts(convert, show, room, source, flags, value, buffer):
+    """Whether a file becomes one container with this JSON value and these bytes. Where no image is
+    kept, it is accepted alone, in an empty folder, and is converted to itself."""
+    words = [*source, "out.glb", *flags]
+    how = {"cwd": room, "capture_output": True, "text": True, "preexec_fn": programs.started()}
+    ran = subprocess.run([convert, *words], **how)
+    made = (room / "out.glb").read_bytes() if (room / "out.glb").exists() else bytes(20)
+    (room / "out.glb").unlink(missing_ok=True)
+    length = int.from_bytes(made[12:16], "little")
+    rest = made[20 + length :]
+    good = (ran.returncode, ran.stdout, ran.stderr) == (0, f"out.glb: {len(made)} bytes\n", "")
+    good = good and made[:12] == b"glTF" + struct.pack("<2I", 2, len(made))
+    good = good and made[16:20] == b"JSON" and json.loads(made[20 : 20 + length]) == value
+    good = good and rest == (programs.chunk(b"BIN\0", buffer) if buffer else b"")
+    if flags or not good:
+        return programs.report(convert.name, words, good, ran)
+    with tempfile.TemporaryDirectory() as name:
+        alone = pathlib.Path(name)
+        (alone / "out.glb").write_bytes(made)
+        alone.chmod(0o777)
+        how["cwd"] = alone
+        checked = subprocess.run([show, "check", "out.glb"], **how)
+        counts = [len(value.get(member, [])) for member in ("buffers", "accessors")]
+        line = f"ok buffers={counts[0]} accessors={counts[1]} meshes=0 nodes=0\n"
+        again = subprocess.run([convert, "out.glb", "again.glb"], **how)
+        good = checked.stdout == line and again.returncode == 0
+        good = good and (alone / "again.glb").read_bytes() == made
+    return programs.report(convert.name, words, good, (ran, checked, again))
+
+
+def splits(convert, show, room, source, name, flags, value, files):
+    """Whether a file becomes JSON text of this value, with these files beside it. Unless images are
+    kept, it is accepted in a folder with them alone, and converted to itself there, and to the same
+    container as the file where that has no image in a view."""
+    with tempfile.TemporaryDirectory() as folder:
+        alone = pathlib.Path(folder)
+        alone.chmod(0o777)
+        text = f"{alone}/{name}.gltf"
+        words = [*source, text, *flags]
+        how = {"capture_output": True, "text": True, "preexec_fn": programs.started()}
+        ran = subprocess.run([convert, *words], cwd=room, **how)
+        made = {file.name: file.read_bytes() for file in alone.iterdir()}
+        json_text = made.pop(f"{name}.gltf", b"")
+        told = "".join(f"{alone}/{part}: {len(held)} bytes\n" for part, held in files.items())
+        good = (ran.returncode, ran.stderr) == (0, "") and made == files
+        good = good and ran.stdout == f"{told}{text}: {len(json_text)} bytes\n"
+        good = good and repr(json.loads(json_text)) == repr(sorted_members(value))
+        good = good and json_text.startswith(b'{\n  "' if "--pretty" in flags else b'{"')
+        if "--keep-images" in flags or not good:
+            return programs.report(convert.name, words, good, ran)
+        how["cwd"] = alone
+        checked = subprocess.run([show, "check", f"{name}.gltf"], **how)
+        counts = [len(value.get(member, [])) for member in ("buffers", "accessors")]
+        line = f"ok buffers={counts[0]} accessors={counts[1]} meshes=0 nodes=0\n"
+        again = subprocess.run([convert, f"{name}.gltf", f"{name}.gltf", *flags], **how)
+        left = {file.name: file.read_bytes() for file in alone.iterdir()}
+        good = checked.stdout == line and again.returncode == 0
+        good = good and left == files | {f"{name}.gltf": json_text}
+        back = subprocess.run([convert, f"{name}.gltf", "back.glb"], **how)
+        good = good and back.returncode == 0
+        if source == ["pair.gltf"]:
+            whole = [*source, f"{alone}/whole.glb"]
+            whole = subprocess.run([convert, *whole], **(how | {"cwd": room}))
+            made = [(alone / f"{part}.glb").read_bytes() for part in ("back", "whole")]
+            good = good and whole.returncode == 0 and made[0] == made[1]
+        return programs.report(convert.name, words, good, (ran, checked, again, back))
+
+
+def sorted_members(value):
+    """The value with the members of each object by their names."""
+    if isinstance(value, dict):
+        return {name: sorted_members(value[name]) for name in sorted(value)}
+    return [sorted_members(one) for one in value] if isinstance(value, list) else value
+
+
+# ---- Examples
+
+def png_size(held):
+    """The width and the height of a PNG: each chunk has its checksum, and the rows inflate to as
+    many bytes as the header says. None of other bytes."""
+    if not held.startswith(b"\x89PNG\r\n\x1a\n"):
+        return None
+    at, found = 8, {}
+    while at < len(held):
+        length, kind = struct.unpack(">I4s", held[at : at + 8])
+        body, end = held[at + 8 : at + 8 + length], at + 12 + length
+        if zlib.crc32(kind + body) != int.from_bytes(held[end - 4 : end], "big"):
+            return None
+        found[kind] = found.get(kind, b"") + body
+        at = end
+    width, height, depth, colour = struct.unpack(">2I2B", found[b"IHDR"][:10])
+    row = 1 + (width * depth * {0: 1, 2: 3, 3: 1, 4: 2, 6: 4}[colour] + 7) // 8
+    rows = zlib.decompress(found[b"IDAT"])
+    return (width, height) if len(rows) == height * row and b"IEND" in found else None
+
+
+def shows_the_same(show, files, how):
+    """Whether all of these files are accepted, and show the same."""
+    calls = [[[show, "check", file], [show, "indices", file, "0", "0"]] for file in files]
+    told = [[subprocess.run(call, **how) for call in two] for two in calls]
+    if any(ran.returncode for two in told for ran in two):
+        return False
+    return len({tuple(ran.stdout for ran in two) for two in told}) == 1
+
+
+def converts_square(convert, show):
+    """Whether the example of two files becomes a container that is accepted in a folder where it is
+    alone, and which becomes two files again that show the same."""
+    with tempfile.TemporaryDirectory() as name:
+        room = pathlib.Path(name)
+        for file in sorted((crates.TOP / "examples" / "two files").iterdir()):
+            (room / "from").mkdir(exist_ok=True)
+            (room / "from" / file.name).write_bytes(file.read_bytes())
+        for folder in ("alone", "again", "."):
+            (room / folder).mkdir(exist_ok=True)
+            (room / folder).chmod(0o777)
+        how = {"cwd": room, "capture_output": True, "text": True, "preexec_fn": programs.started()}
+        files = ["from/square.gltf", "alone/square.glb", "again/square.gltf"]
+        ran = [subprocess.run([convert, *two], **how) for two in (files[:2], files[1:])]
+        good = [one.returncode for one in ran] == [0, 0] and shows_the_same(show, files, how)
+        good = good and {file.name for file in (room / "alone").iterdir()} == {"square.glb"}
+        left = {file.name for file in (room / "again").iterdir()}
+        good = good and left == {"square.gltf", "square.bin"}
+    return programs.report(convert.name, ["square"], good, ran)
+
+
+def converts_box(convert, show):
+    """Whether the image of the example of one container becomes a file that is a PNG of 8 times 8
+    pixels, and the set shows what the container shows."""
+    with tempfile.TemporaryDirectory() as name:
+        room = pathlib.Path(name)
+        room.chmod(0o777)
+        (room / "from.glb").write_bytes((crates.TOP / "examples" / "box.glb").read_bytes())
+        how = {"cwd": room, "capture_output": True, "text": True, "preexec_fn": programs.started()}
+        ran = subprocess.run([convert, "from.glb", "box.gltf", "--pretty"], **how)
+        good = ran.returncode == 0 and shows_the_same(show, ["from.glb", "box.gltf"], how)
+        left = {file.name for file in room.iterdir()}
+        good = good and left == {"from.glb", "box.gltf", "box.bin", "box_image0.png"}
+        good = good and png_size((room / "box_image0.png").read_bytes()) == (8, 8)
+    return programs.report(convert.name, ["box"], good, ran)
+
+
+def main():
+    with tempfile.TemporaryDirectory() as name:
+        place = pathlib.Path(name)
+        place.chmod(0o755)
+        show, convert = (programs.copy_of(one, place) for one in ("gltf_show", "gltf_convert"))
+        room = place / "converted"
+        make_converted(room)
+        good = [programs.refuses(convert, room, *row) for row in NOT_CONVERTED]
+        good += [converts(convert, show, room, *row) for row in CONVERTED]
+        good += [splits(convert, show, room, *row) for row in SPLIT]
+        good += [converts_square(convert, show), converts_box(convert, show)]
+        good.append(programs.takes_text_alone(convert, room))
+    print(f"{sum(good)} passed, {len(good) - sum(good)} failed")
+    return 0 if all(good) else 1
+
+
+if __name__ == "__main__":
+    sys.exit(main())
