@@ -1,43 +1,20 @@
 -- Two documents that one file is are readings of one value, and are read alike.
-use Rattle.std.proofs.Common.{◌≡◌, ℕ, List, Bool, true, false, Ok, sym, ap, subst, ◌∙◌}
-use Rattle.std.specs.Prelude.{Option, Some, None, MatchBool, nat_eq, slice_get}
-use Rattle.std.specs.List.{starts_with}
+use Rattle.std.proofs.Common.{◌≡◌, ℕ, List, sym, ap, subst}
+use Rattle.std.specs.Prelude.{Option, Some, slice_get}
 use Rattle.serde_json.specs.Data.{Data}
 use Rattle.serde_json.specs.Read.{read}
-use Rattle.gltf_glb.specs.Bytes.{magic}
-use Rattle.gltf_glb.specs.Container.{IsContainer}
 use Rattle.gltf_glb.specs.Laws.{OneReading}
-use Rattle.gltf_glb.specs.Reading.{Reading}
 use Rattle.gltf_json.specs.Alike.{AreAlikeInEachMember}
 use Rattle.gltf_json.specs.Documents.{root}
 use Rattle.gltf_json.specs.declared.root.Root.{Root}
 use Rattle.gltf_read.specs.Laws.{IsAlike}
 use Rattle.gltf_read.specs.Members.{HaveSameIndices}
 use Rattle.gltf_read.specs.Reading.{Table, IsMember}
-use Rattle.gltf.specs.Import.{AreParts, IsDocument}
+use Rattle.gltf.specs.Import.{IsDocument}
 use Rattle.gltf.specs.OfBytes.{IsOfBytes}
+use Rattle.gltf.proofs.Parts.{one_parts}
 
 -- ---- one text, and one value
-
-ok_text : (a x : List ℕ) (b y : Option (List ℕ))
-    → (let one : Reading = Ok (a, b) in one ≡ Ok (x, y)) → a ≡ x
-ok_text a x b y e =
-    let inner : (let pair : List ℕ × Option (List ℕ) = (a, b) in pair ≡ (x, y)) = cc in
-    ap (λ (p : List ℕ × Option (List ℕ)). p.0) inner
-
-same_text : (bytes text other : List ℕ) (blob rest : Option (List ℕ)) (begins : Bool) → OneReading
-    → MatchBool begins (IsContainer bytes text blob) ((text ≡ bytes) × (blob ≡ None))
-    → MatchBool begins (IsContainer bytes other rest) ((other ≡ bytes) × (rest ≡ None))
-    → text ≡ other
-same_text bytes text other blob rest true once x y =
-    ok_text text other blob rest (once bytes (Ok (text, blob)) (Ok (other, rest)) x y)
-same_text bytes text other blob rest false once x y = x.0 ∙ sym y.0
-
-text_of_parts : (bytes text other : List ℕ) (blob rest : Option (List ℕ)) → OneReading
-    → AreParts bytes text blob → AreParts bytes other rest → text ≡ other
-unfolding AreParts
-text_of_parts bytes text other blob rest once x y =
-    same_text bytes text other blob rest (starts_with nat_eq bytes magic) once x y
 
 some_same : {A : Type 0} (a b : A) (o p : Option A) → o ≡ p → o ≡ Some a → p ≡ Some b → a ≡ b
 some_same a b o p same x y = cc
@@ -46,7 +23,7 @@ one_value : (bytes : List ℕ) (r s : Root) (blob rest : Option (List ℕ)) → 
     → IsDocument bytes r blob → IsDocument bytes s rest
     → (d : Data) × root.is d r × root.is d s
 one_value bytes r s blob rest once x y =
-    let text = text_of_parts bytes x.text y.text blob rest once x.parts y.parts in
+    let text = sym (one_parts once bytes x.text y.text blob rest x.parts y.parts).0 in
     let value = some_same x.value y.value (read x.text) (read y.text) (ap read text) x.reads.1
     y.reads.1 in
     (x.value, x.records, subst (λ d. root.is d s) (sym value) y.records)

@@ -1,6 +1,7 @@
 pub mod Errors
 pub mod Shown
 pub mod Import
+pub mod Laws
 pub mod Files
 pub mod OfBytes
 pub mod Items

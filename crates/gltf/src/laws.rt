@@ -1,6 +1,6 @@
-//! Laws of readers over files: what is read of an imported file depends on its bytes alone. Each
-//! law is the contract of a function; the calls in a body are laws that its proof stands on, and do
-//! nothing.
+//! Laws of files, and of readers over them: what is read of an imported file depends on its bytes
+//! alone. Each law is the contract of a function; the calls in a body are laws that its proof
+//! stands on, and do nothing.
 //!
 //! What a reader answers over a closure follows from the closure's answers (`gltf_read::laws`). A
 //! law here starts from one import of some bytes, as [`crate::import_slice`] returns it, and what
@@ -20,6 +20,7 @@ ghost use Rattle.gltf_read.specs.Outputs.{AreOutputs};
 ghost use Rattle.gltf_read.specs.Reading.{AreItems};
 ghost use Rattle.gltf_read.specs.TexCoords.{AreTexCoords};
 ghost use Rattle.gltf_read.specs.Weights.{AreWeights};
+ghost use Rattle.gltf.specs.Laws.{OneTextAndBlob};
 ghost use Rattle.gltf.specs.OfBytes.{IsOfBytes};
 
 use gltf_glb::laws::one_reading;
@@ -29,6 +30,13 @@ use gltf_read::laws::{
     colors_are_alike, indices_are_alike, items_are_alike, joints_are_alike, outputs_are_alike,
     readings_of_one_value_have_the_same_indices, tex_coords_are_alike, weights_are_alike,
 };
+
+/// The bytes of a file have one JSON text, and one blob at most.
+pub fn one_text_and_blob()
+    ensures { OneTextAndBlob }
+{
+    one_reading();
+}
 
 /// What is read of primitive p of mesh m.
 pub fn primitives_are_of_the_bytes()

@@ -35,7 +35,7 @@ pub(crate) fn document_of(
     what_shows_the_same_breaks_the_same_rules();
     let (root, blob) = root_of(alloc, bytes)?;
     let document = Document::from_json(alloc, root)?;
-    let blob = owned(alloc, blob)?;
+    let blob = owned_blob(alloc, blob)?;
     Ok((document, blob))
 }
 
@@ -52,7 +52,7 @@ pub(crate) fn raw_document_of(
     ensures exact { IfErr result (λ e. e ≢ Memory → IsNoDocument (cow_slice_items bytes.entry)) }
 {
     let (root, blob) = root_of(alloc, bytes)?;
-    let blob = owned(alloc, blob)?;
+    let blob = owned_blob(alloc, blob)?;
     Ok((Document::from_json_without_validation(root), blob))
 }
 
@@ -94,6 +94,29 @@ fn parts_of(
     }
 }
 
+/// The JSON text and the blob of a file, lent: those of a container (glTF 2.0, section 4.4) where
+/// the bytes begin with `glTF`, else the bytes are the text. Neither is looked at.
+///
+/// Returns [`Error::Binary`](crate::Error::Binary) where the bytes begin so and are no container.
+#[tactic(auto, unfolding(crate::specs::Import::AreParts))]
+pub fn text_and_blob(bytes: &[u8]) -> Result<(CowSlice<'_, u8>, Option<CowSlice<'_, u8>>)>
+    ensures parts { IfOk result (λ parts. AreParts bytes.now (cow_slice_items parts.0)
+        (items_of parts.1)) }
+    ensures only { IfOk result (λ parts. (text : List ℕ) (blob : Option (List ℕ))
+        → AreParts bytes.now text blob
+        → (text ≡ cow_slice_items parts.0) × (blob ≡ items_of parts.1)) }
+    ensures refused { IfErr result (RefusesContainer bytes.now) }
+    ensures exact { IfErr result (λ _. (text : List ℕ) (blob : Option (List ℕ))
+        → AreParts bytes.now text blob → ⊥) }
+{
+    if bytes.starts_with(b"glTF") {
+        let glb = Glb::from_slice(bytes)?;
+        Ok((glb.json, glb.bin))
+    } else {
+        Ok((CowSlice::Borrowed(bytes), None))
+    }
+}
+
 /// The container that the bytes are.
 fn container_of(alloc: Global, bytes: CowSlice<'_, u8>) -> Result<Glb<'_>>
     ensures parts { IfOk result (IsTakenFrom (cow_slice_items bytes.entry)) }
@@ -105,8 +128,11 @@ fn container_of(alloc: Global, bytes: CowSlice<'_, u8>) -> Result<Glb<'_>>
     }
 }
 
-/// The blob, owned.
-fn owned(alloc: Global, blob: Option<CowSlice<'_, u8>>) -> Result<Option<Vec<u8>>>
+/// The blob, owned. What is lent is copied, with room for the zeros that may follow it.
+pub fn owned_blob(
+    alloc: Global,
+    blob: Option<CowSlice<'_, u8>>,
+) -> Result<Option<Vec<u8>>>
     ensures ok { IfOk result (λ copy. blob_bytes copy ≡ items_of blob.entry) }
     ensures refused { IfErr result (λ e. e ≡ Memory) }
 {

@@ -37,6 +37,7 @@ pub use imports::{
     import_each_buffer_from, import_from, import_slice,
 };
 pub use items::{imported_items, read_items};
+pub use layers::{owned_blob, text_and_blob};
 pub use material::Material;
 pub use mesh::{Attribute, Mesh, Primitive, Semantic};
 pub use primitives::{imported_indices, imported_positions, read_indices, read_positions};

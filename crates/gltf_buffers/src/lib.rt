@@ -13,3 +13,4 @@ pub mod uri;
 pub use asking::{Ask, NoNames};
 pub use data::Data;
 pub use reading::{read_buffers, read_each_buffer};
+pub use reference::bytes_of_uri;

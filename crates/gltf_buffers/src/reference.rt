@@ -38,7 +38,7 @@ pub(crate) fn data_of<N: Ask>(
 {
     match uri {
         Some(uri) => {
-            let mut bytes = bytes_behind(alloc, uri, names)?;
+            let mut bytes = bytes_of_uri(alloc, uri, names)?;
             payload::pad_to_four(&mut bytes)?;
             Ok(Data(bytes))
         }
@@ -84,8 +84,10 @@ fn taken(blob: &mut Option<Vec<u8>>) -> Result<Data>
     }
 }
 
-/// The bytes that a URI leads to.
-fn bytes_behind<N: Ask>(alloc: Global, uri: &str, names: &mut N) -> Result<Vec<u8>>
+/// The bytes that a URI leads to: those of a `data:` URI, else those of the file that it names.
+///
+/// Returns the error that a buffer with this URI has.
+pub fn bytes_of_uri<N: Ask>(alloc: Global, uri: &str, names: &mut N) -> Result<Vec<u8>>
     ensures ok { IfOk result (λ bytes. IsMeant (N.names names.old) (uri_of uri.now)
         (Ok bytes.items)) }
     ensures err { IfErr result (FailsOrNames

@@ -20,7 +20,8 @@ use Rattle.gltf_json.specs.Reading.{Reads}
 use Rattle.gltf_json.specs.declared.root.Root.{Root}
 use Rattle.gltf_glb.specs.Bytes.{padded}
 use Rattle.gltf_glb.specs.FillingLaws.{padded_whole}
-use Rattle.gltf_glb.specs.Laws.{OneReading, ReadsBack}
+use Rattle.gltf_glb.specs.Laws.{ReadsBack}
+use Rattle.gltf.specs.Laws.{OneTextAndBlob}
 use Rattle.gltf_buffers.specs.Buffers.{source_of, AreBytes, bytes_of, blob_for}
 use Rattle.gltf_buffers.specs.Buffers.{checked_bytes, filled_bytes, raw_bytes, long_enough}
 use Rattle.gltf_buffers.specs.Names.{Names}
@@ -39,7 +40,7 @@ use Rattle.gltf_edit.specs.declared.span.Span.{Span}
 use Rattle.gltf_moved.specs.Laws.{IsMoved, one_list, moved_value}
 use Rattle.gltf_bundle.specs.Bundle.{IsBundle, IsSource, blob_of}
 use Rattle.gltf_bundle.specs.Images.{AreTaken}
-use Rattle.gltf_bundle.proofs.Parts.{one_parts, parts_written, one_value}
+use Rattle.gltf_bundle.proofs.Parts.{parts_written, one_value}
 use Rattle.gltf_bundle.proofs.Taken.{as_many_taken}
 use Rattle.gltf_bundle.proofs.Uris.{ReadsImages, no_uris, images_over}
 
@@ -203,7 +204,7 @@ from_one over one bytes cs blob others is_one is_blob whole no_uri long are =
 
 -- ---- what a bundle is imported as
 
-module _ (one : OneReading) (back : ReadsBack) (spaces : SpacesBehind) (names : Names)
+module _ (one : OneTextAndBlob) (back : ReadsBack) (spaces : SpacesBehind) (names : Names)
     (path : List ℕ) (keep : Bool) (answer : List ℕ)
     (is : IsBundle names path keep answer) (over : Names) (s : Root) (others : List (List ℕ))
     (accepted : AcceptsWith over answer s others) where
@@ -221,13 +222,13 @@ module _ (one : OneReading) (back : ReadsBack) (spaces : SpacesBehind) (names : 
 
   the_blob : accepted.blob ≡ option_map (padded 0) (blob_of all)
   the_blob =
-      (one_parts one answer (padded 32 is.json) accepted.valid.document.text
+      (one answer (padded 32 is.json) accepted.valid.document.text
       (option_map (padded 0) (blob_of all)) accepted.blob the_parts
       accepted.valid.document.parts).1
 
   the_text : accepted.valid.document.text ≡ padded 32 is.json
   the_text =
-      (one_parts one answer (padded 32 is.json) accepted.valid.document.text
+      (one answer (padded 32 is.json) accepted.valid.document.text
       (option_map (padded 0) (blob_of all)) accepted.blob the_parts
       accepted.valid.document.parts).0
 

@@ -1,6 +1,5 @@
 pub mod Joins
 pub mod Parts
-pub mod Asked
 pub mod Taken
 pub mod Uris
 pub mod Imported

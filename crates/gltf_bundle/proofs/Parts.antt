@@ -1,31 +1,12 @@
--- The text and the blob of a file are one, and so is the value of its text.
-use Rattle.std.proofs.Common.{◌≡◌, ◌<◌, ◌^◌, ℕ, List, Option, Some, None, Ok, Bool, true, false, nat_eq}
-use Rattle.std.proofs.Common.{MatchBool, option_map, sym, ap, ◌∙◌}
-use Rattle.std.specs.List.{starts_with}
+-- What is written has its parts, and a text has one value.
+use Rattle.std.proofs.Common.{◌≡◌, ◌<◌, ◌^◌, ℕ, List, Option, Some, option_map, sym, ap, ◌∙◌}
 use Rattle.serde_json.specs.Data.{Data}
 use Rattle.serde_json.specs.Read.{read}
-use Rattle.gltf_glb.specs.Bytes.{magic, padded}
-use Rattle.gltf_glb.specs.Container.{IsContainer}
-use Rattle.gltf_glb.specs.Laws.{OneReading, ReadsBack}
-use Rattle.gltf_glb.specs.ReadingLaws.{same_parts}
+use Rattle.gltf_glb.specs.Bytes.{padded}
+use Rattle.gltf_glb.specs.Laws.{ReadsBack}
 use Rattle.gltf_glb.specs.Written.{container_bytes, total_of}
 use Rattle.gltf_json.specs.Reading.{Reads}
 use Rattle.gltf.specs.Import.{AreParts}
-
-one_of : OneReading → (bytes text other : List ℕ) (blob rest : Option (List ℕ)) (begins : Bool)
-    → MatchBool begins (IsContainer bytes text blob) ((text ≡ bytes) × (blob ≡ None))
-    → MatchBool begins (IsContainer bytes other rest) ((other ≡ bytes) × (rest ≡ None))
-    → (other ≡ text) × (rest ≡ blob)
-one_of law bytes text other blob rest true p q =
-    same_parts (law bytes (Ok (other, rest)) (Ok (text, blob)) q p)
-one_of law bytes text other blob rest false p q = (q.0 ∙ sym p.0, q.1 ∙ sym p.1)
-
--- the bytes of a file have one text, and one blob at most
-pub one_parts : OneReading → (bytes text other : List ℕ) (blob rest : Option (List ℕ))
-    → AreParts bytes text blob → AreParts bytes other rest → (other ≡ text) × (rest ≡ blob)
-unfolding AreParts
-one_parts law bytes text other blob rest p q =
-    one_of law bytes text other blob rest (starts_with nat_eq bytes magic) p q
 
 -- what is written has the parts, filled up
 pub parts_written : ReadsBack → (text : List ℕ) (blob : Option (List ℕ))

@@ -14,7 +14,8 @@ use Rattle.gltf_json_scene.specs.declared.image.Image.{Image}
 use Rattle.gltf_edit.specs.Embedded.{seats}
 use Rattle.gltf_edit.specs.declared.picture.Picture.{Picture}
 use Rattle.gltf_moved.specs.Images.{IsInView, ShowsImages as MovedShows, seats_before}
-use Rattle.gltf_glb.specs.Laws.{OneReading, ReadsBack}
+use Rattle.gltf_glb.specs.Laws.{ReadsBack}
+use Rattle.gltf.specs.Laws.{OneTextAndBlob}
 use Rattle.gltf_pack.specs.Laws.{SpacesBehind}
 use Rattle.gltf_buffers.specs.Buffers.{IsMeant}
 use Rattle.gltf_buffers.specs.Names.{Names}
@@ -147,7 +148,7 @@ of_some same = cc
 
 -- ---- in the container
 
-pub shows_images : OneReading → ReadsBack → SpacesBehind → MovedShows → ShowsImages
+pub shows_images : OneTextAndBlob → ReadsBack → SpacesBehind → MovedShows → ShowsImages
 unfolding root
 shows_images one back spaces law names path answer is over s others accepted i x there uri with_uri =
     let value = is.value in

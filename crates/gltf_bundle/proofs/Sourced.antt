@@ -7,7 +7,7 @@ use Rattle.serde_json.specs.Written.{has_float, compact_text}
 use Rattle.gltf_json.specs.Documents.{root}
 use Rattle.gltf_json.specs.Reading.{Reads}
 use Rattle.gltf_json.specs.declared.root.Root.{Root}
-use Rattle.gltf_glb.specs.Laws.{OneReading}
+use Rattle.gltf.specs.Laws.{OneTextAndBlob}
 use Rattle.gltf_glb.specs.Written.{container_bytes, total_of}
 use Rattle.gltf_names.specs.Named.{File}
 use Rattle.gltf_buffers.specs.Buffers.{sources_of, AreBytes}
@@ -24,9 +24,9 @@ use Rattle.gltf_moved.specs.Laws.{moved_value}
 use Rattle.gltf_bundle.specs.declared.bundling.Joined.{Joined}
 use Rattle.gltf_bundle.specs.Bundle.{IsValueOf, IsSource, IsGathered, IsJoined, IsContainerOf}
 use Rattle.gltf_bundle.specs.Bundle.{IsBundle}
-use Rattle.gltf_bundle.proofs.Parts.{one_parts, one_value}
+use Rattle.gltf_bundle.proofs.Parts.{one_value}
 
-pub loaded : OneReading → (names : Names) (path bytes : List ℕ) → Gives names (File path) bytes
+pub loaded : OneTextAndBlob → (names : Names) (path bytes : List ℕ) → Gives names (File path) bytes
     → (r : Root) (blob : Option (List ℕ)) → IsValidDocument bytes r blob
     → (value : Data) → IsValueOf bytes value → (buffers : List (List ℕ))
     → AreBytes names (sources_of r) blob (length (sources_of r)) buffers
@@ -34,7 +34,7 @@ pub loaded : OneReading → (names : Names) (path bytes : List ℕ) → Gives na
 loaded law names path bytes gives r blob valid value is buffers data_ =
     let document = valid.document in
     let same =
-    one_parts law bytes document.text is.text blob is.blob document.parts is.parts in
+    law bytes document.text is.text blob is.blob document.parts is.parts in
     record {
       bytes = bytes;
       gives = gives;

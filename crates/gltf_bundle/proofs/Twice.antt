@@ -23,7 +23,8 @@ use Rattle.gltf_edit.specs.declared.span.Span.{Span}
 use Rattle.gltf_names.specs.Named.{Named, File}
 use Rattle.gltf_buffers.specs.Names.{Names, Held}
 use Rattle.gltf.specs.Import.{AcceptsWith}
-use Rattle.gltf_glb.specs.Laws.{OneReading, ReadsBack}
+use Rattle.gltf_glb.specs.Laws.{ReadsBack}
+use Rattle.gltf.specs.Laws.{OneTextAndBlob}
 use Rattle.gltf_glb.specs.Written.{container_bytes}
 use Rattle.gltf_pack.specs.Laws.{SpacesBehind}
 use Rattle.gltf_moved.specs.Laws.{moved_value, one_list}
@@ -243,7 +244,7 @@ record IsNothing (ps : List (Option Picture)) (taken : List (List ℕ)) (d : Dat
   pictures : embedded ps d ≡ d
   taken_is : taken ≡ []
 
-module _ (one : OneReading) (back : ReadsBack) (spaces : SpacesBehind) (names : Names)
+module _ (one : OneTextAndBlob) (back : ReadsBack) (spaces : SpacesBehind) (names : Names)
     (path : List ℕ) (keep : Bool) (answer : List ℕ) (is : IsBundle names path keep answer)
     (from : Named → Option (List ℕ)) (other : List ℕ) (held : from (File other) ≡ Some answer)
     (kept : Bool) (again : List ℕ) (more : IsBundle (Held from) other kept again) where
@@ -420,6 +421,6 @@ module _ (one : OneReading) (back : ReadsBack) (spaces : SpacesBehind) (names : 
             ∙ sym is.written;
       }
 
-pub bundles_again : OneReading → ReadsBack → SpacesBehind → BundlesAgain
+pub bundles_again : OneTextAndBlob → ReadsBack → SpacesBehind → BundlesAgain
 bundles_again one back spaces names path keep answer is from other held kept only again more =
     the_same one back spaces names path keep answer is from other held kept again more only

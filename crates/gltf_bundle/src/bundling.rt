@@ -17,8 +17,8 @@ use crate::options::BundleOptions;
 use gltf::buffer::Data;
 use gltf::{NamedBytes, import_slice};
 use gltf_edit::{Fault, Picture, Span, append, bundled, embedded};
-use gltf_glb::binary::Header;
-use gltf_glb::{Error, Glb};
+use gltf_glb::Error;
+use gltf_pack::container;
 use serde_json::Value;
 use std::alloc::Global;
 use std::borrow::CowSlice;
@@ -141,17 +141,7 @@ fn container_of(alloc: Global, value: &Value, blob: Option<Vec<u8>>) -> Result<V
 {
     let written = value.to_string(alloc)?;
     let text = written.as_str();
-    // The header is that of no file: it is not looked at when the parts are written.
-    let glb = Glb {
-        header: Header {
-            magic: *b"glTF",
-            version: 2,
-            length: 0,
-        },
-        json: CowSlice::Borrowed(text.as_bytes()),
-        bin: owned(blob),
-    };
-    match glb.to_vec(alloc) {
+    match container(alloc, CowSlice::Borrowed(text.as_bytes()), owned(blob)) {
         Ok(answer) => Ok(answer),
         Err(Error::Memory) => Err(BundleError::Import(Error::Memory)),
         Err(error) => Err(BundleError::Answer(error)),

@@ -11,12 +11,10 @@ ghost use Rattle.gltf_edit.specs.Embedded.{items_at};
 
 use crate::error::BundleError;
 use crate::media::media_of;
-use gltf::Name;
 use gltf::buffer::Data;
-use gltf_buffers::uri::Uri;
-use gltf_buffers::{Ask, payload};
+use gltf_buffers::{Ask, bytes_of_uri};
 use gltf_edit::Picture;
-use gltf_glb::{Error, Result as Answer};
+use gltf_glb::Error;
 use serde_json::Value;
 use std::alloc::Global;
 
@@ -101,7 +99,7 @@ fn taken_in<N: Ask>(
 }
 
 /// A member that is a text.
-fn text_at<'a>(value: &'a Value, name: &str) -> Option<&'a str>
+pub fn text_at<'a>(value: &'a Value, name: &str) -> Option<&'a str>
     ensures { option_copied result ≡ text_at name.now (view value.now) }
 {
     value.get(name).and_then(Value::as_str)
@@ -121,29 +119,12 @@ pub fn image_bytes<N: Ask>(
     ensures fine { OnOk result (N.failures names.new ≡ N.failures names.old) }
     ensures kept { N.names names.new ≡ N.names names.old }
 {
-    match bytes_behind(alloc, uri, names) {
+    match bytes_of_uri(alloc, uri, names) {
         Ok(bytes) => Ok(bytes),
         Err(Error::Memory) => Err(BundleError::Import(Error::Memory)),
         Err(cause) => Err(BundleError::Image {
             image: index,
             cause,
         }),
-    }
-}
-
-/// The bytes that a URI leads to, as that of a buffer does.
-fn bytes_behind<N: Ask>(alloc: Global, uri: &str, names: &mut N) -> Answer<Vec<u8>>
-    ensures ok { IfOk result (λ bytes. IsMeant (N.names names.old) (uri_of uri.now)
-        (Ok bytes.items)) }
-    ensures err { IfErr result (IsUnmeant (N.names names.old) (N.failures names.old)
-        (N.failures names.new) uri.now) }
-    ensures fine { OnOk result (N.failures names.new ≡ N.failures names.old) }
-    ensures kept { N.names names.new ≡ N.names names.old }
-{
-    match Uri::parse(alloc, uri)? {
-        Uri::Data(text) => Ok(payload::decode(alloc, text)?),
-        Uri::File(path) => names.ask(alloc, Name::File(path)),
-        Uri::Relative(path) => names.ask(alloc, Name::Relative(path.as_str())),
-        Uri::Unsupported => Err(Error::UnsupportedScheme),
     }
 }

@@ -3,7 +3,8 @@
 ghost use Rattle.gltf_bundle.specs.Laws.{HasOneBuffer, NeedsNoFile, KeepsItems, ShowsImages};
 ghost use Rattle.gltf_bundle.specs.Laws.{BundlesAgain};
 
-use gltf_glb::laws::{one_reading, reads_back};
+use gltf::laws::one_text_and_blob;
+use gltf_glb::laws::reads_back;
 use gltf_items::Item;
 use gltf_pack::laws::spaces_behind;
 
@@ -13,7 +14,7 @@ use gltf_pack::laws::spaces_behind;
 pub fn one_buffer()
     ensures { HasOneBuffer }
 {
-    one_reading();
+    one_text_and_blob();
     reads_back();
     spaces_behind();
 }
@@ -22,7 +23,7 @@ pub fn one_buffer()
 pub fn needs_no_file()
     ensures { NeedsNoFile }
 {
-    one_reading();
+    one_text_and_blob();
     reads_back();
     spaces_behind();
 }
@@ -40,7 +41,7 @@ pub fn items_are_kept<T: Item>()
 pub fn images_are_shown()
     ensures { ShowsImages }
 {
-    one_reading();
+    one_text_and_blob();
     reads_back();
     spaces_behind();
     gltf_moved::laws::images_are_shown();
@@ -52,7 +53,7 @@ pub fn images_are_shown()
 pub fn bundled_again()
     ensures { BundlesAgain }
 {
-    one_reading();
+    one_text_and_blob();
     reads_back();
     spaces_behind();
 }

@@ -11,7 +11,7 @@ mod options;
 
 pub use bundling::bundle;
 pub use error::BundleError;
-pub use images::image_bytes;
+pub use images::{image_bytes, text_at};
 pub use loading::{Loaded, load};
 pub use media::begun_media;
 pub use options::BundleOptions;

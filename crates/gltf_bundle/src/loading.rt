@@ -1,27 +1,22 @@
 //! The value of a file's JSON, and the bytes of its buffers.
 ghost use Rattle.std.specs.Prelude.{◌≡◌, IfOk, IfErr, OnOk};
-ghost use Rattle.std.specs.Cow.{cow_slice_items};
 ghost use Rattle.gltf_bundle.specs.Bundle.{IsLoaded, IsValueOf, AreGathered};
 ghost use Rattle.gltf_bundle.specs.Refusals.{RefusesSource, RefusesFile};
 ghost use Rattle.gltf_bundle.specs.declared.error.BundleError.TheVariants.{Import};
 ghost use Rattle.gltf_glb.specs.declared.error.Error.TheVariants.{Memory};
-ghost use Rattle.gltf.specs.Import.{AreParts};
-ghost use Rattle.gltf_glb.specs.Glb.{items_of};
 ghost use Rattle.gltf_buffers.specs.Names.{names_of};
 ghost use Rattle.serde_json.specs.View.{view};
 
 use crate::error::BundleError;
 use crate::images::pictures_of;
 use gltf::buffer::Data;
-use gltf::{Gltf, Name, NamedBytes, import_buffers_from};
+use gltf::laws::one_text_and_blob;
+use gltf::{Gltf, Name, NamedBytes, import_buffers_from, text_and_blob};
 use gltf_buffers::Ask;
 use gltf_edit::Picture;
-use gltf_glb::binary::Header;
-use gltf_glb::laws::one_reading;
-use gltf_glb::{Error, Glb};
+use gltf_glb::Error;
 use serde_json::Value;
 use std::alloc::Global;
-use std::borrow::CowSlice;
 
 /// The value of a file's JSON, and the bytes of its buffers.
 #[derive(Drop)]
@@ -42,7 +37,7 @@ pub fn load<S: NamedBytes>(alloc: Global, source: &mut S, path: &str) -> Result<
         ≡ names_of (S.bytes_by_name source.old)) }
 {
     // A law that the proof stands on; the call does nothing.
-    one_reading();
+    one_text_and_blob();
     let bytes = match source.ask(alloc, Name::File(path)) {
         Ok(bytes) => bytes,
         Err(error) => return Err(BundleError::Import(error)),
@@ -101,31 +96,11 @@ fn value_of(alloc: Global, bytes: &[u8]) -> Result<Value, BundleError>
     ensures memory { IfErr result (λ e. e ≡ Import Memory) }
 {
     // The file was accepted, so it has a text, which is that of a value.
-    let Ok(glb) = glb_of(bytes) else {
+    let Ok((text, _)) = text_and_blob(bytes) else {
         return Err(BundleError::Import(Error::Memory));
     };
-    match Value::from_slice(alloc, glb.json.as_slice()) {
+    match Value::from_slice(alloc, text.as_slice()) {
         Ok(value) => Ok(value),
         Err(_) => Err(BundleError::Import(Error::Memory)),
     }
-}
-
-/// The JSON text and the blob of a file, lent. The header is that of no file.
-#[tactic(auto, unfolding(gltf::specs::Import::AreParts))]
-fn glb_of(bytes: &[u8]) -> gltf_glb::Result<Glb<'_>>
-    ensures { IfOk result (λ glb. AreParts bytes.now (cow_slice_items glb.json)
-        (items_of glb.bin)) }
-{
-    if bytes.starts_with(b"glTF") {
-        return Glb::from_slice(bytes);
-    }
-    Ok(Glb {
-        header: Header {
-            magic: *b"glTF",
-            version: 2,
-            length: 0,
-        },
-        json: CowSlice::Borrowed(bytes),
-        bin: None,
-    })
 }

@@ -9,7 +9,8 @@ use Rattle.gltf_extension_records.specs.declared.material.DiffuseTransmission.{D
 use Rattle.gltf_extension_records.specs.declared.material.Dispersion.{Dispersion}
 use Rattle.gltf_extension_records.specs.declared.material.Iridescence.{Iridescence}
 use Rattle.gltf_extension_records.specs.declared.material.Sheen.{Sheen}
-use Rattle.gltf_c_extensions.specs.Reading.{IsShown, material_value}
+use Rattle.gltf_c_scene.specs.declared.kind.Kind.TheVariants.{Materials}
+use Rattle.gltf_c_extensions.specs.Reading.{IsShown}
 use Rattle.gltf_c_extensions.specs.Uses.{info_use, normal_use}
 use Rattle.gltf_c_extensions.specs.declared.material.GltfAnisotropy.{GltfAnisotropy}
 use Rattle.gltf_c_extensions.specs.declared.material.GltfClearcoat.{GltfClearcoat}
@@ -34,8 +35,8 @@ shown_clearcoat it = record {
 
 abbrev pub IsClearcoat : ℕ → Root → Result GltfClearcoat Missing → Type 0
 IsClearcoat index r =
-    IsShown kinds.clearcoat rules.clearcoat_rules shown_clearcoat r
-    (material_value (codes "KHR_materials_clearcoat") index r)
+    IsShown kinds.clearcoat rules.clearcoat_rules shown_clearcoat
+    Materials (codes "KHR_materials_clearcoat") index r
 
 -- KHR_materials_sheen
 abbrev pub shown_sheen : Sheen → GltfSheen
@@ -49,8 +50,8 @@ shown_sheen it = record {
 
 abbrev pub IsSheen : ℕ → Root → Result GltfSheen Missing → Type 0
 IsSheen index r =
-    IsShown kinds.sheen rules.sheen_rules shown_sheen r
-    (material_value (codes "KHR_materials_sheen") index r)
+    IsShown kinds.sheen rules.sheen_rules shown_sheen
+    Materials (codes "KHR_materials_sheen") index r
 
 -- KHR_materials_iridescence
 abbrev pub shown_iridescence : Iridescence → GltfIridescence
@@ -66,8 +67,8 @@ shown_iridescence it = record {
 
 abbrev pub IsIridescence : ℕ → Root → Result GltfIridescence Missing → Type 0
 IsIridescence index r =
-    IsShown kinds.iridescence rules.iridescence_rules shown_iridescence r
-    (material_value (codes "KHR_materials_iridescence") index r)
+    IsShown kinds.iridescence rules.iridescence_rules shown_iridescence
+    Materials (codes "KHR_materials_iridescence") index r
 
 -- KHR_materials_anisotropy
 abbrev pub shown_anisotropy : Anisotropy → GltfAnisotropy
@@ -80,8 +81,8 @@ shown_anisotropy it = record {
 
 abbrev pub IsAnisotropy : ℕ → Root → Result GltfAnisotropy Missing → Type 0
 IsAnisotropy index r =
-    IsShown kinds.anisotropy rules.anisotropy_rules shown_anisotropy r
-    (material_value (codes "KHR_materials_anisotropy") index r)
+    IsShown kinds.anisotropy rules.anisotropy_rules shown_anisotropy
+    Materials (codes "KHR_materials_anisotropy") index r
 
 -- KHR_materials_dispersion
 abbrev pub shown_dispersion : Dispersion → GltfDispersion
@@ -92,8 +93,8 @@ shown_dispersion it = record {
 
 abbrev pub IsDispersion : ℕ → Root → Result GltfDispersion Missing → Type 0
 IsDispersion index r =
-    IsShown kinds.dispersion rules.dispersion_rules shown_dispersion r
-    (material_value (codes "KHR_materials_dispersion") index r)
+    IsShown kinds.dispersion rules.dispersion_rules shown_dispersion
+    Materials (codes "KHR_materials_dispersion") index r
 
 -- KHR_materials_diffuse_transmission
 abbrev pub shown_diffuse_transmission : DiffuseTransmission → GltfDiffuseTransmission
@@ -107,5 +108,5 @@ shown_diffuse_transmission it = record {
 
 abbrev pub IsDiffuseTransmission : ℕ → Root → Result GltfDiffuseTransmission Missing → Type 0
 IsDiffuseTransmission index r =
-    IsShown kinds.diffuse_transmission rules.diffuse_transmission_rules shown_diffuse_transmission r
-    (material_value (codes "KHR_materials_diffuse_transmission") index r)
+    IsShown kinds.diffuse_transmission rules.diffuse_transmission_rules shown_diffuse_transmission
+    Materials (codes "KHR_materials_diffuse_transmission") index r

@@ -8,7 +8,8 @@ use Rattle.gltf_json.specs.declared.root.Root.{Root}
 use Rattle.gltf_extension_records.specs.Others as kinds
 use Rattle.gltf_extension_records.specs.declared.others.XmpPacket.{XmpPacket}
 use Rattle.gltf_extensions.specs.Metadata.{packets_of}
-use Rattle.gltf_c_look.specs.Json.{extension_of}
+use Rattle.gltf_c_scene.specs.declared.kind.Kind.TheVariants.{Root as RootKind}
+use Rattle.gltf_c_look.specs.Json.{extension_of, extension_at}
 use Rattle.gltf_c_extensions.specs.declared.reading.Missing.{Missing}
 use Rattle.gltf_c_extensions.specs.declared.reading.Missing.TheVariants.{Absent, Bad, Memory}
 
@@ -16,7 +17,7 @@ use Rattle.gltf_c_extensions.specs.declared.reading.Missing.TheVariants.{Absent,
 abbrev pub packet_count : Root → ℕ
 packet_count r =
     unwrap_or (option_map (λ v. length (packets_of (view v)))
-    (extension_of (codes "KHR_xmp_json_ld") 18 0 0 r)) 0
+    (extension_at (codes "KHR_xmp_json_ld") RootKind 0 r)) 0
 
 -- the packet that an extension names, out of n; there is none where the extension does not fit its
 -- table, or names one that is not there

@@ -7,7 +7,8 @@ use Rattle.gltf_extension_records.specs.Rules.{mesh_gpu_instancing_rules}
 use Rattle.gltf_extension_records.specs.declared.node.MeshGpuInstancing.{MeshGpuInstancing}
 use Rattle.gltf_extension_records.specs.declared.node.NodeVisibility.{NodeVisibility}
 use Rattle.gltf_c_scene.specs.Values.{index_or_none, one_or_zero}
-use Rattle.gltf_c_extensions.specs.Reading.{IsShown, node_value}
+use Rattle.gltf_c_scene.specs.declared.kind.Kind.TheVariants.{Nodes}
+use Rattle.gltf_c_extensions.specs.Reading.{IsShown}
 use Rattle.gltf_c_extensions.specs.declared.node.GltfInstancing.{GltfInstancing}
 use Rattle.gltf_c_extensions.specs.declared.node.GltfVisibility.{GltfVisibility}
 use Rattle.gltf_c_extensions.specs.declared.reading.Missing.{Missing}
@@ -23,8 +24,8 @@ shown_instancing it = record {
 
 abbrev pub IsInstancing : ℕ → Root → Result GltfInstancing Missing → Type 0
 IsInstancing index r =
-    IsShown mesh_gpu_instancing mesh_gpu_instancing_rules shown_instancing r
-    (node_value (codes "EXT_mesh_gpu_instancing") index r)
+    IsShown mesh_gpu_instancing mesh_gpu_instancing_rules shown_instancing
+    Nodes (codes "EXT_mesh_gpu_instancing") index r
 
 -- KHR_node_visibility
 abbrev pub shown_visibility : NodeVisibility → GltfVisibility
@@ -36,5 +37,5 @@ shown_visibility it = record {
 
 abbrev pub IsVisibility : ℕ → Root → Result GltfVisibility Missing → Type 0
 IsVisibility index r =
-    IsShown node_visibility (λ _ _. Nothing) shown_visibility r
-    (node_value (codes "KHR_node_visibility") index r)
+    IsShown node_visibility (λ _ _. Nothing) shown_visibility
+    Nodes (codes "KHR_node_visibility") index r

@@ -9,23 +9,10 @@ use Rattle.gltf_json_record.specs.Kind.{Kind}
 use Rattle.gltf_validation.specs.Documents.{counts_of}
 use Rattle.gltf_validation.specs.Rules.{Rules, Hold}
 use Rattle.gltf_validation.specs.declared.counts.Counts.{Counts}
-use Rattle.gltf_c_look.specs.Json.{extension_of}
+use Rattle.gltf_c_look.specs.Json.{extension_at}
+use Rattle.gltf_c_scene.specs.declared.kind.Kind.{Kind as RecordKind}
 use Rattle.gltf_c_extensions.specs.declared.reading.Missing.{Missing}
 use Rattle.gltf_c_extensions.specs.declared.reading.Missing.TheVariants.{Absent, Bad, Memory}
-
--- what the view, the node, the material or the texture at an index has under a name: the value of
--- which gltf_json gives the text
-abbrev pub view_value : List ℕ → ℕ → Root → Option Value
-view_value name index r = extension_of name 1 index 0 r
-
-abbrev pub node_value : List ℕ → ℕ → Root → Option Value
-node_value name index r = extension_of name 4 index 0 r
-
-abbrev pub material_value : List ℕ → ℕ → Root → Option Value
-material_value name index r = extension_of name 5 index 0 r
-
-abbrev pub texture_value : List ℕ → ℕ → Root → Option Value
-texture_value name index r = extension_of name 10 index 0 r
 
 -- a reading breaks a rule in the document r
 abbrev pub Breaks : {T : Type 0} → Kind T → (Counts → T → Rules) → Root → Data → Type 0
@@ -51,7 +38,9 @@ abbrev pub shown_of : {T S : Type 0} → (T → S) → Result T Missing → Resu
 shown_of shown (Ok x) = Ok (shown x)
 shown_of shown (Err why) = Err why
 
-abbrev pub IsShown : {T S : Type 0} → Kind T → (Counts → T → Rules) → (T → S) → Root
-    → Option Value → Result S Missing → Type 0
-IsShown {T} {S} K R shown r value result =
-    (found : Result T Missing) × IsRead K R r value found × (result ≡ shown_of shown found)
+-- of an extension of the record of a kind at an index, by its name
+abbrev pub IsShown : {T S : Type 0} → Kind T → (Counts → T → Rules) → (T → S)
+    → RecordKind → List ℕ → ℕ → Root → Result S Missing → Type 0
+IsShown {T} {S} K R shown kind name index r result =
+    (found : Result T Missing) × IsRead K R r (extension_at name kind index r) found
+    × (result ≡ shown_of shown found)

@@ -9,7 +9,8 @@ use Rattle.gltf_extension_records.specs.declared.view.MeshoptFilter.{MeshoptFilt
 use Rattle.gltf_extension_records.specs.declared.view.MeshoptFilter.TheVariants as filter
 use Rattle.gltf_extension_records.specs.declared.view.MeshoptMode.{MeshoptMode}
 use Rattle.gltf_extension_records.specs.declared.view.MeshoptMode.TheVariants as mode
-use Rattle.gltf_c_extensions.specs.Reading.{IsShown, view_value}
+use Rattle.gltf_c_scene.specs.declared.kind.Kind.TheVariants.{BufferViews}
+use Rattle.gltf_c_extensions.specs.Reading.{IsShown}
 use Rattle.gltf_c_extensions.specs.declared.reading.Missing.{Missing}
 use Rattle.gltf_c_extensions.specs.declared.view.GltfMeshopt.{GltfMeshopt}
 
@@ -40,5 +41,5 @@ shown_meshopt it = record {
 
 abbrev pub IsMeshopt : ℕ → Root → Result GltfMeshopt Missing → Type 0
 IsMeshopt index r =
-    IsShown meshopt_compression meshopt_compression_rules shown_meshopt r
-    (view_value (codes "EXT_meshopt_compression") index r)
+    IsShown meshopt_compression meshopt_compression_rules shown_meshopt
+    BufferViews (codes "EXT_meshopt_compression") index r

@@ -1,31 +1,21 @@
 //! The extensions of materials that the loader keeps as JSON.
 ghost use Rattle.std.specs.Prelude.{◌≡◌};
-ghost use Rattle.std.specs.Option.{option_copied};
 ghost use Rattle.gltf_c_extensions.specs.Materials.{IsClearcoat, IsSheen, IsIridescence};
 ghost use Rattle.gltf_c_extensions.specs.Materials.{IsAnisotropy, IsDispersion};
 ghost use Rattle.gltf_c_extensions.specs.Materials.{IsDiffuseTransmission};
 ghost use Rattle.gltf_c_extensions.specs.Materials.{shown_clearcoat, shown_sheen};
 ghost use Rattle.gltf_c_extensions.specs.Materials.{shown_iridescence, shown_anisotropy};
 ghost use Rattle.gltf_c_extensions.specs.Materials.{shown_dispersion, shown_diffuse_transmission};
-ghost use Rattle.gltf_c_extensions.specs.Reading.{material_value};
 
-use crate::reading::{Missing, read};
+use crate::reading::{Missing, read_at};
 use crate::uses::{info_use, normal_use};
-use gltf_c_look::json::extension;
 use gltf_c_look::uses::GltfTextureUse;
+use gltf_c_scene::kind::Kind;
 use gltf_extension_records::material::{
     Anisotropy, Clearcoat, DiffuseTransmission, Dispersion, Iridescence, Sheen,
 };
 use gltf_json::Root;
-use serde_json::Value;
 use std::alloc::Global;
-
-/// What the material at an index has under a name. 5 is the number of the kind.
-fn material_value<'a>(root: &'a Root, index: usize, name: &str) -> Option<&'a Value>
-    ensures { option_copied result ≡ material_value name.now index root.now }
-{
-    extension(root, 5, index, 0, name)
-}
 
 /// The extension `KHR_materials_clearcoat`. C declares the same struct.
 #[repr(C)]
@@ -49,11 +39,8 @@ pub struct GltfClearcoat {
 pub fn clearcoat(alloc: Global, root: &Root, index: usize) -> Result<GltfClearcoat, Missing>
     ensures { IsClearcoat index root.now result }
 {
-    let value = material_value(root, index, "KHR_materials_clearcoat");
-    match read(alloc, root, value) {
-        Ok(it) => Ok(shown_clearcoat(&it)),
-        Err(missing) => Err(missing),
-    }
+    let it = read_at(alloc, root, Kind::Materials, index, "KHR_materials_clearcoat")?;
+    Ok(shown_clearcoat(&it))
 }
 
 fn shown_clearcoat(it: &Clearcoat) -> GltfClearcoat
@@ -89,11 +76,8 @@ pub struct GltfSheen {
 pub fn sheen(alloc: Global, root: &Root, index: usize) -> Result<GltfSheen, Missing>
     ensures { IsSheen index root.now result }
 {
-    let value = material_value(root, index, "KHR_materials_sheen");
-    match read(alloc, root, value) {
-        Ok(it) => Ok(shown_sheen(&it)),
-        Err(missing) => Err(missing),
-    }
+    let it = read_at(alloc, root, Kind::Materials, index, "KHR_materials_sheen")?;
+    Ok(shown_sheen(&it))
 }
 
 fn shown_sheen(it: &Sheen) -> GltfSheen
@@ -132,11 +116,8 @@ pub struct GltfIridescence {
 pub fn iridescence(alloc: Global, root: &Root, index: usize) -> Result<GltfIridescence, Missing>
     ensures { IsIridescence index root.now result }
 {
-    let value = material_value(root, index, "KHR_materials_iridescence");
-    match read(alloc, root, value) {
-        Ok(it) => Ok(shown_iridescence(&it)),
-        Err(missing) => Err(missing),
-    }
+    let it = read_at(alloc, root, Kind::Materials, index, "KHR_materials_iridescence")?;
+    Ok(shown_iridescence(&it))
 }
 
 fn shown_iridescence(it: &Iridescence) -> GltfIridescence
@@ -171,11 +152,8 @@ pub struct GltfAnisotropy {
 pub fn anisotropy(alloc: Global, root: &Root, index: usize) -> Result<GltfAnisotropy, Missing>
     ensures { IsAnisotropy index root.now result }
 {
-    let value = material_value(root, index, "KHR_materials_anisotropy");
-    match read(alloc, root, value) {
-        Ok(it) => Ok(shown_anisotropy(&it)),
-        Err(missing) => Err(missing),
-    }
+    let it = read_at(alloc, root, Kind::Materials, index, "KHR_materials_anisotropy")?;
+    Ok(shown_anisotropy(&it))
 }
 
 fn shown_anisotropy(it: &Anisotropy) -> GltfAnisotropy
@@ -204,11 +182,8 @@ pub struct GltfDispersion {
 pub fn dispersion(alloc: Global, root: &Root, index: usize) -> Result<GltfDispersion, Missing>
     ensures { IsDispersion index root.now result }
 {
-    let value = material_value(root, index, "KHR_materials_dispersion");
-    match read(alloc, root, value) {
-        Ok(it) => Ok(shown_dispersion(&it)),
-        Err(missing) => Err(missing),
-    }
+    let it = read_at(alloc, root, Kind::Materials, index, "KHR_materials_dispersion")?;
+    Ok(shown_dispersion(&it))
 }
 
 fn shown_dispersion(it: &Dispersion) -> GltfDispersion
@@ -245,11 +220,8 @@ pub fn diffuse_transmission(
 ) -> Result<GltfDiffuseTransmission, Missing>
     ensures { IsDiffuseTransmission index root.now result }
 {
-    let value = material_value(root, index, "KHR_materials_diffuse_transmission");
-    match read(alloc, root, value) {
-        Ok(it) => Ok(shown_diffuse_transmission(&it)),
-        Err(missing) => Err(missing),
-    }
+    let it = read_at(alloc, root, Kind::Materials, index, "KHR_materials_diffuse_transmission")?;
+    Ok(shown_diffuse_transmission(&it))
 }
 
 fn shown_diffuse_transmission(it: &DiffuseTransmission) -> GltfDiffuseTransmission

@@ -5,7 +5,8 @@ ghost use Rattle.gltf_extensions.specs.Metadata.{packets_of};
 ghost use Rattle.gltf_c_extensions.specs.Metadata.{IsPacket, IsPacketOf, packet_count};
 
 use crate::reading::Missing;
-use gltf_c_look::json::extension;
+use gltf_c_look::json::{extension, extension_at};
+use gltf_c_scene::kind::Kind;
 use gltf_extension_records::others::XmpPacket;
 use gltf_extensions::xmp_packets;
 use gltf_json::Root;
@@ -48,11 +49,11 @@ fn packet_of(alloc: Global, value: &Value, count: usize) -> Result<usize, Missin
     }
 }
 
-/// How many packets a document has. 18 is the number of the root.
+/// How many packets a document has.
 fn packet_count(root: &Root) -> usize
     ensures { result ≡ packet_count root.now }
 {
-    match extension(root, 18, 0, 0, "KHR_xmp_json_ld") {
+    match extension_at(root, Kind::Root, 0, "KHR_xmp_json_ld") {
         Some(value) => count_in(value),
         None => 0,
     }

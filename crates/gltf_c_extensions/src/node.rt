@@ -1,16 +1,13 @@
 //! The extensions of nodes that the loader keeps as JSON.
 ghost use Rattle.std.specs.Prelude.{◌≡◌};
-ghost use Rattle.std.specs.Option.{option_copied};
 ghost use Rattle.gltf_c_extensions.specs.Nodes.{IsInstancing, IsVisibility};
 ghost use Rattle.gltf_c_extensions.specs.Nodes.{shown_instancing, shown_visibility};
-ghost use Rattle.gltf_c_extensions.specs.Reading.{node_value};
 
-use crate::reading::{Missing, read};
-use gltf_c_look::json::extension;
+use crate::reading::{Missing, read_at};
+use gltf_c_scene::kind::Kind;
 use gltf_c_scene::numbers::{index_or_none, one_or_zero};
 use gltf_extension_records::node::{MeshGpuInstancing, NodeVisibility};
 use gltf_json::Root;
-use serde_json::Value;
 use std::alloc::Global;
 
 /// The extension `EXT_mesh_gpu_instancing`. C declares the same struct.
@@ -39,22 +36,12 @@ pub struct GltfVisibility {
     pub reserved: [usize; 3],
 }
 
-/// What the node at an index has under a name. 4 is the number of the kind.
-fn node_value<'a>(root: &'a Root, index: usize, name: &str) -> Option<&'a Value>
-    ensures { option_copied result ≡ node_value name.now index root.now }
-{
-    extension(root, 4, index, 0, name)
-}
-
 /// The instances of the mesh of the node at an index (`EXT_mesh_gpu_instancing`).
 pub fn instancing(alloc: Global, root: &Root, index: usize) -> Result<GltfInstancing, Missing>
     ensures { IsInstancing index root.now result }
 {
-    let value = node_value(root, index, "EXT_mesh_gpu_instancing");
-    match read(alloc, root, value) {
-        Ok(it) => Ok(shown_instancing(&it)),
-        Err(missing) => Err(missing),
-    }
+    let it = read_at(alloc, root, Kind::Nodes, index, "EXT_mesh_gpu_instancing")?;
+    Ok(shown_instancing(&it))
 }
 
 fn shown_instancing(it: &MeshGpuInstancing) -> GltfInstancing
@@ -72,11 +59,8 @@ fn shown_instancing(it: &MeshGpuInstancing) -> GltfInstancing
 pub fn visibility(alloc: Global, root: &Root, index: usize) -> Result<GltfVisibility, Missing>
     ensures { IsVisibility index root.now result }
 {
-    let value = node_value(root, index, "KHR_node_visibility");
-    match read(alloc, root, value) {
-        Ok(it) => Ok(shown_visibility(&it)),
-        Err(missing) => Err(missing),
-    }
+    let it = read_at(alloc, root, Kind::Nodes, index, "KHR_node_visibility")?;
+    Ok(shown_visibility(&it))
 }
 
 fn shown_visibility(it: &NodeVisibility) -> GltfVisibility

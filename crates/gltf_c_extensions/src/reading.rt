@@ -1,9 +1,11 @@
 //! How an extension is read, and why there is none.
 ghost use Rattle.std.specs.Prelude.{◌≡◌};
-ghost use Rattle.std.specs.Option.{option_copied};
 ghost use Rattle.serde_json.specs.View.{view};
+ghost use Rattle.gltf_c_look.specs.Json.{extension_at};
 ghost use Rattle.gltf_c_extensions.specs.Reading.{IsValid, IsRead};
 
+use gltf_c_look::json::extension_at;
+use gltf_c_scene::kind::Kind;
 use gltf_json::Root;
 use gltf_json_record::error::Error;
 use gltf_json_record::read as record;
@@ -49,15 +51,17 @@ fn read_valid<R: FromValue + Validate>(
     }
 }
 
-/// The same of an extension that may be absent.
-pub(crate) fn read<R: FromValue + Validate>(
+/// The reading of an extension of the record of a kind at an index.
+pub(crate) fn read_at<R: FromValue + Validate>(
     alloc: Global,
     root: &Root,
-    value: Option<&Value>,
+    kind: Kind,
+    index: usize,
+    name: &str,
 ) -> Result<R, Missing>
-    ensures { IsRead R.kind R.rules root.now (option_copied value.entry) result }
+    ensures { IsRead R.kind R.rules root.now (extension_at name.now kind index root.now) result }
 {
-    match value {
+    match extension_at(root, kind, index, name) {
         Some(value) => read_valid(alloc, root, value),
         None => Err(Missing::Absent),
     }

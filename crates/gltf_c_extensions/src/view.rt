@@ -1,17 +1,14 @@
 //! Views whose bytes are compressed.
 ghost use Rattle.std.specs.Prelude.{◌≡◌};
-ghost use Rattle.std.specs.Option.{option_copied};
 ghost use Rattle.gltf_handles.specs.Sizes.{code_of};
-ghost use Rattle.gltf_c_extensions.specs.Reading.{view_value};
 ghost use Rattle.gltf_c_extensions.specs.Views.{IsMeshopt, shown_meshopt};
 ghost use Rattle.gltf_c_extensions.specs.Views.{mode_number, filter_number};
 
-use crate::reading::{Missing, read};
-use gltf_c_look::json::extension;
+use crate::reading::{Missing, read_at};
+use gltf_c_scene::kind::Kind;
 use gltf_extension_records::view::{MeshoptCompression, MeshoptFilter, MeshoptMode};
 use gltf_json::Root;
 use gltf_json_record::validation::Checked;
-use serde_json::Value;
 use std::alloc::Global;
 
 /// The extension `EXT_meshopt_compression`. C declares the same struct.
@@ -36,22 +33,12 @@ pub struct GltfMeshopt {
     pub reserved: [usize; 2],
 }
 
-/// What the view at an index has under a name. 1 is the number of the kind.
-fn view_value<'a>(root: &'a Root, index: usize, name: &str) -> Option<&'a Value>
-    ensures { option_copied result ≡ view_value name.now index root.now }
-{
-    extension(root, 1, index, 0, name)
-}
-
 /// How the view at an index is compressed (`EXT_meshopt_compression`).
 pub fn meshopt(alloc: Global, root: &Root, index: usize) -> Result<GltfMeshopt, Missing>
     ensures { IsMeshopt index root.now result }
 {
-    let value = view_value(root, index, "EXT_meshopt_compression");
-    match read(alloc, root, value) {
-        Ok(it) => Ok(shown_meshopt(&it)),
-        Err(missing) => Err(missing),
-    }
+    let it = read_at(alloc, root, Kind::BufferViews, index, "EXT_meshopt_compression")?;
+    Ok(shown_meshopt(&it))
 }
 
 fn shown_meshopt(it: &MeshoptCompression) -> GltfMeshopt

@@ -121,7 +121,12 @@ others_from Primitive index part r =
 others_from Channel index part r = None
 others_from AnimationSampler index part r = None
 
--- what a record has of an extension of that name
+-- what the record of a kind at an index has of an extension of that name
+abbrev pub extension_at : List ℕ → Kind → ℕ → Document → Option Value
+extension_at name kind index r =
+    option_and_then (λ others. get_by_text others name) (others_at kind index r)
+
+-- the same of the record of a number, or of a part of that record
 abbrev pub extension_of : List ℕ → ℕ → ℕ → ℕ → Document → Option Value
 extension_of name number index part r =
     option_and_then (λ others. get_by_text others name)

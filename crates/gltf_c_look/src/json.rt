@@ -2,7 +2,8 @@
 ghost use Rattle.std.specs.Prelude.{◌≡◌};
 ghost use Rattle.std.specs.Option.{option_copied};
 ghost use Rattle.gltf_handles.specs.Members.{unknown_extensions};
-ghost use Rattle.gltf_c_look.specs.Json.{place_of, extras_of, extension_of, others_at, extras_at};
+ghost use Rattle.gltf_c_look.specs.Json.{place_of, extras_of, extension_of, extension_at};
+ghost use Rattle.gltf_c_look.specs.Json.{others_at, extras_at};
 
 use gltf_c_scene::kind::{Kind, lights};
 use gltf_json::boxed::{Boxed, lent};
@@ -98,6 +99,13 @@ pub fn extension<'a>(
         Place::Channel | Place::AnimationSampler => return None,
     };
     others.get(name)
+}
+
+/// The same of the record of a kind at an index.
+pub fn extension_at<'a>(root: &'a Root, kind: Kind, index: usize, name: &str) -> Option<&'a Value>
+    ensures { option_copied result ≡ extension_at name.now kind index root.now }
+{
+    others_at(root, kind, index)?.get(name)
 }
 
 /// The extensions of the record of a kind at an index that the loader keeps as JSON.

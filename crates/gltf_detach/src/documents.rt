@@ -89,7 +89,8 @@ fn all_elsewhere(
 /// The URI of the element at an index.
 #[tactic(auto, using(crate::proofs::Lists::is_past))]
 fn uri_at(uris: &[Option<String>], index: usize) -> Option<&String>
-    ensures { option_map string_bytes (option_copied result) ≡ first (drop index (texts uris.now)) }
+    ensures { option_map string_bytes (option_copied result)
+        ≡ first (drop index (texts uris.now)) }
 {
     match uris.get(index) {
         Some(Some(uri)) => Some(uri),

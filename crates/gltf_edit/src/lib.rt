@@ -14,6 +14,6 @@ pub use bytes::append;
 pub use documents::bundled;
 pub use fault::Fault;
 pub use images::embedded;
-pub use members::{with_some, without_member};
+pub use members::{size_at, with_some, without_member};
 pub use picture::Picture;
 pub use span::Span;

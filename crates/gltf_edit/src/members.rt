@@ -8,7 +8,7 @@ use serde_json::{Value, put};
 use std::alloc::{AllocError, Global};
 
 /// A member that is a whole number below 2^64.
-pub(crate) fn size_at(value: &Value, name: &str) -> Option<u64>
+pub fn size_at(value: &Value, name: &str) -> Option<u64>
     ensures { result ≡ size_at name.now (view value.now) }
 {
     value.get(name).and_then(Value::as_u64)

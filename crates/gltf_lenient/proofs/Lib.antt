@@ -1,4 +1,3 @@
-mod Parts
 mod Layers
 mod Documents
 mod WithBuffers

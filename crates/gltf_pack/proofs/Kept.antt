@@ -7,7 +7,8 @@
 use Rattle.std.proofs.Common.{◌≡◌, ℕ, List, Option, option_map, subst, inl, inr}
 use Rattle.std.proofs.Common.{◌-◌, ◌%◌, length}
 use Rattle.gltf_glb.specs.Bytes.{padded}
-use Rattle.gltf_glb.specs.Laws.{OneReading, ReadsBack}
+use Rattle.gltf_glb.specs.Laws.{ReadsBack}
+use Rattle.gltf.specs.Laws.{OneTextAndBlob}
 use Rattle.gltf_glb.specs.declared.error.Error.{Error}
 use Rattle.gltf_json.specs.Reading.{Reads, Refuses}
 use Rattle.gltf_json.specs.declared.root.Root.{Root}
@@ -20,7 +21,7 @@ use Rattle.gltf_buffers.specs.Names.{Nowhere}
 use Rattle.gltf.specs.Import.{AreParts, IsDocument, IsValidDocument, Accepts}
 use Rattle.gltf.specs.Import.{RefusesText, RefusesRules, RefusesBuffers, RefusesImport}
 use Rattle.gltf_pack.specs.Laws.{SpacesBehind, ImportKept}
-use Rattle.gltf_pack.proofs.Parts.{one_parts, no_fault, answer_parts}
+use Rattle.gltf_pack.proofs.Parts.{no_fault, answer_parts}
 use Rattle.gltf_pack.proofs.Alike.{AreAlike, turned, same_buffers, same_fault, filled_blob}
 
 -- a fault of the one text is one of the other
@@ -33,11 +34,11 @@ refused_text text other blob rest (Record path fault) alike told =
 refused_text text other blob rest Memory alike told = tt
 
 -- one file with the parts of one, another with parts that are alike
-module _ (law : OneReading) (bytes answer text other : List ℕ) (blob rest : Option (List ℕ))
+module _ (law : OneTextAndBlob) (bytes answer text other : List ℕ) (blob rest : Option (List ℕ))
     (parts : AreParts bytes text blob) (others : AreParts answer other rest)
     (alike : AreAlike text other blob rest) where
   the_text : (t : List ℕ) (b : Option (List ℕ)) → AreParts bytes t b → (t ≡ text) × (b ≡ blob)
-  the_text t b are = one_parts law bytes text t blob b parts are
+  the_text t b are = law bytes text t blob b parts are
 
   document_too : (r : Root) (b : Option (List ℕ)) → IsDocument bytes r b → IsDocument answer r rest
   document_too r b document =
@@ -118,7 +119,7 @@ module _ (law : OneReading) (bytes answer text other : List ℕ) (blob rest : Op
   refused_too e (inl (inr refused)) = inl (inr (rules_too e refused))
   refused_too e (inr refused) = inr (buffers_too e refused)
 
-pub import_kept : OneReading → ReadsBack → SpacesBehind → ImportKept
+pub import_kept : OneTextAndBlob → ReadsBack → SpacesBehind → ImportKept
 import_kept law back spaces bytes answer is =
     let text = is.text in
     let blob = is.blob in

@@ -6,29 +6,14 @@ use Rattle.std.specs.List.{starts_with}
 use Rattle.gltf_glb.specs.Bytes.{magic, padded}
 use Rattle.gltf_glb.specs.Container.{IsContainer}
 use Rattle.gltf_glb.specs.Glb.{RefusesToWrite}
-use Rattle.gltf_glb.specs.Laws.{OneReading, ReadsBack, FilledOnce}
-use Rattle.gltf_glb.specs.ReadingLaws.{same_parts}
+use Rattle.gltf_glb.specs.Laws.{ReadsBack, FilledOnce}
 use Rattle.gltf_glb.specs.Written.{container_bytes, total_of}
 use Rattle.gltf_glb.specs.declared.error.Error.{Error}
 use Rattle.gltf_glb.specs.declared.error.Error.TheVariants.{Memory}
 use Rattle.gltf.specs.Import.{AreParts, RefusesContainer}
+use Rattle.gltf.specs.Laws.{OneTextAndBlob}
 use Rattle.gltf_pack.specs.Repacked.{IsRepacked, RefusesToRepack, HasNoAnswer}
 use Rattle.gltf_pack.specs.Laws.{RepackedAgain, OneAnswer}
-
-one_of : OneReading → (bytes text other : List ℕ) (blob rest : Option (List ℕ)) (begins : Bool)
-    → MatchBool begins (IsContainer bytes text blob) ((text ≡ bytes) × (blob ≡ None))
-    → MatchBool begins (IsContainer bytes other rest) ((other ≡ bytes) × (rest ≡ None))
-    → (other ≡ text) × (rest ≡ blob)
-one_of law bytes text other blob rest true p q =
-    same_parts (law bytes (Ok (other, rest)) (Ok (text, blob)) q p)
-one_of law bytes text other blob rest false p q = (q.0 ∙ sym p.0, q.1 ∙ sym p.1)
-
--- the bytes of a file have one text, and one blob at most
-pub one_parts : OneReading → (bytes text other : List ℕ) (blob rest : Option (List ℕ))
-    → AreParts bytes text blob → AreParts bytes other rest → (other ≡ text) × (rest ≡ blob)
-unfolding AreParts
-one_parts law bytes text other blob rest p q =
-    one_of law bytes text other blob rest (starts_with nat_eq bytes magic) p q
 
 -- what has parts has no fault of a container
 pub no_fault : (bytes text : List ℕ) (blob : Option (List ℕ)) (e : Error)
@@ -51,9 +36,9 @@ answer_parts law bytes answer is =
     subst (λ t. AreParts t (padded 32 is.text) (option_map (padded 0) is.blob)) (sym is.written)
     (parts_written law is.text is.blob is.fits)
 
-pub one_answer : OneReading → OneAnswer
+pub one_answer : OneTextAndBlob → OneAnswer
 one_answer law bytes answer is other also =
-    let same = one_parts law bytes is.text also.text is.blob also.blob is.parts also.parts in
+    let same = law bytes is.text also.text is.blob also.blob is.parts also.parts in
     also.written ∙ (λ i. container_bytes (same.0 i) (same.1 i)) ∙ sym is.written
 
 -- parts that fit are refused only for lack of memory
@@ -63,23 +48,23 @@ memory_alone text blob e fits (inl long) = let past = long.2 in absurd (omega ar
 memory_alone text blob e fits (inr memory) = memory.0
 
 -- what is repacked is refused only for lack of memory
-pub only_memory : OneReading → (bytes answer : List ℕ) (e : Error) → IsRepacked bytes answer
+pub only_memory : OneTextAndBlob → (bytes answer : List ℕ) (e : Error) → IsRepacked bytes answer
     → RefusesToRepack bytes e → e ≡ Memory
 only_memory law bytes answer e is (inl refused) =
     absurd (no_fault bytes is.text is.blob e is.parts refused)
 only_memory law bytes answer e is (inr refused) =
-    let same = one_parts law bytes is.text refused.text is.blob refused.blob is.parts refused.parts
+    let same = law bytes is.text refused.text is.blob refused.blob is.parts refused.parts
     in
     let long : total_of refused.text refused.blob ≡ total_of is.text is.blob =
     λ i. total_of (same.0 i) (same.1 i) in
     let fits = is.fits in
     memory_alone refused.text refused.blob e (omega arith) refused.refused
 
-pub no_answer : OneReading → (bytes : List ℕ) (e : Error) → RefusesToRepack bytes e → e ≢ Memory
+pub no_answer : OneTextAndBlob → (bytes : List ℕ) (e : Error) → RefusesToRepack bytes e → e ≢ Memory
     → HasNoAnswer bytes
 no_answer law bytes e refused other answer is = other (only_memory law bytes answer e is refused)
 
-pub repacked_again : OneReading → ReadsBack → FilledOnce → RepackedAgain
+pub repacked_again : OneTextAndBlob → ReadsBack → FilledOnce → RepackedAgain
 repacked_again law back once bytes answer is =
     let filled = once is.text is.blob in
     let fits = is.fits in

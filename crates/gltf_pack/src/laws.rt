@@ -2,7 +2,8 @@
 //! that does nothing, from the laws of the container and the definitions of the loader.
 ghost use Rattle.gltf_pack.specs.Laws.{SpacesBehind, OneAnswer, RepackedAgain, ImportKept};
 
-use gltf_glb::laws::{filled_once, one_reading, reads_back};
+use gltf::laws::one_text_and_blob;
+use gltf_glb::laws::{filled_once, reads_back};
 
 /// Spaces after a JSON text do not change what is read from it: `serde_json` reads a text by its
 /// tokens, and such spaces are in none and make none.
@@ -14,7 +15,7 @@ pub fn spaces_behind()
 pub fn one_answer()
     ensures { OneAnswer }
 {
-    one_reading();
+    one_text_and_blob();
 }
 
 /// What was repacked is repacked to the same bytes, and refused only where there is not enough
@@ -22,7 +23,7 @@ pub fn one_answer()
 pub fn repacked_again()
     ensures { RepackedAgain }
 {
-    one_reading();
+    one_text_and_blob();
     reads_back();
     filled_once();
 }
@@ -32,7 +33,7 @@ pub fn repacked_again()
 pub fn import_kept()
     ensures { ImportKept }
 {
-    one_reading();
+    one_text_and_blob();
     reads_back();
     spaces_behind();
 }

@@ -4,4 +4,4 @@
 pub mod laws;
 mod packing;
 
-pub use packing::repack;
+pub use packing::{container, repack};

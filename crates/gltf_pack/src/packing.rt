@@ -1,15 +1,15 @@
 //! One container out of the bytes of a file.
 ghost use Rattle.std.specs.Prelude.{◌≢◌, IfOk, IfErr};
 ghost use Rattle.std.specs.Cow.{cow_slice_items};
-ghost use Rattle.gltf_glb.specs.Glb.{items_of};
+ghost use Rattle.gltf_glb.specs.Glb.{items_of, IsWritten, RefusesToWrite};
 ghost use Rattle.gltf_glb.specs.declared.error.Error.TheVariants.{Memory};
-ghost use Rattle.gltf.specs.Import.{AreParts, RefusesContainer};
 ghost use Rattle.gltf_pack.specs.Repacked.{IsRepacked, RefusesToRepack, IsOnlyAnswer, HasNoAnswer};
 ghost use Rattle.gltf_pack.specs.Laws.{SameImport, IsFixed};
 
 use crate::laws::{import_kept, one_answer, repacked_again};
+use gltf::laws::one_text_and_blob;
+use gltf::text_and_blob;
 use gltf_glb::binary::Header;
-use gltf_glb::laws::one_reading;
 use gltf_glb::{Glb, Result};
 use std::alloc::Global;
 use std::borrow::CowSlice;
@@ -34,7 +34,7 @@ pub fn repack(alloc: Global, bytes: &[u8]) -> Result<Vec<u8>>
     ensures exact { IfErr result (λ e. e ≢ Memory → HasNoAnswer bytes.now) }
 {
     // Laws that the proof stands on; the calls do nothing.
-    one_reading();
+    one_text_and_blob();
     one_answer();
     import_kept();
     repacked_again();
@@ -46,27 +46,29 @@ fn container_of(alloc: Global, bytes: &[u8]) -> Result<Vec<u8>>
     ensures written { IfOk result (λ answer. IsRepacked bytes.now answer.items) }
     ensures refused { IfErr result (RefusesToRepack bytes.now) }
 {
-    glb_of(bytes)?.to_vec(alloc)
+    let (json, blob) = text_and_blob(bytes)?;
+    container(alloc, json, blob)
 }
 
-/// The text and the blob of a file, lent. The header is that of no file: it is not looked at when
-/// the parts are written.
-#[tactic(auto, unfolding(gltf::specs::Import::AreParts))]
-fn glb_of(bytes: &[u8]) -> Result<Glb<'_>>
-    ensures parts { IfOk result (λ glb. AreParts bytes.now (cow_slice_items glb.json)
-        (items_of glb.bin)) }
-    ensures refused { IfErr result (RefusesContainer bytes.now) }
+/// A JSON text and a blob as one container (glTF 2.0, section 4.4), as [`Glb::to_vec`] writes it.
+pub fn container(
+    alloc: Global,
+    json: CowSlice<'_, u8>,
+    blob: Option<CowSlice<'_, u8>>,
+) -> Result<Vec<u8>>
+    ensures written { IfOk result (IsWritten (cow_slice_items json.entry) (items_of blob.entry)) }
+    ensures refused { IfErr result
+        (RefusesToWrite (cow_slice_items json.entry) (items_of blob.entry)) }
 {
-    if bytes.starts_with(b"glTF") {
-        return Glb::from_slice(bytes);
-    }
-    Ok(Glb {
+    // The header is that of no file: it is not looked at when the parts are written.
+    let glb = Glb {
         header: Header {
             magic: *b"glTF",
             version: 2,
             length: 0,
         },
-        json: CowSlice::Borrowed(bytes),
-        bin: None,
-    })
+        json,
+        bin: blob,
+    };
+    glb.to_vec(alloc)
 }

@@ -1,20 +1,19 @@
 //! The files of images (glTF 2.0, section 3.8.3).
-ghost use Rattle.std.specs.Prelude.{◌≡◌, IfOk, IfErr, OnOk, Some, false, codes, option_copied};
-ghost use Rattle.std.specs.Prelude.{string_bytes};
+ghost use Rattle.std.specs.Prelude.{◌≡◌, IfOk, IfErr, OnOk, Some, false, codes, string_bytes};
 ghost use Rattle.serde_json.specs.View.{view, items_view};
 ghost use Rattle.gltf_buffers.specs.Shown.{bytes_of_each};
 ghost use Rattle.gltf_edit.specs.Embedded.{items_at};
-ghost use Rattle.gltf_bundle.specs.Images.{text_at};
 ghost use Rattle.gltf.specs.Shown.{blob_bytes};
 ghost use Rattle.gltf_split.specs.Images.{AreImages, AreParts, MayBePart, HasOwn, name_for};
 ghost use Rattle.gltf_split.specs.Images.{RefusesImages, RefusesOwn, RefusesView};
 ghost use Rattle.gltf_split.specs.Views.{view_bytes};
 
-use crate::views::{size_at, view_bytes};
+use crate::views::view_bytes;
 use gltf::buffer::Data;
 use gltf_buffers::Ask;
-use gltf_bundle::{BundleError, begun_media, image_bytes};
+use gltf_bundle::{BundleError, begun_media, image_bytes, text_at};
 use gltf_detach::{Part, ending_of, image_name};
+use gltf_edit::size_at;
 use serde_json::Value;
 use std::alloc::{AllocError, Global};
 
@@ -149,11 +148,4 @@ fn viewed(
         Some(bytes) => Ok(Vec::from_slice(alloc, bytes)?),
         None => Err(BundleError::View(index as usize)),
     }
-}
-
-/// A member that is a text.
-fn text_at<'a>(value: &'a Value, name: &str) -> Option<&'a str>
-    ensures { option_copied result ≡ text_at name.now (view value.now) }
-{
-    value.get(name).and_then(Value::as_str)
 }

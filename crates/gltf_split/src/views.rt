@@ -2,10 +2,10 @@
 ghost use Rattle.std.specs.Prelude.{◌≡◌, option_copied};
 ghost use Rattle.serde_json.specs.View.{view};
 ghost use Rattle.gltf_buffers.specs.Shown.{bytes_of_each};
-ghost use Rattle.gltf_edit.specs.Bundled.{size_at};
 ghost use Rattle.gltf_split.specs.Views.{view_bytes, bytes_in, bytes_at, cut};
 
 use gltf::buffer::Data;
+use gltf_edit::size_at;
 use serde_json::Value;
 
 /// The bytes of the view at an index of the document's list. None where it is not there, or does
@@ -47,11 +47,4 @@ fn cut(bytes: &[u8], offset: u64, length: u64) -> Option<&[u8]>
         return None;
     }
     Some(&bytes[offset as usize..(offset + length) as usize])
-}
-
-/// A member that is a whole number below 2^64.
-pub(crate) fn size_at(value: &Value, name: &str) -> Option<u64>
-    ensures { result ≡ size_at name.now (view value.now) }
-{
-    value.get(name).and_then(Value::as_u64)
 }

@@ -3,7 +3,7 @@ use Rattle.gltf_bundle.proofs.laws.needs_no_file.Goals as goal
 
 pub returns : goal.returns
 returns c names path keep answer is over s others accepted =
-    let one = c.one_reading.ensures in
+    let one = c.one_text_and_blob.ensures in
     let back = c.reads_back.ensures in
     let spaces = c.spaces_behind.ensures in (
       no_buffer_uri one back spaces names path keep answer is over s others accepted,

@@ -23,4 +23,4 @@ pub returns-clause-exact : goal.returns-clause-exact
 returns-clause-exact c =
     IfErr-weaker c.container_of.result (RefusesToRepack c.args.bytes.now)
     (λ e. e ≢ Memory → HasNoAnswer c.args.bytes.now)
-    (no_answer c.one_reading.ensures c.args.bytes.now) c.container_of.ensures.refused
+    (no_answer c.one_text_and_blob.ensures c.args.bytes.now) c.container_of.ensures.refused

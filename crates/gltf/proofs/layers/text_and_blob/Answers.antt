@@ -1,8 +1,8 @@
 use Rattle.std.proofs.Common.{sym}
 use Rattle.std.proofs.lemmas.Result.{err_from_is_err_and}
-use Rattle.gltf_lenient.proofs.Parts.{container_parts, one_container, refuses_container}
-use Rattle.gltf_lenient.proofs.Parts.{no_container}
-use Rattle.gltf_lenient.proofs.records.parts_of.Goals as goal
+use Rattle.gltf.proofs.Parts.{container_parts, one_container, refuses_container}
+use Rattle.gltf.proofs.Parts.{no_container}
+use Rattle.gltf.proofs.layers.text_and_blob.Goals as goal
 
 pub returns-in_err-glb-clause-refused : goal.returns-in_err-glb-clause-refused
 returns-in_err-glb-clause-refused c =

@@ -5,7 +5,7 @@ use Rattle.gltf_buffers.specs.Uri as uri
 use Rattle.gltf_buffers.specs.Meanings.{meaning}
 use Rattle.gltf_buffers.specs.Names.{name_of}
 use Rattle.gltf_buffers.proofs.Asked.{name_meant}
-use Rattle.gltf_buffers.proofs.reference.bytes_behind.Goals as goal
+use Rattle.gltf_buffers.proofs.reference.bytes_of_uri.Goals as goal
 
 pub returns-in-File-clause-ok : goal.returns-in-File-clause-ok
 returns-in-File-clause-ok g c =
