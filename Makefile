@@ -39,7 +39,7 @@ help:
 	@echo '  make stack [WORDS=--measure]               runs them, and the library for C, with little stack'
 	@echo '  make coverage [FILES=400]                  says which code of that library the fuzzer reaches'
 	@echo '  make wrong [NAME=CRATE]                    tries the wrong bodies of a crate'
-	@echo '  make bench [NAME=items|records|import|files|convert|peers|c] [WORDS=..]  runs the benchmarks'
+	@echo '  make bench [NAME=NAME] [WORDS=..]          runs a benchmark of benches/, or all of them'
 	@echo '  make test                                  the gate: all proofs and all tests'
 
 show:
@@ -79,7 +79,7 @@ case:
 	@python3 tools/case.py
 
 # Each in turn. WORDS are passed on, as in `make bench NAME=peers WORDS=--quick`.
-BENCHES += profile memory
+BENCHES += profile memory inspect
 bench:
 	@for it in $(or $(NAME),$(BENCHES)); do \
 		test -x "benches/$$it/run.sh" || { \

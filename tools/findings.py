@@ -7,6 +7,7 @@ the rule and one that just does not. What nothing names, UNUSED_OBJECT, is left 
 import base64
 import json
 import pathlib
+import struct
 import subprocess
 import sys
 import tempfile
@@ -187,6 +188,35 @@ ROWS += [
     (textured(1, extensions={"KHR_materials_specular": {"specularColorTexture": texture(1)}}), FEW),
 ]
 
+TARGET = [("BUFFER_VIEW_TARGET_MISSING", "/bufferViews/0")]
+
+
+def two_views(first, second, **mesh):
+    """Positions in a view, and another accessor in another view."""
+    made = attributes() | {
+        "buffers": [{"byteLength": 42, "uri": "data:;base64," + base64.b64encode(
+            bytes(36) + bytes([0, 0, 1, 0, 2, 0])).decode()}],
+        "bufferViews": [{"buffer": 0, "byteLength": 36} | first,
+                        {"buffer": 0, "byteOffset": 36, "byteLength": 6} | second],
+        "accessors": [POSITIONS | {"bufferView": 0, "max": [0, 0, 0]},
+                      accessor("SCALAR", U16, bufferView=1)]}
+    made["meshes"][0]["primitives"][0] |= mesh
+    return made
+
+
+VERTICES, ELEMENTS = {"target": 34962}, {"target": 34963}
+# Views of vertices and indices have a target (3.6.1).
+ROWS += [
+    (two_views(VERTICES, {}), []),
+    (two_views({}, {}), TARGET),
+    (two_views(VERTICES, ELEMENTS, indices=1), []),
+    (two_views(VERTICES, {}, indices=1), [("BUFFER_VIEW_TARGET_MISSING", "/bufferViews/1")]),
+    (two_views({}, {}, attributes={}, targets=[{"POSITION": 0}]),
+     TARGET + [("EMPTY_ENTITY", ATTRIBUTES), ("MESH_PRIMITIVE_NO_POSITION", ATTRIBUTES),
+               ("MESH_PRIMITIVE_MORPH_TARGET_NO_BASE_ACCESSOR", f"{PRIMITIVE}/targets/0/POSITION")]),
+]
+
+
 def drawn(mode, count):
     return mesh({"POSITION": accessor("VEC3", count=count, **BOUNDS)}, mode)
 
@@ -315,6 +345,64 @@ ROWS += [
 ]
 
 
+def loops(*nodes):
+    return [("NODE_LOOP", f"/nodes/{i}") for i in nodes]
+
+
+def apart(*skins):
+    return [("SKIN_NO_COMMON_ROOT", f"/skins/{i}/joints") for i in skins]
+
+
+def chain(n):
+    """Nodes of which each is the child of the one before."""
+    return [{"children": [i + 1]} for i in range(n - 1)] + [ROOTED]
+
+
+def skins(*joints):
+    return {"skins": [{"joints": them} for them in joints]}
+
+
+# Nodes on loops (3.5.2), and the common roots of joints (3.7.3.2).
+ROWS += [
+    (nodes(*chain(1000)), []),
+    (nodes({"children": [0]}), loops(0)),
+    (nodes({"children": [1]}, {"children": [0]}), loops(0, 1)),
+    (nodes({"children": [1]}, {"children": [2]}, {"children": [0]}), loops(0, 1, 2)),
+    (nodes({"children": [1, 3]}, {"children": [2]}, {"children": [0]}, ROOTED), loops(0, 1, 2)),
+    (nodes({"children": [1]}, ROOTED, {"children": [2]}), loops(2)),
+    (nodes(*chain(5), **skins([4, 2], [0, 1])), []),
+    (nodes(*chain(3), ROOTED, **skins([2, 0], [2, 3], [3])), apart(1)),
+    (nodes({"children": [1, 2]}, ROOTED, {"children": [3]}, ROOTED, **skins([1, 3], [3, 2, 1])), []),
+    (nodes(ROOTED, ROOTED, **skins([0, 1], [1, 1, 0])),
+     apart(0, 1) + [("DUPLICATE_ELEMENTS", "/skins/1/joints/1")]),
+]
+
+
+def skeleton(joints, node):
+    return {"joints": joints, "skeleton": node}
+
+
+def astray(*skins):
+    return [("SKIN_SKELETON_INVALID", f"/skins/{i}/skeleton") for i in skins]
+
+
+FORK = [{"children": [1, 2]}, {"children": [3]}, ROOTED, {"children": [4]}, ROOTED]
+# The skeleton is each joint or above it (3.7.3.2).
+ROWS += [
+    (nodes(*chain(5), skins=[skeleton([2, 3, 4], node) for node in range(5)]), astray(3, 4)),
+    (nodes(*FORK, skins=[skeleton([3, 4], node) for node in range(5)]), astray(2, 4)),
+    (nodes(*FORK, skins=[skeleton([4, 2], node) for node in range(5)]), astray(1, 2, 3, 4)),
+    (nodes(*FORK, ROOTED, skins=[skeleton([5], 5), skeleton([4], 5)]), astray(1)),
+    (nodes(ROOTED, *({"children": [i]} for i in range(999)),
+           skins=[skeleton([0], node) for node in (0, 1, 511, 512, 998, 999)]), []),
+    (nodes(*chain(1000), skins=[skeleton([512], node) for node in (0, 511, 512, 513, 999)]),
+     astray(3, 4)),
+    (nodes(*chain(2), skins=[skeleton([0], 2), skeleton([1, 2], 0)]),
+     [("UNRESOLVED_REFERENCE", "/skins/0/skeleton"), ("UNRESOLVED_REFERENCE", "/skins/1/joints/1")]),
+    (nodes({"children": [1]}, {"children": [0]}, ROOTED, skins=[skeleton([2], 0)]), loops(0, 1)),
+]
+
+
 def twice(place):
     return [("DUPLICATE_ELEMENTS", place)]
 
@@ -326,7 +414,7 @@ ROWS += [
     (nodes(ROOTED, ROOTED, scenes=[{"nodes": [0, 0]}, {"nodes": [1, 0, 1]}]),
      twice("/scenes/0/nodes/1") + twice("/scenes/1/nodes/2")),
     (nodes({}, {}, skins=[{"joints": [0, 1]}, {"joints": [1, 1, 1]}]),
-     twice("/skins/1/joints/1") + twice("/skins/1/joints/2")),
+     twice("/skins/1/joints/1") + twice("/skins/1/joints/2") + apart(0)),
     (nodes({"children": [1, 1]}, ROOTED),
      twice("/nodes/0/children/1") + [("NODE_PARENT_OVERRIDE", "/nodes/0/children/1")]),
 ]
@@ -379,6 +467,308 @@ ROWS += [
     (version("2.0", minVersion="2"), LEAST_FORM),
     (version("2", minVersion="3.0"), FORM),
     (version("1.0", minVersion="1.1"), MAJOR + LEAST),
+]
+
+
+def camera(**kind):
+    (name, members), = kind.items()
+    return {"cameras": [{"type": name, name: members}]}
+
+
+def lens(**members):
+    return {"yfov": 1, "znear": 1, **members}
+
+
+def planes(name):
+    return [("CAMERA_ZFAR_LEQUAL_ZNEAR", f"/cameras/0/{name}")]
+
+
+BOX = {"xmag": 1, "ymag": 1}
+# The clipping planes of cameras (5.13 and 5.14).
+ROWS += [
+    (camera(perspective=lens()), []),
+    (camera(perspective=lens(zfar=2)), []),
+    (camera(perspective=lens(zfar=1.0000000000000002)), []),
+    (camera(perspective=lens(zfar=1)), planes("perspective")),
+    (camera(perspective=lens(zfar=0.5)), planes("perspective")),
+    (camera(orthographic=BOX | {"znear": 0, "zfar": 0.1}), []),
+    (camera(orthographic=BOX | {"znear": 0, "zfar": 0}), planes("orthographic")),
+    (camera(orthographic=BOX | {"znear": 3, "zfar": 2}), planes("orthographic")),
+]
+
+
+def undeclared(place):
+    return [("UNDECLARED_EXTENSION", place)]
+
+
+ROOT = {"extensions": {"EXT_mine": {}}}
+LIGHTS = {"KHR_lights_punctual": {"lights": [{"type": "point"}]}}
+AT_TEXTURE = "/materials/0/emissiveTexture/extensions/KHR_texture_transform"
+# Extensions that are used are declared (3.12).
+ROWS += [
+    (ROOT, undeclared("/extensions/EXT_mine")),
+    (ROOT | {"extensionsUsed": ["EXT_mine"]}, UNKNOWN),
+    (ROOT | {"extensionsUsed": ["EXT_min"]}, UNKNOWN + undeclared("/extensions/EXT_mine")),
+    ({"extensions": {"a/b": {}}}, undeclared("/extensions/a~1b")),
+    ({"extensions": LIGHTS}, undeclared("/extensions/KHR_lights_punctual")),
+    ({"extensions": LIGHTS, "extensionsUsed": ["KHR_lights_punctual"]}, []),
+    ({"asset": {"version": "2.0"} | ROOT}, undeclared("/asset/extensions/EXT_mine")),
+    (nodes(ROOTED | ROOT), undeclared("/nodes/0/extensions/EXT_mine")),
+    (nodes({"extensions": {"KHR_lights_punctual": {"light": 0}}}, extensions=LIGHTS),
+     undeclared("/extensions/KHR_lights_punctual")
+     + undeclared("/nodes/0/extensions/KHR_lights_punctual")),
+    (nodes(ROOTED, scenes=[{"nodes": [0]} | ROOT]), undeclared("/scenes/0/extensions/EXT_mine")),
+    (nodes(ROOTED, skins=[{"joints": [0]} | ROOT]), undeclared("/skins/0/extensions/EXT_mine")),
+    ({"accessors": [POSITIONS | ROOT]}, undeclared("/accessors/0/extensions/EXT_mine")),
+    ({"buffers": [{"byteLength": 64, "uri": ZEROS} | ROOT]},
+     undeclared("/buffers/0/extensions/EXT_mine")),
+    (in_view(U8, byteStride=4, **ROOT), undeclared("/bufferViews/0/extensions/EXT_mine")),
+    (camera(perspective=lens(**ROOT)), undeclared("/cameras/0/perspective/extensions/EXT_mine")),
+    (camera(orthographic=BOX | {"znear": 0, "zfar": 1} | ROOT),
+     undeclared("/cameras/0/orthographic/extensions/EXT_mine")),
+    ({"images": [{"uri": "a.png"} | ROOT]}, undeclared("/images/0/extensions/EXT_mine")),
+    ({"samplers": [ROOT]}, undeclared("/samplers/0/extensions/EXT_mine")),
+    (PICTURE | {"textures": [{"source": 0} | ROOT]},
+     undeclared("/textures/0/extensions/EXT_mine")),
+    ({"meshes": [attributes()["meshes"][0] | ROOT], "accessors": [POSITIONS]},
+     undeclared("/meshes/0/extensions/EXT_mine")),
+    ({"materials": [ROOT]}, undeclared("/materials/0/extensions/EXT_mine")),
+    ({"materials": [{"extensions": {"KHR_materials_unlit": {}}}]},
+     undeclared("/materials/0/extensions/KHR_materials_unlit")),
+    ({"materials": [{"extensions": {"KHR_materials_unlit": {}}}],
+      "extensionsUsed": ["KHR_materials_unlit"]}, []),
+    ({"materials": [{"pbrMetallicRoughness": ROOT}]},
+     undeclared("/materials/0/pbrMetallicRoughness/extensions/EXT_mine")),
+    ({"materials": [{"emissiveTexture": moved(0)}]} | PICTURE, undeclared(AT_TEXTURE)),
+    ({"materials": [{"emissiveTexture": moved(0)}]} | PICTURE | USES, []),
+]
+VARIANTS = attributes()
+VARIANTS["meshes"][0]["primitives"][0] |= ROOT
+ROWS += [(VARIANTS, undeclared(f"{PRIMITIVE}/extensions/EXT_mine"))]
+MOVES = animated("translation", accessor("VEC3", count=2))
+MOVES["animations"][0] |= ROOT
+ROWS += [(MOVES, undeclared("/animations/0/extensions/EXT_mine"))]
+
+
+def packed(form, *numbers):
+    """The bytes of numbers, the lowest one first."""
+    return struct.pack(f"<{len(numbers)}{form}", *numbers)
+
+
+def floats(*numbers):
+    return packed("f", *numbers)
+
+
+def words(*bits):
+    """The bytes of floats with these bits."""
+    return packed("I", *bits)
+
+
+def views(*parts):
+    """A buffer, and a view of each part of it."""
+    data = b"".join(part + bytes(-len(part) % 4) for part in parts)
+    starts = [sum(len(part) + -len(part) % 4 for part in parts[:i]) for i in range(len(parts))]
+    return {
+        "buffers": [{"byteLength": len(data),
+                     "uri": "data:;base64," + base64.b64encode(data).decode()}],
+        "bufferViews": [{"buffer": 0, "byteOffset": start, "byteLength": len(part)}
+                        for start, part in zip(starts, parts)]}
+
+
+def holds(data, shape="SCALAR", component=FLOAT, count=None, **members):
+    """An accessor that holds these bytes."""
+    size = {U8: 1, I8: 1, U16: 2, I16: 2, U32: 4, FLOAT: 4}[component]
+    sizes = {"SCALAR": 1, "VEC2": 2, "VEC3": 3, "VEC4": 4, "MAT2": 4, "MAT3": 9, "MAT4": 16}
+    count = count or len(data) // (size * sizes[shape])
+    return views(data) | {"accessors": [accessor(shape, component, count, bufferView=0, **members)]}
+
+
+INFINITE = [("ACCESSOR_INVALID_FLOAT", "/accessors/0")]
+NAN, INFINITY = float("nan"), float("inf")
+LEAST_FLOAT, GREATEST_FLOAT = 2.0 ** -149, 2.0 ** 128 - 2.0 ** 104
+# Floats: infinities and what is not a number have all eight bits of the exponent set (3.6.2.2).
+ROWS += [
+    (holds(floats(0, -0.0, 1, LEAST_FLOAT, -LEAST_FLOAT, GREATEST_FLOAT, -GREATEST_FLOAT)), []),
+    *((holds(words(0, bits)), [])
+      for bits in (0x7F7FFFFF, 0xFF7FFFFF, 0x7F000000, 0x3F800000, 0x007FFFFF, 0x80000000, 0x00800000)),
+    *((holds(words(0, bits)), INFINITE)
+      for bits in (0x7F800000, 0xFF800000, 0x7F800001, 0x7FC00000, 0xFFC00000, 0x7FFFFFFF, 0xFFFFFFFF)),
+    (holds(floats(INFINITY, 0)), INFINITE),
+    (holds(floats(0, 0, 0, 0, NAN, 0), "VEC3"), INFINITE),
+    (holds(floats(*[0] * 15, INFINITY), "MAT4"), INFINITE),
+    (holds(floats(NAN, INFINITY, NAN)), INFINITE),
+    (holds(words(0x7F800000), component=U32), []),
+    (holds(words(0x7F800000), "VEC2", U16), []),
+    (holds(words(0xFFFFFFFF), "VEC4", I8), []),
+]
+
+LOW, BELOW = "ACCESSOR_MIN_MISMATCH", "ACCESSOR_ELEMENT_OUT_OF_MIN_BOUND"
+HIGH, ABOVE = "ACCESSOR_MAX_MISMATCH", "ACCESSOR_ELEMENT_OUT_OF_MAX_BOUND"
+
+
+def least(*codes, column=0):
+    return [(code, f"/accessors/0/min/{column}") for code in codes]
+
+
+def greatest(*codes, column=0):
+    return [(code, f"/accessors/0/max/{column}") for code in codes]
+
+
+def bounded(data, least, greatest, *shape):
+    return holds(data, *shape, min=least, max=greatest)
+
+
+THREE = packed("B", 3, 1, 2)
+PAIRS = floats(1, 5, 2, 4)
+# Stated minima and maxima (3.6.2.5): those of whole numbers are exact,
+ROWS += [
+    (bounded(THREE, [1], [3], "SCALAR", U8), []),
+    (bounded(THREE, [1.0], [3.0], "SCALAR", U8), []),
+    (bounded(THREE, [0], [4], "SCALAR", U8), least(LOW) + greatest(HIGH)),
+    (bounded(THREE, [2], [2], "SCALAR", U8), least(LOW, BELOW) + greatest(HIGH, ABOVE)),
+    (bounded(THREE, [0.5], [3.5], "SCALAR", U8), least(LOW) + greatest(HIGH)),
+    (bounded(THREE, [1.5], [2.5], "SCALAR", U8), least(LOW, BELOW) + greatest(HIGH, ABOVE)),
+    (bounded(THREE, [-1e300], [1e300], "SCALAR", U8), least(LOW) + greatest(HIGH)),
+    (bounded(THREE, [10 ** 30], [-10 ** 30], "SCALAR", U8),
+     least(LOW, BELOW) + greatest(HIGH, ABOVE)),
+    (bounded(packed("b", 0, -128, 127), [-128], [127], "SCALAR", I8), []),
+    (bounded(packed("b", 0, -128, 127), [0], [0], "SCALAR", I8),
+     least(LOW, BELOW) + greatest(HIGH, ABOVE)),
+    (bounded(packed("B", 127, 128), [127], [128], "SCALAR", U8), []),
+    (bounded(packed("h", 5, -32768), [-32768], [5], "SCALAR", I16), []),
+    (bounded(packed("h", 256, 1), [1], [256], "SCALAR", I16), []),
+    (bounded(packed("H", 65535, 32768), [32768], [65535], "SCALAR", U16), []),
+    (bounded(packed("I", 4294967295, 0), [0], [4294967295], "SCALAR", U32), []),
+    (bounded(packed("I", 4294967295, 0), [0], [4294967296], "SCALAR", U32), greatest(HIGH)),
+    (bounded(packed("I", 4294967294, 1), [1], [4294967293], "SCALAR", U32), greatest(HIGH, ABOVE)),
+]
+# no item has more than sixteen components, so that no more numbers are looked at,
+ROWS += [
+    (bounded(THREE, [1] * 40, [3], "SCALAR", U8),
+     [found for column in range(1, 16) for found in least(LOW, column=column)]),
+]
+# and those of floats are rounded to single precision first; 0 and -0 are the same.
+ROWS += [
+    (bounded(floats(0.1, 0.2), [0.1], [0.2]), []),
+    (bounded(floats(0.1, 0.2), [0.100000001], [0.200000003]), []),
+    (bounded(floats(0.1, 0.2), [0.1000001], [0.2]), least(LOW, BELOW)),
+    (bounded(floats(0.1, 0.2), [0.1], [0.2000001]), greatest(HIGH)),
+    (bounded(floats(-1, 1), [-1], [1]), []),
+    (bounded(floats(-1, 1), [1], [-1]), least(LOW, BELOW) + greatest(HIGH, ABOVE)),
+    (bounded(floats(0), [-0.0], [0]), []),
+    (bounded(floats(-0.0), [0], [-0.0]), []),
+    (bounded(floats(LEAST_FLOAT, 1), [LEAST_FLOAT], [1]), []),
+    (bounded(floats(LEAST_FLOAT, 1), [0], [1]), least(LOW)),
+    (bounded(floats(-LEAST_FLOAT, 1), [0], [1]), least(LOW, BELOW)),
+    (bounded(floats(-GREATEST_FLOAT, GREATEST_FLOAT), [-GREATEST_FLOAT], [GREATEST_FLOAT]), []),
+    (bounded(floats(1, INFINITY), [1], [1]), INFINITE + greatest(HIGH, ABOVE)),
+    (bounded(floats(-INFINITY, 1), [1], [1]), INFINITE + least(LOW, BELOW)),
+    (bounded(floats(1, NAN, 2), [1], [2]), INFINITE),
+    (bounded(floats(NAN), [1], [2]), INFINITE + least(LOW) + greatest(HIGH)),
+    (bounded(PAIRS, [1, 4], [2, 5], "VEC2"), []),
+    (bounded(PAIRS, [1, 5], [2, 4], "VEC2"),
+     least(LOW, BELOW, column=1) + greatest(HIGH, ABOVE, column=1)),
+    (bounded(PAIRS, [4, 1], [2, 5], "VEC2"), least(LOW, BELOW) + least(LOW, column=1)),
+    (bounded(PAIRS, [1], [2], "VEC2"), []),
+    (bounded(PAIRS, [1, 4, 0], [2, 5], "VEC2"), least(LOW, column=2)),
+    (bounded(PAIRS, [1, None], [2, "5"], "VEC2"), []),
+    (bounded(PAIRS, 1, {"0": 2}, "VEC2"), []),
+    (bounded(floats(*range(16)), [*range(16)], [*range(16)], "MAT4"), []),
+    (bounded(floats(*range(16)), [*range(15), 14], [*range(16)], "MAT4"), least(LOW, column=15)),
+    (bounded(packed("H", *range(4)), [*range(4)], [*range(4)], "MAT2", U16), []),
+    (bounded(packed("H", *range(4)), [0, 1, 2, 4], [*range(4)], "MAT2", U16),
+     least(LOW, BELOW, column=3)),
+    (holds(bytes([1, 2, 0, 9, 3, 4, 0, 9]), "MAT2", U8, count=1, min=[1, 2, 3, 4], max=[1, 2, 3, 4]), []),
+    ({"accessors": [accessor("SCALAR", min=[7], max=[7])]}, []),
+]
+
+
+def sparse(base, indices, values, component=U8, count=4, **members):
+    """An accessor of bytes, some of which are replaced."""
+    form = {U8: "B", U16: "H", U32: "I"}[component]
+    made = views(packed("B", *(base or [0])), packed(form, *indices), packed("B", *values))
+    part = {"count": len(indices), "values": {"bufferView": 2},
+            "indices": {"bufferView": 1, "componentType": component}}
+    view = {"bufferView": 0} if base else {}
+    return made | {"accessors": [accessor("SCALAR", U8, count, sparse=part, **view, **members)]}
+
+
+FALLS = [("ACCESSOR_SPARSE_INDICES_NON_INCREASING", "/accessors/0/sparse/indices")]
+PAST = [("ACCESSOR_SPARSE_INDEX_OOB", "/accessors/0/sparse/indices")]
+FIVES = [5, 5, 5, 5]
+# The indices of sparse accessors (5.2 and 5.3), whether these have a view or not, and whatever their
+# count is; the items are those with the values in their places.
+ROWS += [
+    *((sparse(base, [0, 3], [1, 2], component), []) for base in (FIVES, None)
+      for component in (U8, U16, U32)),
+    *((sparse(base, [3, 3], [1, 2], component), FALLS) for base in (FIVES, None)
+      for component in (U8, U16, U32)),
+    *((sparse(base, [1, 4], [1, 2], component), PAST) for base in (FIVES, None)
+      for component in (U8, U16, U32)),
+    (sparse(FIVES, [3, 0], [1, 2]), FALLS),
+    (sparse(FIVES, [0, 2, 1], [1, 2, 3]), FALLS),
+    (sparse(FIVES, [0, 2, 1, 3], [1, 2, 3, 4]), FALLS),
+    (sparse(FIVES, [0, 1, 2, 3], [1, 2, 3, 4]), []),
+    (sparse(FIVES, [4, 4], [1, 2]), FALLS + PAST),
+    (sparse(FIVES, [256, 0], [1, 2], U16), FALLS + PAST),
+    (sparse(None, [0, 65535], [1, 2], U16, count=65536), []),
+    (sparse(None, [0, 65535], [1, 2], U16, count=65535), PAST),
+    (sparse(None, [0, 2 ** 32 - 1], [1, 2], U32, count=2 ** 53), []),
+    (sparse(None, [0, 0], [1, 2], U32, count=2 ** 53, min=[9], max=[9]), FALLS),
+    (sparse(FIVES, [2], [1], min=[1], max=[5]), []),
+    (sparse(FIVES, [2], [9], min=[5], max=[5]), greatest(HIGH, ABOVE)),
+    (sparse([5, 5, 1, 5], [2], [5], min=[5], max=[5]), []),
+    (sparse([5, 5, 1, 5], [2], [5], min=[1], max=[5]), least(LOW)),
+]
+OVER = views(floats(0, NAN), packed("B", 1), floats(1))
+UNDER = views(floats(0, 1), packed("B", 1), floats(NAN))
+REPLACED = {"accessors": [accessor("SCALAR", count=2, bufferView=0, sparse={
+    "count": 1, "indices": {"bufferView": 1, "componentType": U8}, "values": {"bufferView": 2}})]}
+ROWS += [(OVER | REPLACED, []), (UNDER | REPLACED, INFINITE)]
+
+
+def timed(*times, least=None, greatest=None, samplers=1):
+    """An animation at these times."""
+    bounds = {"min": [min(times) if least is None else least],
+              "max": [max(times) if greatest is None else greatest]}
+    sampler = {"input": 0, "output": 1}
+    return views(floats(*times)) | {
+        "accessors": [accessor("SCALAR", count=len(times), bufferView=0, **bounds),
+                      accessor("VEC3", count=len(times))],
+        "nodes": [ROOTED] * samplers,
+        "animations": [{
+            "channels": [{"sampler": i, "target": {"node": i, "path": "scale"}} for i in range(samplers)],
+            "samplers": [sampler] * samplers}]}
+
+
+def times(*codes, sampler=0):
+    return [(f"ACCESSOR_ANIMATION_INPUT_{code}", f"/animations/0/samplers/{sampler}/input")
+            for code in codes]
+
+
+NEGATIVE, NON_INCREASING = "NEGATIVE", "NON_INCREASING"
+# The times of animations (3.11).
+ROWS += [
+    (timed(0, 1), []),
+    (timed(-0.0, 1), []),
+    (timed(0), []),
+    (timed(0, LEAST_FLOAT, 2 * LEAST_FLOAT), []),
+    (timed(1, 1 + 2.0 ** -23), []),
+    (timed(0, GREATEST_FLOAT), []),
+    (timed(-LEAST_FLOAT, 1), times(NEGATIVE)),
+    (timed(-1, 0, 1), times(NEGATIVE)),
+    (timed(0, 0), times(NON_INCREASING)),
+    (timed(-0.0, 0), times(NON_INCREASING)),
+    (timed(0, 1, 1), times(NON_INCREASING)),
+    (timed(0, 2, 1), times(NON_INCREASING)),
+    (timed(0, 2, 1, 3), times(NON_INCREASING)),
+    (timed(1, 2, 0), times(NON_INCREASING)),
+    (timed(0, 3, 2, 1, 5), times(NON_INCREASING)),
+    (timed(-1, -2), times(NEGATIVE, NON_INCREASING)),
+    (timed(0, NAN, 1, least=0, greatest=1), INFINITE),
+    (timed(0, INFINITY, least=0, greatest=0), INFINITE + greatest(HIGH, ABOVE)),
+    (timed(-INFINITY, 0, least=0, greatest=0), INFINITE + least(LOW, BELOW) + times(NEGATIVE)),
+    (timed(1, 0, samplers=2), times(NON_INCREASING) + times(NON_INCREASING, sampler=1)),
 ]
 
 

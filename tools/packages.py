@@ -65,7 +65,9 @@ def ran(*words, **how):
 def help_of(program):
     """The text that a program prints where its words make no call, as its source has it."""
     source = (TOP / "crates" / program / "src" / "refusal.rt").read_text("utf-8")
-    return re.search(r'"(usage: .*?)"', source, re.DOTALL)[1]
+    more = r'(?:\)\?;\s+write!\(f, "[^"]*")*'
+    found = re.search(rf'"(usage: .*?)"({more})', source, re.DOTALL)
+    return found[1] + "".join(re.findall(r'"([^"]*)"', found[2]))
 
 
 def plain(text):

@@ -108,7 +108,8 @@ def drawn(vertices, *indices, mode=4):
     primitive = {"attributes": {"POSITION": 0}, "indices": 1, "mode": mode}
     return document(
         buffers=buffers((len(data), uri)),
-        bufferViews=[view(0, 12 * vertices), view(12 * vertices, len(indices))],
+        bufferViews=[view(0, 12 * vertices) | {"target": 34962},
+                     view(12 * vertices, len(indices)) | {"target": 34963}],
         accessors=[positions, numbers],
         meshes=[{"name": "tri", "primitives": [primitive]}],
         nodes=[{"mesh": 0}, {"mesh": 0}],
@@ -181,6 +182,7 @@ def shown(room):
         "restart.gltf": drawn(3, 0, 1, 255),
         "thin.gltf": drawn(3, 2, 1, 2),
         "strip.gltf": drawn(3, 2, 1, 2, mode=5),
+        "--dashed.gltf": document(),
         "named.gltf": document(materials=[{"name": "a\tb</script>"}]),
     }
     for name in ("missing", "folder", "locked", LONG):
@@ -302,13 +304,18 @@ def tables(**parts):
     return "\n" + "".join(parts.get(part, f"{part}  none\n") for part in PARTS)
 
 
+def says(code, numbers=None):
+    """The text of a message: its sentence, and then its numbers where it has some."""
+    return f"{SENTENCES[code]} Found {numbers}." if numbers else SENTENCES[code]
+
+
 def told(name, *found, infos=0, refused=None, holds=None):
-    """The report of a file: what is found as (code, pointer), of which the last are infos; why it
-    holds no document; and the tables, where it is loaded."""
+    """The report of a file: what is found as (code, pointer) or (code, pointer, numbers), of which
+    the last are infos; why it holds no document; and the tables, where it is loaded."""
     errors = len(found) - infos
     words = ["error"] * errors + ["info"] * infos
-    lines = [f"{word} {code} {pointer or '-'} {SENTENCES[code]}\n"
-             for word, (code, pointer) in zip(words, found)]
+    lines = [f"{word} {code} {pointer or '-'} {says(code, *numbers)}\n"
+             for word, (code, pointer, *numbers) in zip(words, found)]
     counts = f"FINDINGS  errors: {errors}, warnings: 0, infos: {infos}, hints: 0\n"
     cause = f"refused: {refused}\n" if refused else ""
     return f"{name}\n{counts}{''.join(lines)}{cause}{holds or ''}"
@@ -323,8 +330,9 @@ def told_json(name, *found, infos=0, info=None):
     """The same as a line of JSON."""
     errors = len(found) - infos
     grades = [0] * errors + [2] * infos
-    messages = [{"code": code, "message": SENTENCES[code], "pointer": pointer, "severity": grade}
-                for grade, (code, pointer) in zip(grades, found)]
+    messages = [{"code": code, "message": says(code, *numbers), "pointer": pointer,
+                 "severity": grade}
+                for grade, (code, pointer, *numbers) in zip(grades, found)]
     issues = {"messages": messages, "numErrors": errors, "numHints": 0, "numInfos": infos,
               "numWarnings": 0, "truncated": False}
     whole = {**({"info": info} if info else {}), "issues": issues, "uri": name,
@@ -342,10 +350,11 @@ EMPTY = "NODE_EMPTY"
 TWICE = [("NODE_PARENT_OVERRIDE", "/nodes/1/children/0"), *unused("/nodes/0", "/nodes/1"),
          (EMPTY, "/nodes/2")]
 # Eleven bytes for an item of twelve, at an offset that is no multiple of four.
-PAST = [("ACCESSOR_OFFSET_ALIGNMENT", "/accessors/0/byteOffset"),
-        ("ACCESSOR_TOTAL_OFFSET_ALIGNMENT", "/accessors/0/byteOffset"),
-        ("ACCESSOR_TOO_LONG", "/accessors/0/byteOffset"),
-        ("BUFFER_VIEW_TOO_LONG", "/bufferViews/0/byteLength"),
+PAST = [("ACCESSOR_OFFSET_ALIGNMENT", "/accessors/0/byteOffset", "2, wanted a multiple of 4"),
+        ("ACCESSOR_TOTAL_OFFSET_ALIGNMENT", "/accessors/0/byteOffset",
+         "3, wanted a multiple of 4"),
+        ("ACCESSOR_TOO_LONG", "/accessors/0/byteOffset", "14, wanted at most 12"),
+        ("BUFFER_VIEW_TOO_LONG", "/bufferViews/0/byteLength", "13, wanted at most 12"),
         *unused("/accessors/0")]
 TWELVE_TABLE = "BUFFERS\n# name storage  size uri\n0 -    data-uri 12   -\n"
 TWELVE_TABLES = tables(BUFFERS=TWELVE_TABLE)
@@ -434,6 +443,11 @@ SHOWS += [
     of_indices("restart.gltf", ("ACCESSOR_INDEX_PRIMITIVE_RESTART", INDICES)),
     of_indices("thin.gltf", ("ACCESSOR_INDEX_TRIANGLE_DEGENERATE", INDICES), infos=1),
     of_indices("strip.gltf", mode="TRIANGLE_STRIP"),
+    (["inspect", "--", "--dashed.gltf"], 0, told("--dashed.gltf", holds=tables()), ""),
+    (["inspect", "--json", "--", "empty.gltf", "--dashed.gltf"], 0,
+     told_json("empty.gltf", info=INFO) + told_json("--dashed.gltf", info=INFO), ""),
+    (["check", "--", "--dashed.gltf"], 0, "ok buffers=0 accessors=0 meshes=0 nodes=0\n", ""),
+    (["inspect", "--"], 2, "", USAGE),
     (["inspect"], 2, "", USAGE),
     (["inspect", "--json"], 2, "", USAGE),
     (["inspect", "--jason", "empty.gltf"], 2, "", f"--jason: no such option\n{USAGE}"),
@@ -447,6 +461,9 @@ FULL = [
     (["chunks", "box.glb"], "glTF 2 40\n"),
     (["indices", "row.gltf", "0", "0"], "1\n"),
 ]
+
+# A report of a file without errors, which is written to a full device.
+UNWRITTEN = ["inspect", "empty.gltf"]
 
 REPACK_USAGE = Begins("usage: gltf_repack IN OUT\n")
 # What the text `{}` is repacked as.
@@ -560,6 +577,15 @@ def ends_where_full(program, room, words, taken):
     return report(program.name, words, good, ran)
 
 
+def names_its_output(program, room):
+    """Whether a report that cannot be written is told of as that, and not as a fault of its file."""
+    with open("/dev/full", "wb") as full:
+        how = {"cwd": room, "stdout": full, "stderr": subprocess.PIPE}
+        ran = subprocess.run([program, *UNWRITTEN], preexec_fn=started(), **how)
+    good = ran.returncode == 2 and Failed("standard output") == ran.stderr.decode()
+    return report(program.name, UNWRITTEN, good, ran)
+
+
 def leaves(program, room, words, status, out, error, changed):
     """Whether a call answers so, and changes no more in the folder than this."""
     wanted = state(room) | changed
@@ -610,6 +636,7 @@ def main():
         make(room, shown(room))
         good = [answers(show, room, *row) for row in SHOWS]
         good += [ends_where_full(show, room, *row) for row in FULL]
+        good.append(names_its_output(show, room))
         room = place / "repacked"
         make_repacked(room)
         good += [leaves(repack, room, *row) for row in REPACKS]

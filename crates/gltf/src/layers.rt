@@ -129,10 +129,7 @@ fn container_of(alloc: Global, bytes: CowSlice<'_, u8>) -> Result<Glb<'_>>
 }
 
 /// The blob, owned. What is lent is copied, with room for the zeros that may follow it.
-pub fn owned_blob(
-    alloc: Global,
-    blob: Option<CowSlice<'_, u8>>,
-) -> Result<Option<Vec<u8>>>
+pub fn owned_blob(alloc: Global, blob: Option<CowSlice<'_, u8>>) -> Result<Option<Vec<u8>>>
     ensures ok { IfOk result (λ copy. blob_bytes copy ≡ items_of blob.entry) }
     ensures refused { IfErr result (λ e. e ≡ Memory) }
 {

@@ -1,11 +1,13 @@
 -- A document whose buffers became one is, edited once more, as it was.
-use Rattle.std.proofs.Common.{◌≡◌, ℕ, ◌+◌, List, [], ◌∷◌, Option, Some, None, option_map, codes, arith}
+use Rattle.std.proofs.Common.{◌≡◌, ℕ, ◌+◌, List, [], ◌∷◌, Option, Some, None, option_map, codes}
+use Rattle.std.proofs.Common.{arith}
 use Rattle.std.proofs.Common.{refl, sym, ap, subst, ◌∙◌, unwrap_or, slice_get}
 use Rattle.std.specs.Prelude.{MatchOption, IsSome, option_and_then, ⊤}
 use Rattle.serde_json.specs.Data.{Data, null, boolean, number, string, array, object, Items}
 use Rattle.serde_json.specs.Data.{no_items, item}
 use Rattle.serde_json.specs.Find.{get, as_object, as_number, as_u64}
-use Rattle.gltf_edit.specs.Bundled.{with_member, with_some, whole, size_or_zero, span_of, Lies, LiesIn}
+use Rattle.gltf_edit.specs.Bundled.{with_member, with_some, whole, size_or_zero, span_of, Lies}
+use Rattle.gltf_edit.specs.Bundled.{LiesIn}
 use Rattle.gltf_edit.specs.Bundled.{placed, relocated, relocated_extensions, moved, meshopt}
 use Rattle.gltf_edit.specs.Bundled.{ExtensionLies, IsPlaced, AllPlaced, EachPlaced, ArePlaced}
 use Rattle.gltf_edit.specs.Bundled.{mapped, each_item, one_buffer, buffers_after, views_after}
@@ -57,7 +59,8 @@ placed_settled p d is =
       set_buffer =
           kept_with bu off (whole 0) (whole n) one (differ bu off refl) (set_with bu (whole 0) d);
       set_offset = set_with off (whole n) one;
-      buffer = get_with_other bu off (whole n) one (differ bu off refl) ∙ get_with bu (whole 0) d is;
+      buffer = get_with_other bu off (whole n) one (differ bu off refl)
+          ∙ get_with bu (whole 0) d is;
       offset = get_with off (whole n) one (object_with bu (whole 0) d is);
     }
 

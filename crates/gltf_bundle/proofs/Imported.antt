@@ -3,7 +3,8 @@
 use Rattle.std.proofs.Common.{◌≡◌, ℕ, suc, ◌-◌, ◌%◌, List, [], ◌∷◌, length}
 use Rattle.std.proofs.Common.{Option, Some, None, option_map, Ok, Result, Bool, false, ◌+◌, ◌<◌}
 use Rattle.std.proofs.Common.{◌++◌, length-append, unwrap_or}
-use Rattle.std.proofs.Common.{nat_lt, get_or, map, codes, refl, sym, ap, subst, ◌∙◌, arith, ◌⊎◌, inl, inr}
+use Rattle.std.proofs.Common.{nat_lt, get_or, map, codes, refl, sym, ap, subst, ◌∙◌, arith, ◌⊎◌}
+use Rattle.std.proofs.Common.{inl, inr}
 use Rattle.std.proofs.Common.{⊎_elim}
 use Rattle.std.proofs.lemmas.List.Elements.{All-nil, All-cons}
 use Rattle.std.specs.Prelude.{MatchOption, IsSome, option_and_then, string_bytes, All}
@@ -89,7 +90,8 @@ as_many_read (item d ds) (b ∷ bs) is = ap suc (as_many_read ds bs is.1)
 
 -- a list that was absent
 made_or_none : (total : ℕ) (o : Option Data) (more : Items) (bs cs : List Buffer)
-    → option_and_then as_array o ≡ None → option_and_then unless_null (option_map (one_buffer total) o) ≡ None
+    → option_and_then as_array o ≡ None → option_and_then unless_null
+    (option_map (one_buffer total) o) ≡ None
     → bs ≡ [] → ReadsBuffers (option_map (one_buffer total) (longer more o)) cs
     → NoneOrOne total (length bs + items_len more) cs
 made_or_none total o no_items bs cs absent nothing none after =
@@ -130,7 +132,8 @@ changed_at : (total : ℕ) (d base : Data) (o : Option Data) → IsSome (as_obje
     → get (codes "buffers") (with_some (codes "buffers") (option_map (one_buffer total) o) base)
     ≡ option_map (one_buffer total) o
 changed_at total d base None is at same = same ∙ at
-changed_at total d base (Some e) is at same = get_with (codes "buffers") (one_buffer total e) base is
+changed_at total d base (Some e) is at same =
+    get_with (codes "buffers") (one_buffer total e) base is
 
 pub buffers_changed : (spans : List Span) (total : ℕ) (d : Data) → IsSome (as_object d)
     → get (codes "buffers") (bundled spans total d)
@@ -290,7 +293,8 @@ module _ (one : OneTextAndBlob) (back : ReadsBack) (spaces : SpacesBehind) (name
       as_many_taken names keep is.value is.pictures is.images is.gathered.taken in
       omega (arith, own_count, both, images)
 
-  none_at : count ≡ 0 → s.buffers.items ≡ [] → length others ≡ length (map source_of s.buffers.items)
+  none_at : count ≡ 0 → s.buffers.items ≡ [] → length others
+      ≡ length (map source_of s.buffers.items)
       → others ≡ one_list all
   none_at none none_after count_after =
       let nothing : all ≡ [] = empty all (as_many ∙ none) in

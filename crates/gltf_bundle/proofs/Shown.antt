@@ -1,6 +1,7 @@
 -- An image of the file that has a URI, in the container.
 use Rattle.std.proofs.Common.{◌≡◌, ℕ, zero, suc, ◌+◌, List, [], ◌∷◌, ◌++◌, Option, Some, None}
-use Rattle.std.proofs.Common.{refl, sym, ap, subst, ◌∙◌, arith, codes, unwrap_or, option_map, String}
+use Rattle.std.proofs.Common.{refl, sym, ap, subst, ◌∙◌, arith, codes, unwrap_or, option_map}
+use Rattle.std.proofs.Common.{String}
 use Rattle.std.proofs.Common.{Global, string_bytes, false, Ok}
 use Rattle.std.specs.Prelude.{MatchOption, option_and_then, slice_get}
 use Rattle.serde_json.specs.Data.{Data, null, boolean, number, string, array, object, Items}
@@ -99,7 +100,8 @@ record TakenAt (names : Names) (e : Data) (ps : List (Option Picture)) (taken : 
   given : slice_get taken (seats_before i ps) ≡ Some bytes
   is_taken : IsTaken names e picture bytes
 
-module _ (names : Names) (e : Data) (uri : List ℕ) (with_uri : text_at (codes "uri") e ≡ Some uri) where
+module _ (names : Names) (e : Data) (uri : List ℕ)
+    (with_uri : text_at (codes "uri") e ≡ Some uri) where
   here : (p : Option Picture) (ps : List (Option Picture)) (one more taken : List (List ℕ))
       → Takes names e p one → taken ≡ one ++ more → TakenAt names e (p ∷ ps) taken 0
   here None ps one more taken takes is = let none = takes.0 in cc
@@ -150,19 +152,22 @@ of_some same = cc
 
 pub shows_images : OneTextAndBlob → ReadsBack → SpacesBehind → MovedShows → ShowsImages
 unfolding root
-shows_images one back spaces law names path answer is over s others accepted i x there uri with_uri =
+shows_images one back spaces law names path answer is over s others accepted i x there uri
+    with_uri =
     let value = is.value in
     let source = is.gathered.source in
     let read = listed (get (codes "images") value) is.root_.images.items i x
     source.records.1.1.1.1.1.1.1.0 there in
     let e = read.value in
     let text = uri_read e x read.reads ∙ with_uri in
-    let found = taken_at names e uri text (unwrap_or (option_and_then as_array (get (codes "images") value)) no_items) is.pictures
+    let found = taken_at names e uri text
+    (unwrap_or (option_and_then as_array (get (codes "images") value)) no_items) is.pictures
     is.images i is.gathered.taken read.there in
     let picture = found.is_taken in
     let same : picture.uri ≡ uri = of_some (sym picture.there ∙ text) in
     let moved = is_moved one back spaces names path false answer is over s others accepted in
-    let view = law is.buffers is.images is.root_ s moved i e read.there found.picture found.has found.bytes
+    let view = law is.buffers is.images is.root_ s moved i e read.there found.picture found.has
+    found.bytes
     found.given picture.long in
     record {
       bytes = found.bytes;
@@ -173,6 +178,8 @@ shows_images one back spaces law names path answer is over s others accepted i x
           ∙ ap (λ (u : List ℕ). media_of u (text_at (codes "mimeType") e) found.bytes) (sym same)
           ∙ picture.media;
       in_view =
-          subst (λ (bs : List (List ℕ)). IsInView bs s i (string_bytes found.picture.media) found.bytes)
-          (sym (the_buffers one back spaces names path false answer is over s others accepted)) view;
+          subst (λ (bs : List (List ℕ)). IsInView bs s i
+          (string_bytes found.picture.media) found.bytes)
+          (sym (the_buffers one back spaces names path false answer is over s others accepted))
+          view;
     }

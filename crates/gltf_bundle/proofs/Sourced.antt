@@ -1,5 +1,6 @@
 -- What was loaded, and what is made of it.
-use Rattle.std.proofs.Common.{◌≡◌, ℕ, ◌≤◌, ◌<◌, ◌^◌, List, length, Option, Bool, sym, ap, subst, ◌∙◌, arith}
+use Rattle.std.proofs.Common.{◌≡◌, ℕ, ◌≤◌, ◌<◌, ◌^◌, List, length, Option, Bool, sym, ap, subst}
+use Rattle.std.proofs.Common.{◌∙◌, arith}
 use Rattle.std.proofs.Common.{◌++◌, false}
 use Rattle.serde_json.specs.Data.{Data, depth}
 use Rattle.serde_json.specs.Read.{max_depth}
@@ -45,7 +46,8 @@ loaded law names path bytes gives r blob valid value is buffers data_ =
       nests = is.nests;
       records =
           subst (λ (d : Data). root.is d r)
-          (one_value document.text is.text document.value value (sym same.0) document.reads is.reads)
+          (one_value document.text is.text document.value value
+          (sym same.0) document.reads is.reads)
           document.records;
       rules = valid.rules;
       data_ = data_;
@@ -55,7 +57,8 @@ loaded law names path bytes gives r blob valid value is buffers data_ =
 pub moved_depth : (all : List (List ℕ)) (ps : List (Option Picture)) (value : Data)
     → depth value ≤ max_depth → depth (moved_value all ps value) ≤ max_depth
 moved_depth all ps value nests =
-    bundled_depth (spans_from 0 all) (length (joined all)) (embedded ps value) max_depth (omega arith)
+    bundled_depth (spans_from 0 all) (length (joined all)) (embedded ps value) max_depth
+    (omega arith)
     (embedded_depth ps value max_depth (omega arith) nests)
 
 pub is_bundle : (names : Names) (path : List ℕ) (keep : Bool) (value : Data) (r : Root)
@@ -87,7 +90,8 @@ is_bundle names path keep value r buffers images ps gathered all is placed after
       compact =
           subst (λ (d : Data). has_float d ≡ false → container.json ≡ compact_text d) same
           container.compact;
-      fits = subst (λ (b : Option (List ℕ)). total_of container.json b < 2 ^ 32) is.blob container.fits;
+      fits = subst (λ (b : Option (List ℕ)). total_of container.json b < 2 ^ 32) is.blob
+          container.fits;
       written =
           container.written
           ∙ ap (λ (b : Option (List ℕ)). container_bytes container.json b) is.blob;

@@ -359,11 +359,14 @@ module _ (one : OneTextAndBlob) (back : ReadsBack) (spaces : SpacesBehind) (name
         set_in qs same g after e there =
             let list_of = λ (rs : List (Option Picture)).
             with_some (codes "bufferViews")
-            (list_after (codes "bufferViews") (views_of (count_at (codes "buffers") is.value) rs) is.value)
-            (with_some (codes "buffers") (list_after (codes "buffers") (buffers_of rs) is.value) is.value)
+            (list_after (codes "bufferViews")
+            (views_of (count_at (codes "buffers") is.value) rs) is.value)
+            (with_some (codes "buffers")
+            (list_after (codes "buffers") (buffers_of rs) is.value) is.value)
             in
             subst (λ (rs : List (Option Picture)). IsSet images e (embedded rs is.value)) (sym same)
-            (subst (λ (o : Option Data). IsSet images e (with_some images o (list_of qs))) (sym after)
+            (subst (λ (o : Option Data). IsSet images e (with_some images o (list_of qs)))
+            (sym after)
             (images_set (list_of qs) g (get images is.value) e there))
 
   is_nothing : (b c : Bool) → keep ≡ b → kept ≡ c → (b ≡ true → c ≡ true)

@@ -10,7 +10,8 @@ use Rattle.gltf_json_record.specs.Items.{AllRead}
 use Rattle.gltf_json_record.specs.Member.{unless_null}
 use Rattle.gltf_json_scene.specs.Images.{image}
 use Rattle.gltf_json_scene.specs.declared.image.Image.{Image}
-use Rattle.gltf_edit.specs.Embedded.{pictured, pictured_in, shown, with_picture, seats, images_after}
+use Rattle.gltf_edit.specs.Embedded.{pictured, pictured_in, shown, with_picture, seats}
+use Rattle.gltf_edit.specs.Embedded.{images_after}
 use Rattle.gltf_edit.specs.Embedded.{count_at}
 use Rattle.gltf_edit.specs.EmbeddedLaws.{no_uri, instead}
 use Rattle.gltf_edit.specs.declared.picture.Picture.{Picture}

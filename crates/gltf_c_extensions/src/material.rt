@@ -39,7 +39,13 @@ pub struct GltfClearcoat {
 pub fn clearcoat(alloc: Global, root: &Root, index: usize) -> Result<GltfClearcoat, Missing>
     ensures { IsClearcoat index root.now result }
 {
-    let it = read_at(alloc, root, Kind::Materials, index, "KHR_materials_clearcoat")?;
+    let it = read_at(
+        alloc,
+        root,
+        Kind::Materials,
+        index,
+        "KHR_materials_clearcoat",
+    )?;
     Ok(shown_clearcoat(&it))
 }
 
@@ -116,7 +122,13 @@ pub struct GltfIridescence {
 pub fn iridescence(alloc: Global, root: &Root, index: usize) -> Result<GltfIridescence, Missing>
     ensures { IsIridescence index root.now result }
 {
-    let it = read_at(alloc, root, Kind::Materials, index, "KHR_materials_iridescence")?;
+    let it = read_at(
+        alloc,
+        root,
+        Kind::Materials,
+        index,
+        "KHR_materials_iridescence",
+    )?;
     Ok(shown_iridescence(&it))
 }
 
@@ -152,7 +164,13 @@ pub struct GltfAnisotropy {
 pub fn anisotropy(alloc: Global, root: &Root, index: usize) -> Result<GltfAnisotropy, Missing>
     ensures { IsAnisotropy index root.now result }
 {
-    let it = read_at(alloc, root, Kind::Materials, index, "KHR_materials_anisotropy")?;
+    let it = read_at(
+        alloc,
+        root,
+        Kind::Materials,
+        index,
+        "KHR_materials_anisotropy",
+    )?;
     Ok(shown_anisotropy(&it))
 }
 
@@ -182,7 +200,13 @@ pub struct GltfDispersion {
 pub fn dispersion(alloc: Global, root: &Root, index: usize) -> Result<GltfDispersion, Missing>
     ensures { IsDispersion index root.now result }
 {
-    let it = read_at(alloc, root, Kind::Materials, index, "KHR_materials_dispersion")?;
+    let it = read_at(
+        alloc,
+        root,
+        Kind::Materials,
+        index,
+        "KHR_materials_dispersion",
+    )?;
     Ok(shown_dispersion(&it))
 }
 
@@ -220,7 +244,13 @@ pub fn diffuse_transmission(
 ) -> Result<GltfDiffuseTransmission, Missing>
     ensures { IsDiffuseTransmission index root.now result }
 {
-    let it = read_at(alloc, root, Kind::Materials, index, "KHR_materials_diffuse_transmission")?;
+    let it = read_at(
+        alloc,
+        root,
+        Kind::Materials,
+        index,
+        "KHR_materials_diffuse_transmission",
+    )?;
     Ok(shown_diffuse_transmission(&it))
 }
 

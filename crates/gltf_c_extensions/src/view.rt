@@ -37,7 +37,13 @@ pub struct GltfMeshopt {
 pub fn meshopt(alloc: Global, root: &Root, index: usize) -> Result<GltfMeshopt, Missing>
     ensures { IsMeshopt index root.now result }
 {
-    let it = read_at(alloc, root, Kind::BufferViews, index, "EXT_meshopt_compression")?;
+    let it = read_at(
+        alloc,
+        root,
+        Kind::BufferViews,
+        index,
+        "EXT_meshopt_compression",
+    )?;
     Ok(shown_meshopt(&it))
 }
 

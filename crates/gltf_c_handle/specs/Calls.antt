@@ -1,5 +1,5 @@
--- What a call from C answers, by what the file holds: `None` is a closed one. A status is the number
--- that C sees.
+-- What a call from C answers, by what the file holds: `None` is a closed one. A status is the
+-- number that C sees.
 use Rattle.std.specs.Prelude.{◌≡◌, ℕ, List, Option, Some, None, Result}
 use Rattle.gltf_json.specs.declared.root.Root.{Root}
 use Rattle.gltf_c_extensions.specs.declared.reading.Missing.{Missing}

@@ -4,7 +4,10 @@ use Rattle.gltf_items.specs.Counted.{CountedItems}
 use Rattle.gltf_data.specs.Iter.{counted_items}
 use Rattle.gltf_casting.specs.Casting.{cast_each, no_items}
 use Rattle.gltf_casting.specs.declared.morph_target_weights.MorphTargetWeights.{MorphTargetWeights}
-use Rattle.gltf_casting.specs.declared.morph_target_weights.MorphTargetWeights.TheVariants.{I8, U8, I16, U16, F32}
+use Rattle.gltf_casting.specs.declared.morph_target_weights.MorphTargetWeights.TheVariants.{I8, U8}
+use Rattle.gltf_casting.specs.declared.morph_target_weights.MorphTargetWeights.TheVariants.{I16}
+use Rattle.gltf_casting.specs.declared.morph_target_weights.MorphTargetWeights.TheVariants.{U16}
+use Rattle.gltf_casting.specs.declared.morph_target_weights.MorphTargetWeights.TheVariants.{F32}
 
 -- they are floats, which are not cast
 abbrev pub is_float : MorphTargetWeights → Bool

@@ -91,7 +91,8 @@ module _ (us vs : List (Option (List ℕ))) (d : Data) where
   detached_images is =
       get_with_some_other (codes "images") (codes "buffers") (list_elsewhere owner.Buffer us d)
       images_in (differ _ _ refl)
-      ∙ changed_at (all_elsewhere owner.Image vs) (codes "images") d (get (codes "images") d) is refl
+      ∙ changed_at (all_elsewhere owner.Image vs) (codes "images") d
+      (get (codes "images") d) is refl
 
 -- ---- how deep it nests
 
@@ -167,6 +168,7 @@ pub detached_depth : (us vs : List (Option (List ℕ))) (d : Data) (n : ℕ) →
     → depth (detached us vs d) ≤ n
 detached_depth us vs d n short =
     list_depth owner.Buffer us (codes "buffers") d
-    (with_some (codes "images") (list_elsewhere owner.Image vs d) d) n (get (codes "buffers") d) refl
+    (with_some (codes "images") (list_elsewhere owner.Image vs d) d) n
+    (get (codes "buffers") d) refl
     short
     (list_depth owner.Image vs (codes "images") d d n (get (codes "images") d) refl short short)

@@ -1,5 +1,6 @@
 -- Such a document shows what the document before shows, but for buffers and images.
-use Rattle.std.proofs.Common.{◌≡◌, ℕ, List, Option, Some, None, false, bytes_eq, codes, refl, sym, subst}
+use Rattle.std.proofs.Common.{◌≡◌, ℕ, List, Option, Some, None, false, bytes_eq, codes, refl, sym}
+use Rattle.std.proofs.Common.{subst}
 use Rattle.std.proofs.Common.{◌∙◌}
 use Rattle.std.specs.Prelude.{MatchOption, SomeIff, option_and_then}
 use Rattle.serde_json.specs.Data.{Data}
@@ -64,18 +65,25 @@ module _ (us vs : List (Option (List ℕ))) (r s : Root) (m : IsDetached us vs r
                           (
                             keep (codes "scene") refl refl _ _ m.before.1.1.1.1.1.1.1.1.1.1.1.1.0,
                             (
-                              keep (codes "scenes") refl refl _ _ m.before.1.1.1.1.1.1.1.1.1.1.1.1.1.0,
+                              keep (codes "scenes") refl refl _ _
+                              m.before.1.1.1.1.1.1.1.1.1.1.1.1.1.0,
                               (
-                                keep (codes "skins") refl refl _ _ m.before.1.1.1.1.1.1.1.1.1.1.1.1.1.1.0,
+                                keep (codes "skins") refl refl _ _
+                                m.before.1.1.1.1.1.1.1.1.1.1.1.1.1.1.0,
                                 (
-                                  keep (codes "textures") refl refl _ _ m.before.1.1.1.1.1.1.1.1.1.1.1.1.1.1.1.0,
+                                  keep (codes "textures") refl refl _ _
+                                  m.before.1.1.1.1.1.1.1.1.1.1.1.1.1.1.1.0,
                                   (
-                                    keep (codes "extensionsUsed") refl refl _ _ m.before.1.1.1.1.1.1.1.1.1.1.1.1.1.1.1.1.0,
+                                    keep (codes "extensionsUsed") refl refl _ _
+                                    m.before.1.1.1.1.1.1.1.1.1.1.1.1.1.1.1.1.0,
                                     (
-                                      keep (codes "extensionsRequired") refl refl _ _ m.before.1.1.1.1.1.1.1.1.1.1.1.1.1.1.1.1.1.0,
+                                      keep (codes "extensionsRequired") refl refl _ _
+                                      m.before.1.1.1.1.1.1.1.1.1.1.1.1.1.1.1.1.1.0,
                                       (
-                                        keep (codes "extensions") refl refl _ _ m.before.1.1.1.1.1.1.1.1.1.1.1.1.1.1.1.1.1.1.0,
-                                        keep (codes "extras") refl refl _ _ m.before.1.1.1.1.1.1.1.1.1.1.1.1.1.1.1.1.1.1.1,
+                                        keep (codes "extensions") refl refl _ _
+                                        m.before.1.1.1.1.1.1.1.1.1.1.1.1.1.1.1.1.1.1.0,
+                                        keep (codes "extras") refl refl _ _
+                                        m.before.1.1.1.1.1.1.1.1.1.1.1.1.1.1.1.1.1.1.1,
                                       ),
                                     ),
                                   ),

@@ -66,7 +66,8 @@ unfolding buffer
 buffer_named u b s i found =
     let d = found.value in
     let is = found.after in
-    let long : get (codes "byteLength") (elsewhere owner.Buffer (Some u) d) ≡ get (codes "byteLength") d =
+    let long : get (codes "byteLength") (elsewhere owner.Buffer (Some u) d)
+    ≡ get (codes "byteLength") d =
     get_with_other (codes "byteLength") (codes "uri") (string u) d (differ _ _ refl) in
     record {
       buffer = is.value;

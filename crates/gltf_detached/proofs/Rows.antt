@@ -1,5 +1,6 @@
 -- What is read of one row of a list, before and behind.
-use Rattle.std.proofs.Common.{◌≡◌, ℕ, zero, suc, List, [], ◌∷◌, length, Option, Some, None, refl, sym}
+use Rattle.std.proofs.Common.{◌≡◌, ℕ, zero, suc, List, [], ◌∷◌, length, Option, Some, None, refl}
+use Rattle.std.proofs.Common.{sym}
 use Rattle.std.proofs.Common.{ap, subst, ◌∙◌, slice_get, option_map}
 use Rattle.std.specs.Prelude.{MatchOption, option_and_then}
 use Rattle.serde_json.specs.Data.{Data, null, boolean, number, string, array, object, Items}
@@ -16,7 +17,8 @@ ReadsList P o xs = MatchOption (option_and_then unless_null o) (xs ≡ [])
     (λ e. MatchOption (as_array e) ⊥ (λ ds. AllRead P ds xs))
 
 -- what is read at an index
-pub record ReadAt {T : Type 0} (P : Data → T → Type 0) (e : Data) (ys : List T) (i : ℕ) : Type 0 where
+pub record ReadAt {T : Type 0} (P : Data → T → Type 0) (e : Data) (ys : List T)
+    (i : ℕ) : Type 0 where
   pub value : T
   pub there : slice_get ys i ≡ Some value
   pub reads : P e value

@@ -1,5 +1,6 @@
 -- The URI of a name leads to the name (glTF 2.0, section 2.8).
-use Rattle.std.proofs.Common.{◌≡◌, ◌≢◌, ℕ, ◌<◌, ◌+◌, ◌/◌, ◌%◌, List, [], ◌∷◌, ◌&&◌, Bool, true, false}
+use Rattle.std.proofs.Common.{◌≡◌, ◌≢◌, ℕ, ◌<◌, ◌+◌, ◌/◌, ◌%◌, List, [], ◌∷◌, ◌&&◌, Bool, true}
+use Rattle.std.proofs.Common.{false}
 use Rattle.std.proofs.Common.{Option, Some, None, option_map, refl, sym, ap, subst, ◌∙◌, arith, All}
 use Rattle.std.proofs.Common.{codes, nat_eq, ltb, ◌⊎◌, ⊎_elim, String, Global, string_bytes}
 use Rattle.std.proofs.Math.Utf8.{scalar, scalars, encode, encodes, scalar_cases}
@@ -10,7 +11,8 @@ use Rattle.std.specs.List.{starts_with}
 use Rattle.std.specs.Str.{IsUtf8}
 use Rattle.percent_encoding.specs.AsciiSet.{contains, should_percent_encode}
 use Rattle.percent_encoding.specs.Percent.{percent_encode, percent_decode}
-use Rattle.percent_encoding.proofs.PercentLemmas.{round_trip, All-percent_encode, IsEscapeByte, IsByte}
+use Rattle.percent_encoding.proofs.PercentLemmas.{round_trip, All-percent_encode, IsEscapeByte}
+use Rattle.percent_encoding.proofs.PercentLemmas.{IsByte}
 use Rattle.gltf_buffers.specs.Uri.{cut_at, uri_of, Relative}
 use Rattle.gltf_detach.specs.Naming.{uri_text, uri_of_part}
 use Rattle.gltf_detach.specs.declared.naming.TheConstants.{ESCAPED}

@@ -1,6 +1,7 @@
 -- What is read of a document whose buffers and images are in files of their own (glTF 2.0, sections
 -- 3.6.1, 3.6.2 and 3.8.3).
-use Rattle.std.specs.Prelude.{◌≡◌, ◌↔◌, ℕ, List, length, Option, Some, None, slice_get, option_map, map}
+use Rattle.std.specs.Prelude.{◌≡◌, ◌↔◌, ℕ, List, length, Option, Some, None, slice_get, option_map}
+use Rattle.std.specs.Prelude.{map}
 use Rattle.std.specs.Prelude.{string_bytes}
 use Rattle.serde_json.specs.Data.{Data}
 use Rattle.gltf_json.specs.Documents.{root}

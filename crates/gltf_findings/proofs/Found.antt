@@ -1,14 +1,17 @@
 -- What is reported is what is found, and it is found exactly where a condition fails.
-use Rattle.std.proofs.Common.{◌≡◌, ℕ, ◌⊎◌, inl, inr, true, false, List, [], ◌∷◌, ◌++◌, refl, sym, ◌∙◌}
+use Rattle.std.proofs.Common.{◌≡◌, ℕ, ◌⊎◌, inl, inr, true, false, List, [], ◌∷◌, ◌++◌, refl, sym}
+use Rattle.std.proofs.Common.{◌∙◌}
 use Rattle.std.proofs.Common.{ap, append_assoc, arith}
 use Rattle.std.proofs.lemmas.List.{append-nil}
 use Rattle.std.proofs.lemmas.Grind.{common_steps}
 use Rattle.std.specs.List.{Contains}
 use Rattle.std.proofs.lemmas.List.Elements.{Contains-append_left, Contains-append_right}
-use Rattle.std.proofs.lemmas.List.Elements.{Contains-append_cases, Contains-push_cases, Contains-push}
+use Rattle.std.proofs.lemmas.List.Elements.{Contains-append_cases, Contains-push_cases}
+use Rattle.std.proofs.lemmas.List.Elements.{Contains-push}
 use Rattle.gltf_json_record.specs.Place.{Place}
 use Rattle.gltf_findings.specs.declared.code.Code.{Code}
-use Rattle.gltf_findings.specs.Checks.{Checks, Nothing, Condition, At, Both, told_after, findings_of, Fails}
+use Rattle.gltf_findings.specs.Checks.{Checks, Nothing, Condition, At, Both, told_after}
+use Rattle.gltf_findings.specs.Checks.{findings_of, Fails}
 
 -- a walk adds what is found after what it had
 pub told_after-found : (told : List (List Place × Code)) (path : List Place) (t : Checks)

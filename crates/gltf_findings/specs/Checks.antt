@@ -1,5 +1,6 @@
 -- What checks are, what they find, and in which order it is reported.
-use Rattle.std.specs.Prelude.{Bool, true, false, ◌≡◌, ◌⊎◌, if◌then◌else◌, List, [], ◌∷◌, ◌++◌, ℕ, ◌+◌}
+use Rattle.std.specs.Prelude.{Bool, true, false, ◌≡◌, ◌⊎◌, if◌then◌else◌, List, [], ◌∷◌, ◌++◌, ℕ}
+use Rattle.std.specs.Prelude.{◌+◌}
 use Rattle.std.specs.Prelude.{Option, Some, None}
 use Rattle.gltf_json_record.specs.Place.{Place, named, numbered}
 use Rattle.gltf_findings.specs.declared.code.Code.{Code}
@@ -34,7 +35,8 @@ findings_of path (Both some others) = findings_of path some ++ findings_of path 
 abbrev pub Fails : Checks → List Place → Code → Type 0
 Fails Nothing path code = true ≡ false
 Fails (Condition holds its) path code = (holds ≡ false) × (path ≡ []) × (code ≡ its)
-Fails (At step checks) path code = (rest : List Place) × (path ≡ step ∷ rest) × Fails checks rest code
+Fails (At step checks) path code =
+    (rest : List Place) × (path ≡ step ∷ rest) × Fails checks rest code
 Fails (Both some others) path code = Fails some path code ⊎ Fails others path code
 
 -- the checks of what stands at a member

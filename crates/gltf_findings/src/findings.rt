@@ -73,7 +73,8 @@ impl Findings {
         location: &Location<'_>,
     ) -> Result<(), AllocError>
         ensures { OnOk result (self.new
-            ≡ told_after self.old (places_of location.now) (member name.now (Condition holds code))) }
+            ≡ told_after self.old (places_of location.now)
+            (member name.now (Condition holds code))) }
     {
         self.tell(holds, code, &Location::Member(location, name))
     }

@@ -3,7 +3,8 @@ ghost use Rattle.std.specs.Prelude.{◌≡◌, IfOk, Some, string_bytes};
 ghost use Rattle.serde_json.specs.Data.{array};
 ghost use Rattle.serde_json.specs.Read.{read};
 ghost use Rattle.serde_json.specs.View.{view};
-ghost use Rattle.gltf_findings.specs.Reports.{message_data, messages_items, issues_data, report_data};
+ghost use Rattle.gltf_findings.specs.Reports.{message_data, messages_items, issues_data};
+ghost use Rattle.gltf_findings.specs.Reports.{report_data};
 
 use crate::code::{Code, Severity};
 use crate::report::Report;

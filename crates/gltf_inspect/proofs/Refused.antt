@@ -1,5 +1,6 @@
 -- The broken rules are what the rules, as checks, find; and where no error is found all rules hold.
-use Rattle.std.proofs.Common.{◌≡◌, ℕ, ◌+◌, true, false, List, [], ◌∷◌, ◌++◌, map, refl, sym, ◌∙◌, ap, arith}
+use Rattle.std.proofs.Common.{◌≡◌, ℕ, ◌+◌, true, false, List, [], ◌∷◌, ◌++◌, map, refl, sym, ◌∙◌}
+use Rattle.std.proofs.Common.{ap, arith}
 use Rattle.std.specs.Prelude.{Bool, suc, if◌then◌else◌, ◌==◌, codes, bytes_eq}
 use Rattle.gltf_json_record.specs.Place.{Place, named, numbered, keyed}
 use Rattle.gltf_validation.specs.declared.error.Error.{Error}
@@ -18,7 +19,8 @@ broken-append : (a b : List rules.Check) → rules.broken (a ++ b) ≡ rules.bro
 broken-append [] b = refl
 broken-append (c ∷ cs) b =
     let step : rules.broken (cs ++ b) ≡ rules.broken cs ++ rules.broken b = broken-append cs b in
-    elim (c.holds) as (λ h. (if h then rules.broken (cs ++ b) else (c.path, c.error) ∷ rules.broken (cs ++ b))
+    elim (c.holds) as (λ h. (if h then rules.broken (cs ++ b) else (c.path, c.error) ∷ rules.broken
+    (cs ++ b))
     ≡ (if h then rules.broken cs else (c.path, c.error) ∷ rules.broken cs) ++ rules.broken b)
     [ true ↦ step | false ↦ ap (λ xs. (c.path, c.error) ∷ xs) step ]
 
@@ -26,7 +28,8 @@ last-push : (d s : Place) (path : List Place) → last_of d (path ++ s ∷ []) �
 last-push d s [] = refl
 last-push d s (x ∷ xs) = last-push x s xs
 
-map-both : (xs ys : List (List Place × Error)) → map refusal (xs ++ ys) ≡ map refusal xs ++ map refusal ys
+map-both : (xs ys : List (List Place × Error))
+    → map refusal (xs ++ ys) ≡ map refusal xs ++ map refusal ys
 map-both [] ys = refl
 map-both (x ∷ xs) ys = ap (λ zs. refusal x ∷ zs) (map-both xs ys)
 
@@ -50,7 +53,8 @@ nothing-plus k = omega arith
 one-more : (b : Bool) (xs ys : List (List Place × Code))
     → count_of grave.Error (xs ++ ys) ≡ count_of grave.Error xs + count_of grave.Error ys
     → (if b then suc (count_of grave.Error (xs ++ ys)) else count_of grave.Error (xs ++ ys))
-    ≡ (if b then suc (count_of grave.Error xs) else count_of grave.Error xs) + count_of grave.Error ys
+    ≡ (if b then suc (count_of grave.Error xs) else count_of grave.Error xs)
+    + count_of grave.Error ys
 one-more true xs ys e = rw e (let m : ℕ = count_of grave.Error xs in omega arith)
 one-more false xs ys e = e
 
@@ -71,7 +75,8 @@ grave-refusal step IndexOutOfBounds = refl
 grave-refusal (named name) Invalid = refl
 grave-refusal (numbered i) Invalid = refl
 grave-refusal (keyed name) Invalid = refl
-grave-refusal (named name) Missing = grave-choice (bytes_eq name (codes "uri")) (bytes_eq name (codes "mimeType"))
+grave-refusal (named name) Missing =
+    grave-choice (bytes_eq name (codes "uri")) (bytes_eq name (codes "mimeType"))
 grave-refusal (numbered i) Missing = refl
 grave-refusal (keyed name) Missing = refl
 grave-refusal step Oversize = refl
@@ -92,15 +97,19 @@ pub hold-without-errors : (path : List Place) (step : Place) (t : rules.Rules)
 hold-without-errors path step rules.Nothing e = tt
 hold-without-errors path step (rules.Condition true x) e = refl
 hold-without-errors path step (rules.Condition false x) e =
-    let one : ◌≡◌ {A = ℕ} 1 0 = sym (found-one path (refusal_code step x) (grave-refusal step x)) ∙ e in cc
+    let one : ◌≡◌ {A = ℕ} 1 0 = sym (found-one path (refusal_code step x) (grave-refusal step x))
+    ∙ e in cc
 hold-without-errors path step (rules.At s t) e = hold-without-errors (path ++ s ∷ []) s t e
 hold-without-errors path step (rules.Both t u) e =
     let both : count_of grave.Error (findings_of path (refusals step t))
     + count_of grave.Error (findings_of path (refusals step u)) ≡ 0 =
-    sym (count-append (findings_of path (refusals step t)) (findings_of path (refusals step u))) ∙ e in (
-      hold-without-errors path step t (none-left (count_of grave.Error (findings_of path (refusals step t)))
+    sym (count-append (findings_of path (refusals step t)) (findings_of path (refusals step u)))
+    ∙ e in (
+      hold-without-errors path step t (none-left
+      (count_of grave.Error (findings_of path (refusals step t)))
           (count_of grave.Error (findings_of path (refusals step u))) both),
-      hold-without-errors path step u (none-right (count_of grave.Error (findings_of path (refusals step t)))
+      hold-without-errors path step u (none-right
+      (count_of grave.Error (findings_of path (refusals step t)))
           (count_of grave.Error (findings_of path (refusals step u))) both),
     )
 

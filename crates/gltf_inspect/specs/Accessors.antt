@@ -1,5 +1,6 @@
 -- Accessors and their sparse parts (glTF 2.0, section 3.6.2).
-use Rattle.std.specs.Prelude.{ℕ, ◌+◌, ◌%◌, ◌==◌, ◌||◌, not, nat_le, nat_lt, Bool, true, false, slice_get, codes}
+use Rattle.std.specs.Prelude.{ℕ, ◌+◌, ◌%◌, ◌==◌, ◌||◌, not, nat_le, nat_lt, Bool, true, false}
+use Rattle.std.specs.Prelude.{slice_get, codes}
 use Rattle.gltf_json.specs.declared.root.Root.{Root}
 use Rattle.gltf_json_record.specs.declared.validation.Checked.{Checked}
 use Rattle.gltf_json_record.specs.declared.validation.Checked.TheVariants.{Valid}
@@ -9,12 +10,14 @@ use Rattle.gltf_json_geometry.specs.declared.accessor.Accessor.{Accessor}
 use Rattle.gltf_json_geometry.specs.declared.accessor.sparse.Sparse.{Sparse}
 use Rattle.gltf_json_geometry.specs.declared.buffer.View.{View}
 use Rattle.gltf_findings.specs.declared.code.Code.TheVariants.{ValueNotInRange, NormalizedInvalid}
-use Rattle.gltf_findings.specs.declared.code.Code.TheVariants.{OffsetAlignment, TotalOffsetAlignment}
+use Rattle.gltf_findings.specs.declared.code.Code.TheVariants.{OffsetAlignment}
+use Rattle.gltf_findings.specs.declared.code.Code.TheVariants.{TotalOffsetAlignment}
 use Rattle.gltf_findings.specs.declared.code.Code.TheVariants.{AccessorTooLong, SmallByteStride}
 use Rattle.gltf_findings.specs.declared.code.Code.TheVariants.{SparseCountOutOfRange}
 use Rattle.gltf_findings.specs.Checks.{Checks, Condition, ◌&◌, member, optional_checks}
 use Rattle.gltf_inspect_meshes.specs.Facts.{or_zero}
-use Rattle.gltf_inspect_meshes.specs.Items.{component_size, last_size, fit, size_of, packed, stride_in}
+use Rattle.gltf_inspect_meshes.specs.Items.{component_size, last_size, fit, size_of, packed}
+use Rattle.gltf_inspect_meshes.specs.Items.{stride_in}
 
 -- normalized "MUST NOT be set to true for accessors with FLOAT or UNSIGNED_INT component type"
 -- (5.1.4)
@@ -24,13 +27,14 @@ may_be_normalized (Valid F32) = false
 may_be_normalized _ = true
 
 -- "the offset of an accessor into a bufferView [..] and the offset of an accessor into a buffer
--- [..] MUST be a multiple of the size of the accessor's component type", "each accessor MUST fit its
--- bufferView", and a stride is at least the size of an item (3.6.2.4)
+-- [..] MUST be a multiple of the size of the accessor's component type", "each accessor MUST fit
+-- its bufferView", and a stride is at least the size of an item (3.6.2.4)
 abbrev pub in_view_checks : Accessor → View → Checks
 in_view_checks a v =
     Condition (nat_le (packed a) (stride_in a v.byte_stride)) SmallByteStride
     & member (codes "byteOffset")
-    (Condition ((or_zero a.byte_offset + or_zero v.byte_offset) % size_of a == 0) TotalOffsetAlignment
+    (Condition ((or_zero a.byte_offset + or_zero v.byte_offset) % size_of a == 0)
+    TotalOffsetAlignment
     & Condition (a.count == 0 || nat_lt (stride_in a v.byte_stride) (packed a)
     || fit (or_zero a.byte_offset) (stride_in a v.byte_stride) a.count
     (last_size a.type_ (size_of a)) v.byte_length) AccessorTooLong)
@@ -52,7 +56,8 @@ sparse_checks r a s =
     (component_size s.indices.component_type) (component_size s.indices.component_type) s.count)
     (slice_get r.buffer_views.items s.indices.buffer_view))
     & member (codes "values") (optional_checks
-    (part_checks s.values.byte_offset (size_of a) (packed a) (last_size a.type_ (size_of a)) s.count)
+    (part_checks s.values.byte_offset (size_of a) (packed a) (last_size a.type_ (size_of a))
+    s.count)
     (slice_get r.buffer_views.items s.values.buffer_view))
 
 abbrev pub base_checks : Root → Accessor → ℕ → Checks

@@ -11,7 +11,8 @@ use Rattle.gltf_json_geometry.specs.declared.accessor.Accessor.{Accessor}
 use Rattle.gltf_json_scene.specs.declared.scene.Node.{Node}
 use Rattle.gltf_findings.specs.declared.code.Code.TheVariants.{EmptyEntity, ChannelTargetMatrix}
 use Rattle.gltf_findings.specs.declared.code.Code.TheVariants.{InputInvalidFormat}
-use Rattle.gltf_findings.specs.declared.code.Code.TheVariants.{InputWithoutBounds, InputTooFewElements}
+use Rattle.gltf_findings.specs.declared.code.Code.TheVariants.{InputWithoutBounds}
+use Rattle.gltf_findings.specs.declared.code.Code.TheVariants.{InputTooFewElements}
 use Rattle.gltf_findings.specs.Checks.{Checks, Condition, ◌&◌, member, optional_checks, list_checks}
 use Rattle.gltf_inspect_meshes.specs.Facts.{has_elements, is_bounded}
 use Rattle.gltf_inspect_scenes.specs.Outputs.{is_weights, is_spline}

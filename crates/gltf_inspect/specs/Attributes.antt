@@ -6,7 +6,8 @@ use Rattle.gltf_json_geometry.specs.declared.accessor.Accessor.{Accessor}
 use Rattle.gltf_json_geometry.specs.declared.semantic.Semantic.{Semantic}
 use Rattle.gltf_json_record.specs.Place.{keyed}
 use Rattle.gltf_findings.specs.declared.code.Code.TheVariants.{UnequalAccessorCount}
-use Rattle.gltf_findings.specs.declared.code.Code.TheVariants.{PositionWithoutBounds, TangentWithoutNormal}
+use Rattle.gltf_findings.specs.declared.code.Code.TheVariants.{PositionWithoutBounds}
+use Rattle.gltf_findings.specs.declared.code.Code.TheVariants.{TangentWithoutNormal}
 use Rattle.gltf_findings.specs.Checks.{Checks, Nothing, Condition, At, ◌&◌, optional_checks}
 use Rattle.gltf_inspect_meshes.specs.Facts.{is_bounded}
 use Rattle.gltf_inspect_meshes.specs.Meanings.{meaning_number, first_of, count_at, agree}

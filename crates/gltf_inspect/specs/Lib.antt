@@ -3,6 +3,7 @@ pub mod Extensions
 pub mod Versions
 pub mod Views
 pub mod Accessors
+pub mod Cameras
 pub mod Materials
 pub mod Attributes
 pub mod Meshes

@@ -1,5 +1,6 @@
 -- Nodes (glTF 2.0, section 3.5.3) and skins (section 3.7.3).
-use Rattle.std.specs.Prelude.{ℕ, ◌&&◌, ◌||◌, Bool, true, false, is_none, nat_le, slice_get, length, codes}
+use Rattle.std.specs.Prelude.{ℕ, ◌&&◌, ◌||◌, Bool, true, false, is_none, nat_le, slice_get, length}
+use Rattle.std.specs.Prelude.{codes}
 use Rattle.gltf_json.specs.declared.root.Root.{Root}
 use Rattle.gltf_json_record.specs.declared.validation.Checked.{Checked}
 use Rattle.gltf_json_record.specs.declared.validation.Checked.TheVariants.{Valid}
@@ -37,7 +38,8 @@ matrices_checks joints a =
     & Condition (nat_le joints a.count) IbmCount
 
 abbrev pub matrices_index_checks : Root → ℕ → ℕ → Checks
-matrices_index_checks r joints i = optional_checks (matrices_checks joints) (slice_get r.accessors.items i)
+matrices_index_checks r joints i =
+    optional_checks (matrices_checks joints) (slice_get r.accessors.items i)
 
 -- a skin has one joint at least (5.28.3)
 abbrev pub skin_checks : Root → Skin → Checks

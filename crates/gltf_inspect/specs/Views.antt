@@ -1,5 +1,6 @@
 -- Buffers, their views (glTF 2.0, section 3.6.1), and the views of images (section 3.8.3).
-use Rattle.std.specs.Prelude.{ℕ, ◌+◌, ◌%◌, ◌==◌, ◌&&◌, ◌||◌, nat_le, nat_lt, is_none, slice_get, codes}
+use Rattle.std.specs.Prelude.{ℕ, ◌+◌, ◌%◌, ◌==◌, ◌&&◌, ◌||◌, nat_le, nat_lt, is_none, slice_get}
+use Rattle.std.specs.Prelude.{codes}
 use Rattle.gltf_json.specs.declared.root.Root.{Root}
 use Rattle.gltf_json_geometry.specs.declared.buffer.Buffer.{Buffer}
 use Rattle.gltf_json_geometry.specs.declared.buffer.View.{View}
@@ -24,7 +25,8 @@ stride_checks len stride =
 -- the view begins inside the buffer, and then ends inside it
 abbrev pub within_checks : View → Buffer → Checks
 within_checks v b =
-    member (codes "byteOffset") (Condition (nat_lt (or_zero v.byte_offset) b.byte_length) ViewTooLong)
+    member (codes "byteOffset")
+    (Condition (nat_lt (or_zero v.byte_offset) b.byte_length) ViewTooLong)
     & member (codes "byteLength") (Condition (nat_le b.byte_length (or_zero v.byte_offset)
     || nat_le (or_zero v.byte_offset + v.byte_length) b.byte_length) ViewTooLong)
 
@@ -42,4 +44,5 @@ abbrev pub image_index_checks : Root → ℕ → Checks
 image_index_checks r i = optional_checks image_view_checks (slice_get r.buffer_views.items i)
 
 abbrev pub image_checks : Root → Image → Checks
-image_checks r i = member (codes "bufferView") (optional_checks (image_index_checks r) i.buffer_view)
+image_checks r i =
+    member (codes "bufferView") (optional_checks (image_index_checks r) i.buffer_view)

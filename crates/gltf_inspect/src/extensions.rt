@@ -1,13 +1,12 @@
 //! The extensions that a document names (glTF 2.0, section 3.12).
-ghost use Rattle.std.specs.Prelude.{◌≡◌, OnOk, map};
-ghost use Rattle.gltf_json_record.specs.Member.{is_one_of};
+ghost use Rattle.std.specs.Prelude.{◌≡◌, OnOk};
 ghost use Rattle.gltf_validation.specs.Locations.{places_of};
 ghost use Rattle.gltf_findings.specs.Checks.{told_after};
 ghost use Rattle.gltf_inspect.specs.Extensions.{used_checks, required_checks};
-ghost use Rattle.std.specs.String.{string_bytes};
 
 use gltf_findings::code::Code;
 use gltf_findings::findings::Findings;
+use gltf_inspect_meshes::names::is_among;
 use gltf_validation::location::Location;
 use gltf_validation::root::is_supported;
 use std::alloc::AllocError;
@@ -43,15 +42,4 @@ pub(crate) fn tell_required(
         findings.tell(is_among(name, used), Code::UnusedExtensionRequired, &at)?;
     }
     Ok(())
-}
-
-fn is_among(name: &str, names: &[String]) -> bool
-    ensures { result ≡ is_one_of (map (λ n. string_bytes n) names.now) name.now }
-{
-    for other in names {
-        if name == other.as_str() {
-            return true;
-        }
-    }
-    false
 }

@@ -6,6 +6,7 @@ mod accessor;
 mod animation;
 mod asset;
 mod attributes;
+mod camera;
 mod extensions;
 pub mod inspect;
 pub mod laws;

@@ -1,6 +1,6 @@
--- Bytes that are refused are not accepted, where no name can be asked for: whatever else is accepted
--- has the sources and the blob of the one document (`also_read`), and a buffer has one result
--- (`one_result`). The premises (`Law`) are laws of `gltf_json` and `gltf_rules`.
+-- Bytes that are refused are not accepted, where no name can be asked for: whatever else is
+-- accepted has the sources and the blob of the one document (`also_read`), and a buffer has one
+-- result (`one_result`). The premises (`Law`) are laws of `gltf_json` and `gltf_rules`.
 use Rattle.std.proofs.Common.{ℕ, ◌≡◌, List, [], ◌∷◌, length, map, get_or, refl, sym, ◌∙◌}
 use Rattle.std.proofs.Common.{ap, arith, suc, inl, inr, Result, Ok, Err}
 use Rattle.std.specs.Prelude.{IfOk, IfNone, MatchOption, Option, Some, None, slice_get, ⊤}

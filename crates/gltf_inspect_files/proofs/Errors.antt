@@ -58,7 +58,8 @@ container_grave bytes (binary.UnknownChunkType type) =
     if_grave (starts_with nat_eq (drop 16 bytes) (codes "JSON")) code.GlbChunkTooBig
     code.GlbUnexpectedFirstChunk refl refl
 
-record_grave : (step : Place) (fault : RecordFault) → severity (record_code step fault) ≡ grave.Error
+record_grave : (step : Place) (fault : RecordFault) → severity (record_code step fault)
+    ≡ grave.Error
 record_grave step MissingMember = refl
 record_grave (named name) WrongKind = refl
 record_grave (numbered i) WrongKind = refl

@@ -10,7 +10,8 @@ use Rattle.gltf_findings.specs.declared.code.Code.TheVariants as code
 
 -- the header has 12 bytes; behind them the bytes end before or in the header of a chunk
 abbrev pub end_code : ℕ → Code
-end_code len = if nat_lt len 12 then code.GlbUnexpectedEndOfHeader else code.GlbUnexpectedEndOfChunkHeader
+end_code len =
+    if nat_lt len 12 then code.GlbUnexpectedEndOfHeader else code.GlbUnexpectedEndOfChunkHeader
 
 -- no container is shorter than its header
 abbrev pub length_code : ℕ → Code

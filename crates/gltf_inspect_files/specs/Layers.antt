@@ -12,10 +12,9 @@ use Rattle.gltf_buffers.specs.declared.data.Data.{Data}
 use Rattle.gltf.specs.Import.{IsDocument, IsOnlyDocument}
 use Rattle.gltf.specs.Shown.{bytes_of_each}
 use Rattle.gltf_findings.specs.Checks.{findings_of}
-use Rattle.gltf_inspect_items.specs.Documents.{items_checks}
 use Rattle.gltf_inspect_files.specs.declared.inspect.Inspected.{Inspected}
 use Rattle.gltf_inspect_files.specs.Buffers.{buffers_findings, SaysSomething}
-use Rattle.gltf_inspect_files.specs.Reports.{Found, IsReportOf}
+use Rattle.gltf_inspect_files.specs.Reports.{Found, IsReportOf, contents_checks}
 
 -- it is the report of any bytes whose records these are, with this blob
 abbrev pub IsReportOfRecords : Names → Root → Option (List ℕ) → Inspected → Type 0
@@ -36,7 +35,7 @@ pub record SomeFail (names : Names) (r : Root) (blob : Option (List ℕ)) (recor
 pub record AllAreHad (names : Names) (r : Root) (blob : Option (List ℕ)) (records : Found)
     (buffers : List (List ℕ)) (found : Found) : Type 0 where
   pub data_ : AreBytes names (sources_of r) blob (length (sources_of r)) buffers
-  pub same : found ≡ records ++ findings_of [] (items_checks r (slice_get buffers))
+  pub same : found ≡ records ++ findings_of [] (contents_checks r (slice_get buffers))
 
 abbrev pub IsReportOfBuffers : Names → Root → Option (List ℕ) → Found → Option (Vec Data Global)
     → Found → Type 0

@@ -18,9 +18,11 @@ use Rattle.gltf.specs.Import.{IsDocument, IsValidDocument, AcceptsWith, IsOnlyDo
 use Rattle.gltf.specs.Import.{IsNoDocument, RefusesRecords}
 use Rattle.gltf.specs.Shown.{bytes_of_each}
 use Rattle.gltf_findings.specs.declared.code.Code.{Code}
-use Rattle.gltf_findings.specs.Checks.{findings_of}
+use Rattle.gltf_findings.specs.Checks.{Checks, ◌&◌, findings_of}
 use Rattle.gltf_inspect.specs.Documents.{root_checks}
 use Rattle.gltf_inspect_items.specs.Documents.{items_checks}
+use Rattle.gltf_inspect_items.specs.Reading.{Bytes}
+use Rattle.gltf_inspect_values.specs.Documents.{values_checks}
 use Rattle.gltf_inspect_files.specs.declared.inspect.Inspected.{Inspected}
 use Rattle.gltf_inspect_files.specs.Buffers.{buffers_findings, SaysSomething}
 use Rattle.gltf_inspect_files.specs.Containers.{container_code}
@@ -33,10 +35,14 @@ Found = List (List Place × Code)
 abbrev pub records_findings : Root → Found
 records_findings r = findings_of [] (root_checks r)
 
+-- the checks of the items of a document, and of the values of its accessors
+abbrev pub contents_checks : Root → Bytes → Checks
+contents_checks r bytes = items_checks r bytes & values_checks r bytes
+
 -- what is found in a document and in its items, over these bytes of its buffers
 abbrev pub document_findings : Root → List (List ℕ) → Found
 document_findings r buffers =
-    records_findings r ++ findings_of [] (items_checks r (slice_get buffers))
+    records_findings r ++ findings_of [] (contents_checks r (slice_get buffers))
 
 -- what is found in bytes that are no document, by the loader's error: the fault of the container,
 -- of the text or of a record. For no other cause are bytes no document.

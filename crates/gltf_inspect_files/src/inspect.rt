@@ -10,6 +10,7 @@ ghost use Rattle.gltf_findings.specs.Reports.{count_of};
 ghost use Rattle.gltf_findings.specs.declared.code.Severity.TheVariants as grave;
 ghost use Rattle.gltf_inspect_files.specs.Reports.{document_findings, IsReportOf, IsReportOfFile};
 
+use crate::contents::inspect_contents;
 use crate::join::joined;
 use crate::laws::{what_is_refused_has_an_error, what_is_refused_is_not_accepted};
 use crate::layers::inspect_bytes;
@@ -18,7 +19,6 @@ use gltf::{Document, Error, Name, NamedBytes};
 use gltf_buffers::{Ask, NoNames};
 use gltf_findings::report::Report;
 use gltf_inspect::inspect::inspect;
-use gltf_inspect_items::inspect::inspect_items;
 use std::alloc::{AllocError, Global};
 
 /// A file that was looked at.
@@ -44,7 +44,7 @@ pub fn inspect_imported(
         ≡ document_findings document.now (bytes_of_each buffers.now)) }
 {
     let records = inspect(alloc, document.as_json())?;
-    let items = inspect_items(alloc, document, buffers)?;
+    let items = inspect_contents(alloc, document, buffers)?;
     joined(alloc, &records, &items)
 }
 

@@ -1,20 +1,21 @@
 //! The layers of a file, one after the other: container, text, records, rules, buffers, items.
-ghost use Rattle.std.specs.Prelude.{◌≡◌, ◌≢◌, ◌++◌, [], false, IfOk, OnOk, IfSome, IfNone, length, slice_get};
+ghost use Rattle.std.specs.Prelude.{◌≡◌, ◌≢◌, ◌++◌, [], false, IfOk, OnOk, IfSome, IfNone, length};
+ghost use Rattle.std.specs.Prelude.{slice_get};
 ghost use Rattle.std.specs.List.{AllByRecursion};
 ghost use Rattle.gltf_buffers.specs.Buffers.{sources_of};
 ghost use Rattle.gltf_buffers.specs.Each.{AreAnswers};
 ghost use Rattle.gltf_buffers.specs.Shown.{answer_of_each, blob_bytes, bytes_of_each};
 ghost use Rattle.gltf_validation.specs.Documents.{Faults};
 ghost use Rattle.gltf_findings.specs.Checks.{findings_of};
-ghost use Rattle.gltf_inspect_items.specs.Documents.{items_checks};
 ghost use Rattle.gltf_inspect_files.specs.Buffers.{buffers_findings, is_memory, SaysSomething};
 ghost use Rattle.gltf_inspect_files.specs.Buffers.{is_nil};
 ghost use Rattle.gltf_inspect_files.specs.Layers.{IsReportOfRecords, IsReportOfBuffers};
-ghost use Rattle.gltf_inspect_files.specs.Reports.{document_findings, error_findings};
+ghost use Rattle.gltf_inspect_files.specs.Reports.{contents_checks, error_findings};
 ghost use Rattle.gltf_inspect_files.specs.Reports.{records_findings, IsReportOf};
 
 use crate::buffer::{had, is_memory, tell_buffers};
 use crate::container::container_code;
+use crate::contents::inspect_contents;
 use crate::inspect::Inspected;
 use crate::join::joined;
 use crate::text::tell_text;
@@ -25,7 +26,6 @@ use gltf_buffers::{Ask, read_each_buffer};
 use gltf_findings::findings::Findings;
 use gltf_findings::report::Report;
 use gltf_inspect::inspect::inspect;
-use gltf_inspect_items::inspect::inspect_items;
 use gltf_json::root::Root;
 use gltf_json_record::path::Path;
 use std::alloc::{AllocError, Global};
@@ -204,9 +204,9 @@ fn with_items(
     records: &Report,
 ) -> Result<Report, AllocError>
     ensures { IfOk result (λ report. report ≡ records.now ++ findings_of []
-        (items_checks document.now (slice_get (bytes_of_each buffers.now)))) }
+        (contents_checks document.now (slice_get (bytes_of_each buffers.now)))) }
 {
-    let items = inspect_items(alloc, document, buffers)?;
+    let items = inspect_contents(alloc, document, buffers)?;
     joined(alloc, records, &items)
 }
 

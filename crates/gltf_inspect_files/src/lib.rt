@@ -3,6 +3,7 @@
 
 mod buffer;
 mod container;
+mod contents;
 pub mod inspect;
 mod join;
 pub mod laws;

@@ -70,4 +70,5 @@ primitive_checks r bytes p =
     (are_triangles p.mode)) p.indices)
 
 abbrev pub mesh_checks : Root → Bytes → Mesh → Checks
-mesh_checks r bytes m = member (codes "primitives") (list_checks (primitive_checks r bytes) m.primitives.items)
+mesh_checks r bytes m =
+    member (codes "primitives") (list_checks (primitive_checks r bytes) m.primitives.items)

@@ -22,8 +22,9 @@ abbrev pub items_or_none : {X : Type 0} → Result (List X) Unreadable → List 
 items_or_none (Ok items) = items
 items_or_none (Err reason) = []
 
--- the items of an accessor that has a view: as many as are read, so none where it cannot be read. One
--- without a view is zeros but for its sparse part, and may have any count: there is nothing to check
+-- the items of an accessor that has a view: as many as are read, so none where it cannot be read.
+-- One without a view is zeros but for its sparse part, and may have any count: there is nothing to
+-- check
 abbrev pub viewed_items : {X : Type 0} → Ghosts X → Root → Bytes → Accessor → Option ℕ → List X
 viewed_items t r bytes a None = []
 viewed_items t r bytes a (Some view) =

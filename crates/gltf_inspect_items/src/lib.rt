@@ -6,5 +6,5 @@ mod attribute;
 mod indices;
 pub mod inspect;
 pub mod laws;
-mod number;
-mod read;
+pub mod number;
+pub mod read;

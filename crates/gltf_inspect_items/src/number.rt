@@ -2,7 +2,7 @@
 use gltf_items::Item;
 
 /// An unsigned number of one, two or four bytes.
-pub(crate) trait Number: Item {
+pub trait Number: Item {
     ghost use Rattle.std.specs.Prelude.{◌≡◌, ℕ};
 
     /// What it stands for.

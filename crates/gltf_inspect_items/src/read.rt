@@ -11,7 +11,7 @@ use gltf::buffer::{Buffer, Data, bytes_of};
 
 /// The items of the accessor at an index, where it has a view and can be read over these buffers.
 /// None also where there is no such accessor. There are at most as many as the view has bytes.
-pub(crate) fn items_at<'s, T: Item>(
+pub fn items_at<'s, T: Item>(
     document: &Document,
     buffers: &'s [Data],
     index: usize,
@@ -30,7 +30,7 @@ pub(crate) fn items_at<'s, T: Item>(
 }
 
 /// The next item.
-pub(crate) fn take<T: Item>(items: &mut Iter<'_, T>) -> Option<T>
+pub fn take<T: Item>(items: &mut Iter<'_, T>) -> Option<T>
     ensures { YieldsFirst (λ s. (counted_items s).items) items.old result items.new }
 {
     items.next()

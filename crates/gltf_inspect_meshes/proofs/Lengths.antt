@@ -1,5 +1,6 @@
 -- The length of a JSON list.
-use Rattle.std.proofs.Common.{◌≡◌, ℕ, List, [], ◌∷◌, map, length, refl, ap, sym, Option, Some, nat_eq}
+use Rattle.std.proofs.Common.{◌≡◌, ℕ, List, [], ◌∷◌, map, length, refl, ap, sym, Option, Some}
+use Rattle.std.proofs.Common.{nat_eq}
 use Rattle.serde_json.specs.Data.{Data}
 use Rattle.serde_json.specs.Find.{as_array}
 use Rattle.gltf_inspect_meshes.specs.Weights.{is_list_of}
@@ -12,7 +13,8 @@ pub items_len-view : (vs : List Value) → items_len (items_view vs) ≡ length 
 items_len-view [] = refl
 items_len-view (v ∷ vs) = ap suc (items_len-view vs)
 
-len_eq : (count : ℕ) (vs : List Value) → nat_eq (length vs) count ≡ nat_eq (items_len (items_view vs)) count
+len_eq : (count : ℕ) (vs : List Value) → nat_eq (length vs) count
+    ≡ nat_eq (items_len (items_view vs)) count
 len_eq count vs = ap (λ n. nat_eq n count) (sym (items_len-view vs))
 
 -- a list has the length that its values have

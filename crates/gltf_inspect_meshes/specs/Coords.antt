@@ -1,5 +1,5 @@
--- The sets of texture coordinates that a material takes from a primitive (glTF 2.0, sections 3.9.2 and
--- 5.30): "an integer value [..] n in TEXCOORD_n".
+-- The sets of texture coordinates that a material takes from a primitive (glTF 2.0, sections 3.9.2
+-- and 5.30): "an integer value [..] n in TEXCOORD_n".
 use Rattle.std.specs.Prelude.{ℕ, ◌==◌, ◌&&◌, ◌||◌, Bool, true, false, is_some, slice_get, codes}
 use Rattle.std.specs.Prelude.{List, [], ◌∷◌, Option, Some, None, unwrap_or}
 use Rattle.gltf_json.specs.declared.root.Root.{Root}

@@ -1,5 +1,6 @@
 -- Small facts that checks are made of.
-use Rattle.std.specs.Prelude.{ℕ, Bool, true, false, is_some, List, [], ◌∷◌, Option, Some, None, ◌&&◌}
+use Rattle.std.specs.Prelude.{ℕ, Bool, true, false, is_some, List, [], ◌∷◌, Option, Some, None}
+use Rattle.std.specs.Prelude.{◌&&◌}
 use Rattle.gltf_json_geometry.specs.declared.accessor.Accessor.{Accessor}
 
 -- an offset stands for 0 where it is absent

@@ -1,5 +1,6 @@
 -- The formats of attributes (glTF 2.0, section 3.7.2.1), and where they may lie (section 3.6.2.4).
-use Rattle.std.specs.Prelude.{ℕ, ◌%◌, ◌==◌, ◌&&◌, ◌||◌, Bool, true, false, not, slice_get, List, [], ◌∷◌}
+use Rattle.std.specs.Prelude.{ℕ, ◌%◌, ◌==◌, ◌&&◌, ◌||◌, Bool, true, false, not, slice_get, List, []}
+use Rattle.std.specs.Prelude.{◌∷◌}
 use Rattle.std.specs.Prelude.{codes}
 use Rattle.gltf_json.specs.declared.root.Root.{Root}
 use Rattle.gltf_json_record.specs.Place.{keyed}
@@ -7,14 +8,16 @@ use Rattle.gltf_json_record.specs.declared.validation.Checked.{Checked}
 use Rattle.gltf_json_record.specs.declared.validation.Checked.TheVariants.{Valid}
 use Rattle.gltf_json_geometry.specs.Semantics.{semantic_name}
 use Rattle.gltf_json_geometry.specs.declared.accessor.ComponentType.{ComponentType}
-use Rattle.gltf_json_geometry.specs.declared.accessor.ComponentType.TheVariants.{I8, U8, I16, U16, F32}
+use Rattle.gltf_json_geometry.specs.declared.accessor.ComponentType.TheVariants.{I8, U8, I16, U16}
+use Rattle.gltf_json_geometry.specs.declared.accessor.ComponentType.TheVariants.{F32}
 use Rattle.gltf_json_geometry.specs.declared.accessor.«Type».{«Type»}
 use Rattle.gltf_json_geometry.specs.declared.accessor.«Type».TheVariants.{Scalar, Vec2, Vec3, Vec4}
 use Rattle.gltf_json_geometry.specs.declared.accessor.Accessor.{Accessor}
 use Rattle.gltf_json_geometry.specs.declared.buffer.View.{View}
 use Rattle.gltf_json_geometry.specs.declared.semantic.Semantic.{Semantic}
 use Rattle.gltf_json_geometry.specs.declared.semantic.Semantic.TheVariants as meaning
-use Rattle.gltf_findings.specs.declared.code.Code.TheVariants.{AttributeInvalidFormat, AttributeUnaligned}
+use Rattle.gltf_findings.specs.declared.code.Code.TheVariants.{AttributeInvalidFormat}
+use Rattle.gltf_findings.specs.declared.code.Code.TheVariants.{AttributeUnaligned}
 use Rattle.gltf_findings.specs.Checks.{Checks, Nothing, Condition, At, ◌&◌, optional_checks}
 use Rattle.gltf_inspect_meshes.specs.Facts.{or_zero}
 use Rattle.gltf_inspect_meshes.specs.Items.{stride_in}
@@ -57,8 +60,8 @@ is_allowed (meaning.TexCoords set) w c normalized = w == 2 && is_fraction c norm
 is_allowed (meaning.Joints set) w c normalized = w == 4 && is_whole c normalized
 is_allowed (meaning.Weights set) w c normalized = w == 4 && is_fraction c normalized
 
--- "byte, byte normalized, unsigned byte, unsigned byte normalized, short, short normalized, unsigned
--- short, unsigned short normalized"
+-- "byte, byte normalized, unsigned byte, unsigned byte normalized, short, short normalized,
+-- unsigned short, unsigned short normalized"
 abbrev pub is_small : Checked ComponentType → Bool
 is_small (Valid I8) = true
 is_small (Valid U8) = true
@@ -90,8 +93,8 @@ is_format quantized semantic w c normalized =
     is_allowed semantic w c normalized || quantized && is_quantized semantic w c normalized
 
 -- "for performance and compatibility reasons, each element of a vertex attribute MUST be aligned to
--- 4-byte boundaries inside a bufferView (that is, accessor.byteOffset and bufferView.byteStride MUST
--- be multiples of 4)"
+-- 4-byte boundaries inside a bufferView (that is, accessor.byteOffset and bufferView.byteStride
+-- MUST be multiples of 4)"
 abbrev pub aligned_checks : Accessor → View → Checks
 aligned_checks a v =
     Condition (or_zero a.byte_offset % 4 == 0 && stride_in a v.byte_stride % 4 == 0)

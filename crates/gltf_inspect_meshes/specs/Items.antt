@@ -1,12 +1,15 @@
 -- The bytes of an item (glTF 2.0, section 3.6.2.4).
-use Rattle.std.specs.Prelude.{ℕ, ◌+◌, ◌*◌, ◌-◌, ◌==◌, if◌then◌else◌, Bool, nat_le, Option, Some, None}
+use Rattle.std.specs.Prelude.{ℕ, ◌+◌, ◌*◌, ◌-◌, ◌==◌, if◌then◌else◌, Bool, nat_le, Option, Some}
+use Rattle.std.specs.Prelude.{None}
 use Rattle.gltf_json_record.specs.declared.validation.Checked.{Checked}
 use Rattle.gltf_json_record.specs.declared.validation.Checked.TheVariants.{Valid, Invalid}
 use Rattle.gltf_json_geometry.specs.declared.accessor.ComponentType.{ComponentType}
-use Rattle.gltf_json_geometry.specs.declared.accessor.ComponentType.TheVariants.{I8, U8, I16, U16, U32, F32}
+use Rattle.gltf_json_geometry.specs.declared.accessor.ComponentType.TheVariants.{I8, U8, I16, U16}
+use Rattle.gltf_json_geometry.specs.declared.accessor.ComponentType.TheVariants.{U32, F32}
 use Rattle.gltf_json_geometry.specs.declared.accessor.Accessor.{Accessor}
 use Rattle.gltf_json_geometry.specs.declared.accessor.«Type».{«Type»}
-use Rattle.gltf_json_geometry.specs.declared.accessor.«Type».TheVariants.{Scalar, Vec2, Vec3, Vec4, Mat2, Mat3, Mat4}
+use Rattle.gltf_json_geometry.specs.declared.accessor.«Type».TheVariants.{Scalar, Vec2, Vec3, Vec4}
+use Rattle.gltf_json_geometry.specs.declared.accessor.«Type».TheVariants.{Mat2, Mat3, Mat4}
 
 -- the bytes of a component (3.6.2.2), 1 where its code is in no table
 abbrev pub component_size : Checked ComponentType → ℕ

@@ -4,8 +4,10 @@ use Rattle.gltf_json_record.specs.declared.validation.Checked.{Checked}
 use Rattle.gltf_json_record.specs.declared.validation.Checked.TheVariants.{Valid, Invalid}
 use Rattle.gltf_json_geometry.specs.declared.accessor.Accessor.{Accessor}
 use Rattle.gltf_json_geometry.specs.declared.mesh.Mode.{Mode}
-use Rattle.gltf_json_geometry.specs.declared.mesh.Mode.TheVariants.{Points, Lines, LineLoop, LineStrip}
-use Rattle.gltf_json_geometry.specs.declared.mesh.Mode.TheVariants.{Triangles, TriangleStrip, TriangleFan}
+use Rattle.gltf_json_geometry.specs.declared.mesh.Mode.TheVariants.{Points, Lines, LineLoop}
+use Rattle.gltf_json_geometry.specs.declared.mesh.Mode.TheVariants.{LineStrip}
+use Rattle.gltf_json_geometry.specs.declared.mesh.Mode.TheVariants.{Triangles, TriangleStrip}
+use Rattle.gltf_json_geometry.specs.declared.mesh.Mode.TheVariants.{TriangleFan}
 use Rattle.gltf_json_geometry.specs.declared.semantic.Semantic.{Semantic}
 use Rattle.gltf_findings.specs.declared.code.Code.TheVariants.{IncompatibleMode}
 use Rattle.gltf_findings.specs.Checks.{Checks, Condition}

@@ -1,5 +1,5 @@
--- The sets of attributes (glTF 2.0, section 3.7.2.1): "the [..] set index [..] MUST start with 0 and
--- be consecutive positive integers"; and as many sets of joints as of weights (3.7.3.3).
+-- The sets of attributes (glTF 2.0, section 3.7.2.1): "the [..] set index [..] MUST start with 0
+-- and be consecutive positive integers"; and as many sets of joints as of weights (3.7.3.3).
 use Rattle.std.specs.Prelude.{ℕ, ◌+◌, ◌==◌, ◌&&◌, if◌then◌else◌, Bool, true, length, List, [], ◌∷◌}
 use Rattle.gltf_json_geometry.specs.declared.semantic.Semantic.{Semantic}
 use Rattle.gltf_findings.specs.declared.code.Code.TheVariants.{IndexedSemanticContinuity}

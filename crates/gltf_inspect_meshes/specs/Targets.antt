@@ -1,5 +1,6 @@
 -- Morph targets (glTF 2.0, section 3.7.2.2).
-use Rattle.std.specs.Prelude.{ℕ, ◌==◌, ◌&&◌, Bool, true, is_some, length, slice_get, List, [], ◌∷◌, Option, codes}
+use Rattle.std.specs.Prelude.{ℕ, ◌==◌, ◌&&◌, Bool, true, is_some, length, slice_get, List, [], ◌∷◌}
+use Rattle.std.specs.Prelude.{Option, codes}
 use Rattle.gltf_json_geometry.specs.declared.accessor.Accessor.{Accessor}
 use Rattle.gltf_json_geometry.specs.declared.mesh.MorphTarget.{MorphTarget}
 use Rattle.gltf_json_geometry.specs.declared.mesh.Primitive.{Primitive}
@@ -18,7 +19,8 @@ displaced_count_checks base a = Condition (agree base a.count) MorphTargetInvali
 abbrev pub displaced_checks : List Accessor → Option ℕ → ℕ → Checks
 displaced_checks accessors base i =
     Condition (is_some base) MorphTargetNoBaseAccessor
-    & optional_checks (displaced_count_checks (count_of_index accessors base)) (slice_get accessors i)
+    & optional_checks (displaced_count_checks (count_of_index accessors base))
+    (slice_get accessors i)
 
 abbrev pub target_checks : List Accessor → List (Semantic × ℕ) → MorphTarget → Checks
 target_checks accessors entries t =

@@ -1,5 +1,5 @@
--- Weights of morph targets (glTF 2.0, section 3.7.2.2): "the number of array elements MUST match the
--- number of morph targets".
+-- Weights of morph targets (glTF 2.0, section 3.7.2.2): "the number of array elements MUST match
+-- the number of morph targets".
 use Rattle.std.specs.Prelude.{ℕ, ◌==◌, Bool, true, Option, Some, None}
 use Rattle.serde_json.specs.Data.{Data, Items}
 use Rattle.serde_json.specs.Events.{items_len}

@@ -26,7 +26,8 @@ pub(crate) trait Inspect {
         findings: &mut Findings,
     ) -> Result<(), AllocError>
         ensures { OnOk result (findings.new
-            ≡ told_after findings.old (places_of location.now) (checks root.now is_quantized self.now)) };
+            ≡ told_after findings.old (places_of location.now)
+            (checks root.now is_quantized self.now)) };
 }
 
 /// Tells what is found in each element of a list.

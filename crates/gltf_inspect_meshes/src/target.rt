@@ -3,7 +3,8 @@ ghost use Rattle.std.specs.Prelude.{◌≡◌, OnOk, length};
 ghost use Rattle.gltf_validation.specs.Locations.{places_of};
 ghost use Rattle.gltf_findings.specs.Checks.{told_after, optional_checks};
 ghost use Rattle.gltf_inspect_meshes.specs.Meanings.{first_of};
-ghost use Rattle.gltf_inspect_meshes.specs.Targets.{displaced_checks, target_checks, targets_checks};
+ghost use Rattle.gltf_inspect_meshes.specs.Targets.{displaced_checks, target_checks};
+ghost use Rattle.gltf_inspect_meshes.specs.Targets.{targets_checks};
 ghost use Rattle.gltf_inspect_meshes.specs.Targets.{have_targets, target_count};
 
 use crate::meaning::{NORMALS, POSITIONS, TANGENTS, agree, count_of_index, first_of};

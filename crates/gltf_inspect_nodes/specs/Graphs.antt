@@ -1,7 +1,8 @@
--- The scenes of a document, its nodes, its skins and the targets of its animations, as a graph (glTF
--- 2.0, sections 3.5, 5.5, 5.25, 5.27 and 5.28). Of an index that leads to no node nothing is found
--- here.
-use Rattle.std.specs.Prelude.{ℕ, ◌+◌, ◌*◌, Bool, ◌&&◌, ◌||◌, not, is_none, length, List, [], ◌∷◌, ◌++◌}
+-- The scenes of a document, its nodes, its skins and the targets of its animations, as a graph
+-- (glTF 2.0, sections 3.5, 5.5, 5.25, 5.27 and 5.28). Of an index that leads to no node nothing is
+-- found here.
+use Rattle.std.specs.Prelude.{ℕ, ◌+◌, ◌*◌, Bool, ◌&&◌, ◌||◌, not, is_none, length, List, [], ◌∷◌}
+use Rattle.std.specs.Prelude.{◌++◌}
 use Rattle.std.specs.Prelude.{codes, true, false}
 use Rattle.gltf_json.specs.declared.root.Root.{Root}
 use Rattle.gltf_json_record.specs.Place.{numbered}
@@ -107,7 +108,8 @@ animation_checks count a =
 
 abbrev pub targets_checks : Root → Checks
 targets_checks r =
-    member (codes "animations") (list_checks (animation_checks (4 * node_count r)) r.animations.items)
+    member (codes "animations")
+    (list_checks (animation_checks (4 * node_count r)) r.animations.items)
 
 abbrev pub graph_checks : Root → Checks
 graph_checks r =

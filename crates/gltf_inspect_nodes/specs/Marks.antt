@@ -1,5 +1,6 @@
 -- The same by marks: of each node, whether it was named.
-use Rattle.std.specs.Prelude.{◌≡◌, ℕ, ◌+◌, Bool, true, false, not, get_or, set, length, List, [], ◌∷◌}
+use Rattle.std.specs.Prelude.{◌≡◌, ℕ, ◌+◌, Bool, true, false, not, get_or, set, length, List, []}
+use Rattle.std.specs.Prelude.{◌∷◌}
 use Rattle.gltf_json_record.specs.Place.{numbered}
 use Rattle.gltf_findings.specs.Checks.{Checks, Nothing, At, ◌&◌}
 use Rattle.gltf_inspect_nodes.specs.Named.{is_named}

@@ -100,5 +100,6 @@ skins_checks ends ss = list_checks (skin_checks ends) ss
 abbrev pub roots_checks : Root → Checks
 roots_checks r =
     member (codes "nodes")
-    (loop_checks (is_end_in r.nodes.items (ends_of r.nodes.items)) (is_child_of r.nodes.items) 0 r.nodes.items)
+    (loop_checks (is_end_in r.nodes.items (ends_of r.nodes.items)) (is_child_of r.nodes.items) 0
+    r.nodes.items)
     & member (codes "skins") (skins_checks (ends_of r.nodes.items) r.skins.items)

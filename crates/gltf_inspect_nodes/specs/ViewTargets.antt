@@ -32,7 +32,8 @@ optional_views accessors (Some i) = view_at accessors i
 
 abbrev pub entries_views : List Accessor → List (Semantic × ℕ) → List ℕ
 entries_views accessors [] = []
-entries_views accessors (entry ∷ entries) = view_at accessors entry.1 ++ entries_views accessors entries
+entries_views accessors (entry ∷ entries) =
+    view_at accessors entry.1 ++ entries_views accessors entries
 
 abbrev pub target_views : List Accessor → MorphTarget → List ℕ
 target_views accessors t =

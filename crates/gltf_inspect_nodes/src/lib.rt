@@ -1,6 +1,6 @@
-//! What the standard says of the nodes of a document as a graph: roots of scenes, empty nodes, lists
-//! that name a node twice, targets that are animated twice, loops, and joints without a common root; and
-//! of the views of vertices.
+//! What the standard says of the nodes of a document as a graph: roots of scenes, empty nodes,
+//! lists that name a node twice, targets that are animated twice, loops, and joints without a
+//! common root; and of the views of vertices.
 #![tactic(auto)]
 
 mod entry;

@@ -37,7 +37,8 @@ pub(crate) fn tell_each<T: Names>(
     Ok(())
 }
 
-/// Tells each element of a list whose number an earlier one has. Nothing is marked before and after.
+/// Tells each element of a list whose number an earlier one has. Nothing is marked before and
+/// after.
 pub(crate) fn tell_repeats<E: Entry>(
     marks: &mut Vec<bool>,
     entries: &[E],

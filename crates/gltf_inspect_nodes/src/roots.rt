@@ -21,8 +21,9 @@ use gltf_json_scene::skin::Skin;
 use gltf_validation::location::Location;
 use std::alloc::{AllocError, Global};
 
-/// Tells each node that stands on a loop, and each skin whose joints have no common root. Takes time
-/// n log n for so many nodes, 18 bytes a node, and memory for a finding; fails where there is none.
+/// Tells each node that stands on a loop, and each skin whose joints have no common root. Takes
+/// time n log n for so many nodes, 18 bytes a node, and memory for a finding; fails where there is
+/// none.
 pub fn inspect_roots(
     alloc: Global,
     root: &Root,
@@ -139,7 +140,8 @@ fn lead_to(ends: &[usize], end: usize, joints: &[Index<kinds::Node>]) -> bool
     true
 }
 
-fn led(table: &[usize], node: usize) -> usize
+/// Where a node leads to by a table of all nodes; a number that is no node leads to itself.
+pub fn led(table: &[usize], node: usize) -> usize
     ensures { result ≡ led table.now node }
 {
     if node < table.len() {
@@ -182,7 +184,7 @@ fn times_16(alloc: Global, table: &mut Vec<usize>) -> Result<(), AllocError>
 fn twice(alloc: Global, table: &mut Vec<usize>) -> Result<(), AllocError>
     ensures { OnOk result (table.new.items ≡ twice table.old.items) }
 {
-    if are_fixed(table) {
+    if are_fixed(table, table) {
         return Ok(());
     }
     let next = mapped(alloc, table)?;
@@ -190,10 +192,11 @@ fn twice(alloc: Global, table: &mut Vec<usize>) -> Result<(), AllocError>
     Ok(())
 }
 
-fn are_fixed(table: &[usize]) -> bool
-    ensures { result ≡ are_fixed table.now table.now }
+/// Whether each of these leads to itself by a table of all nodes.
+pub fn are_fixed(table: &[usize], nodes: &[usize]) -> bool
+    ensures { result ≡ are_fixed table.now nodes.now }
 {
-    for node in table {
+    for node in nodes {
         if led(table, *node) != *node {
             return false;
         }
@@ -201,7 +204,8 @@ fn are_fixed(table: &[usize]) -> bool
     true
 }
 
-fn mapped(alloc: Global, table: &[usize]) -> Result<Vec<usize>, AllocError>
+/// Where a table leads to, taken twice.
+pub fn mapped(alloc: Global, table: &[usize]) -> Result<Vec<usize>, AllocError>
     ensures { IfOk result (λ next. next.items ≡ map (led table.now) table.now) }
 {
     let mut next = Vec::with_capacity(alloc, table.len())?;
@@ -211,7 +215,8 @@ fn mapped(alloc: Global, table: &[usize]) -> Result<Vec<usize>, AllocError>
     Ok(next)
 }
 
-fn parents_of(alloc: Global, nodes: &[Node]) -> Result<Vec<usize>, AllocError>
+/// Of each node its parent: the last one that has it as a child, and itself where there is none.
+pub fn parents_of(alloc: Global, nodes: &[Node]) -> Result<Vec<usize>, AllocError>
     ensures { IfOk result (λ parents. parents.items ≡ parents_of nodes.now) }
 {
     let mut parents = numbers(alloc, nodes)?;

@@ -8,9 +8,12 @@ use Rattle.gltf_json_animation.specs.declared.animation.Sampler.{Sampler}
 use Rattle.gltf_json_geometry.specs.declared.accessor.Accessor.{Accessor}
 use Rattle.gltf_json_scene.specs.declared.scene.Node.{Node}
 use Rattle.gltf_findings.specs.declared.code.Code.TheVariants.{ChannelTargetNoMorphs}
-use Rattle.gltf_findings.specs.declared.code.Code.TheVariants.{OutputInvalidFormat, OutputInvalidCount}
-use Rattle.gltf_findings.specs.Checks.{Checks, Nothing, Condition, At, ◌&◌, member, optional_checks, list_checks}
-use Rattle.gltf_inspect_scenes.specs.Outputs.{fits_path, is_weights, node_morphs, values_at_time, items_of_value}
+use Rattle.gltf_findings.specs.declared.code.Code.TheVariants.{OutputInvalidFormat}
+use Rattle.gltf_findings.specs.declared.code.Code.TheVariants.{OutputInvalidCount}
+use Rattle.gltf_findings.specs.Checks.{Checks, Nothing, Condition, At, ◌&◌, member, optional_checks}
+use Rattle.gltf_findings.specs.Checks.{list_checks}
+use Rattle.gltf_inspect_scenes.specs.Outputs.{fits_path, is_weights, node_morphs, values_at_time}
+use Rattle.gltf_inspect_scenes.specs.Outputs.{items_of_value}
 
 -- weights are animated only where the node has a mesh with morph targets
 abbrev pub target_checks : Root → Channel → Node → Checks

@@ -34,8 +34,8 @@ is_skinned m = some_skinned m.primitives.items
 abbrev pub skinned_meshes : Root → List Bool
 skinned_meshes r = map (λ m. is_skinned m) r.meshes.items
 
--- "when skin is defined, all primitives [..] have JOINTS_0 and WEIGHTS_0": a skin and a skinned mesh
--- come together
+-- "when skin is defined, all primitives [..] have JOINTS_0 and WEIGHTS_0": a skin and a skinned
+-- mesh come together
 abbrev pub skin_checks : Bool → Bool → Checks
 skin_checks has_skin skinned =
     Condition (not has_skin || skinned) SkinWithNonSkinnedMesh

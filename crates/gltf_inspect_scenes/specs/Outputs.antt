@@ -1,5 +1,6 @@
 -- The values of samplers (glTF 2.0, section 3.11): their formats, and how many there are.
-use Rattle.std.specs.Prelude.{ℕ, ◌==◌, ◌&&◌, if◌then◌else◌, Bool, true, false, not, slice_get, Option, Some, None}
+use Rattle.std.specs.Prelude.{ℕ, ◌==◌, ◌&&◌, if◌then◌else◌, Bool, true, false, not, slice_get}
+use Rattle.std.specs.Prelude.{Option, Some, None}
 use Rattle.gltf_json.specs.declared.root.Root.{Root}
 use Rattle.gltf_json_record.specs.declared.validation.Checked.{Checked}
 use Rattle.gltf_json_record.specs.declared.validation.Checked.TheVariants.{Valid, Invalid}
@@ -7,7 +8,8 @@ use Rattle.gltf_json_animation.specs.declared.animation.Interpolation.{Interpola
 use Rattle.gltf_json_animation.specs.declared.animation.Interpolation.TheVariants.{CubicSpline}
 use Rattle.gltf_json_animation.specs.declared.animation.Property.{Property}
 use Rattle.gltf_json_animation.specs.declared.animation.Property.TheVariants.{Translation, Rotation}
-use Rattle.gltf_json_animation.specs.declared.animation.Property.TheVariants.{Scale, MorphTargetWeights}
+use Rattle.gltf_json_animation.specs.declared.animation.Property.TheVariants.{Scale}
+use Rattle.gltf_json_animation.specs.declared.animation.Property.TheVariants.{MorphTargetWeights}
 use Rattle.gltf_json_geometry.specs.declared.accessor.ComponentType.{ComponentType}
 use Rattle.gltf_json_geometry.specs.declared.accessor.ComponentType.TheVariants.{U32, F32}
 use Rattle.gltf_json_geometry.specs.declared.accessor.Accessor.{Accessor}

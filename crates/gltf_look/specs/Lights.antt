@@ -2,7 +2,9 @@
 use Rattle.std.specs.Prelude.{◌≡◌, ℕ, IsSomeAnd}
 use Rattle.std.specs.Option.{option_copied}
 use Rattle.gltf_json.specs.declared.root.Root.{Root}
-use Rattle.gltf_json_scene.specs.declared.extensions.scene.khr_lights_punctual.Light.{Light as LightRecord}
+use Rattle.gltf_json_scene.specs.declared.extensions.scene.khr_lights_punctual.Light.{
+  Light as LightRecord,
+}
 use Rattle.gltf_json_scene.specs.declared.extensions.scene.khr_lights_punctual.«Type».TheVariants as types
 use Rattle.gltf_rules.specs.declared.records.Records.{Ghosts}
 use Rattle.gltf_handles.specs.Handle.{Handle, IsAt}

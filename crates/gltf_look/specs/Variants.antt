@@ -1,7 +1,9 @@
 -- Handles of variants.
 use Rattle.std.specs.Prelude.{◌≡◌, ℕ, Some, slice_get}
 use Rattle.gltf_json.specs.declared.root.Root.{Root}
-use Rattle.gltf_json_scene.specs.declared.extensions.scene.khr_materials_variants.Variant.{Variant as VariantRecord}
+use Rattle.gltf_json_scene.specs.declared.extensions.scene.khr_materials_variants.Variant.{
+  Variant as VariantRecord,
+}
 use Rattle.gltf_rules.specs.Extensions.{variants_of}
 use Rattle.gltf_look.specs.declared.khr_materials_variants.Variant.{Variant}
 

@@ -1,7 +1,9 @@
 -- The numbers of lights (KHR_lights_punctual).
 use Rattle.std.specs.Prelude.{Option, Some}
 use Rattle.std.specs.Option.{option_copied}
-use Rattle.gltf_json_scene.specs.declared.extensions.scene.khr_lights_punctual.Light.{Light as LightRecord}
+use Rattle.gltf_json_scene.specs.declared.extensions.scene.khr_lights_punctual.Light.{
+  Light as LightRecord,
+}
 use Rattle.gltf_look.specs.declared.khr_lights_punctual.Kind.{Kind as KindHandle}
 use Rattle.gltf_look.specs.declared.khr_lights_punctual.Kind.TheVariants as handles
 use Rattle.gltf_numbers.specs.Numbers.{given, number_if, number_or, numbers_or}

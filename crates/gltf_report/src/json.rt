@@ -1,4 +1,5 @@
 //! A report as JSON, with what the document holds.
+use crate::message::message;
 use gltf_findings::report::Report;
 use gltf_json::root::Root;
 use gltf_json_geometry::semantic::Semantic;
@@ -16,6 +17,7 @@ pub fn json_text(
 ) -> Result<String, AllocError> {
     let mut value = report.to_json(alloc, name)?;
     if let Some(root) = root {
+        say_numbers(alloc, root, report, &mut value)?;
         let info = info(alloc, root)?;
         if let Some(members) = value.as_object_mut() {
             let _before = members.insert(String::from_str(alloc, "info")?, info)?;
@@ -27,6 +29,27 @@ pub fn json_text(
         value.to_string(alloc)?
     };
     Ok(text)
+}
+
+/// Puts the numbers into the messages.
+fn say_numbers(
+    alloc: Global,
+    root: &Root,
+    report: &Report,
+    value: &mut Value,
+) -> Result<(), AllocError> {
+    let Some(Value::Array(messages)) = value.pointer_mut("/issues/messages") else {
+        return Ok(());
+    };
+    for (k, finding) in report.findings().iter().enumerate() {
+        let (place, code) = finding;
+        let says = message(alloc, Some(root), place, *code)?;
+        if let Some(Value::Object(members)) = messages.get_mut(k) {
+            let name = String::from_str(alloc, "message")?;
+            let _before = members.insert(name, Value::String(says))?;
+        }
+    }
+    Ok(())
 }
 
 fn info(alloc: Global, root: &Root) -> Result<Value, AllocError> {

@@ -3,6 +3,7 @@
 
 pub mod json;
 mod layout;
+mod message;
 pub mod page;
 mod picture;
 mod table;

@@ -1,5 +1,6 @@
 //! A report as one page of HTML, which links to nothing.
 use crate::layout::{HEAD, TAIL};
+use crate::message::message;
 use crate::picture::{add_number, picture};
 use crate::tables::{PARTS, table};
 use crate::text::shown_pointer;
@@ -37,7 +38,11 @@ fn add_page(
 ) -> Result<(), AllocError> {
     add(html, HEAD)?;
     add_heading(name, report, html)?;
-    add_findings(alloc, report, html)?;
+    let root = match imported {
+        Some((document, _buffers)) => Some(document.as_json()),
+        None => None,
+    };
+    add_findings(alloc, report, root, html)?;
     if let Some(cause) = cause {
         add_cause(alloc, cause, html)?;
     }
@@ -104,22 +109,28 @@ fn add_count(
     add_number(report.count(severity) as u64, html)
 }
 
-fn add_findings(alloc: Global, report: &Report, html: &mut Vec<u8>) -> Result<(), AllocError> {
+fn add_findings(
+    alloc: Global,
+    report: &Report,
+    root: Option<&Root>,
+    html: &mut Vec<u8>,
+) -> Result<(), AllocError> {
     add(html, "<h2>FINDINGS</h2>\n")?;
     if report.findings().is_empty() {
         return add(html, "<p>none</p>\n");
     }
     add(html, "<table><tr><th>severity<th>code<th>place<th>says")?;
-    add_rows(alloc, report, Severity::Error, html)?;
-    add_rows(alloc, report, Severity::Warning, html)?;
-    add_rows(alloc, report, Severity::Information, html)?;
-    add_rows(alloc, report, Severity::Hint, html)?;
+    add_rows(alloc, report, root, Severity::Error, html)?;
+    add_rows(alloc, report, root, Severity::Warning, html)?;
+    add_rows(alloc, report, root, Severity::Information, html)?;
+    add_rows(alloc, report, root, Severity::Hint, html)?;
     add(html, "\n</table>\n")
 }
 
 fn add_rows(
     alloc: Global,
     report: &Report,
+    root: Option<&Root>,
     severity: Severity,
     html: &mut Vec<u8>,
 ) -> Result<(), AllocError> {
@@ -135,7 +146,8 @@ fn add_rows(
             add(html, "<td>")?;
             add_text(html, shown_pointer(alloc, place)?.as_str().as_bytes())?;
             add(html, "<td>")?;
-            add_text(html, code.sentence().as_bytes())?;
+            let says = message(alloc, root, place, *code)?;
+            add_text(html, says.as_str().as_bytes())?;
         }
     }
     Ok(())

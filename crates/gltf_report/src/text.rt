@@ -1,4 +1,5 @@
 //! A report as text.
+use crate::message::message;
 use crate::tables::{PARTS, table};
 use gltf::Error;
 use gltf_findings::code::Severity;
@@ -22,9 +23,9 @@ pub fn write_text<O: Write>(
 ) -> io::Result<()> {
     writeln!(out, "{name}")?;
     write_counts(report, out)?;
-    write_findings(alloc, report, Severity::Error, out)?;
-    write_findings(alloc, report, Severity::Warning, out)?;
-    write_findings(alloc, report, Severity::Information, out)?;
+    write_findings(alloc, report, root, Severity::Error, out)?;
+    write_findings(alloc, report, root, Severity::Warning, out)?;
+    write_findings(alloc, report, root, Severity::Information, out)?;
     if let Some(cause) = cause {
         writeln!(out, "refused: {cause}")?;
     }
@@ -51,6 +52,7 @@ fn write_counts<O: Write>(report: &Report, out: &mut O) -> io::Result<()> {
 fn write_findings<O: Write>(
     alloc: Global,
     report: &Report,
+    root: Option<&Root>,
     severity: Severity,
     out: &mut O,
 ) -> io::Result<()> {
@@ -60,8 +62,8 @@ fn write_findings<O: Write>(
             let grave = severity.name();
             let name = code.name();
             let pointer = shown_pointer(alloc, place)?;
-            let sentence = code.sentence();
-            writeln!(out, "{grave} {name} {pointer} {sentence}")?;
+            let says = message(alloc, root, place, *code)?;
+            writeln!(out, "{grave} {name} {pointer} {says}")?;
         }
     }
     Ok(())

@@ -48,9 +48,22 @@ impl Asked {
     }
 }
 
-/// How many of the words are no options.
+/// The words in front of the first `--`, which may be options, and those behind it, which are
+/// files whatever they begin with.
+fn parts<'a, 'w>(words: &'a [&'w str]) -> (&'a [&'w str], &'a [&'w str]) {
+    for (i, word) in words.iter().enumerate() {
+        if *word == "--" {
+            return (&words[..i], &words[i + 1..]);
+        }
+    }
+    (words, &words[words.len()..])
+}
+
+/// How many of the words are files.
 fn files(words: &[&str]) -> usize {
-    words.iter().filter(|word| !is_option(**word)).count()
+    let (front, rest) = parts(words);
+    let named = front.iter().filter(|word| !is_option(**word)).count();
+    named.saturating_add(rest.len())
 }
 
 fn is_option(word: &str) -> bool {
@@ -64,8 +77,8 @@ fn is_known(word: &str) -> bool {
 /// Writes what is found in each of the files that the words name, in order, and gives the greatest
 /// of their statuses: 0 where no error is found, 1 where one is, 2 where the file could not be read
 /// or the report not be made or written. A file that has no report is named on `err`, and the next
-/// one follows. A report is text; with the word `--json` a line of JSON, or with `--pretty` several;
-/// with the word `--html` a page.
+/// one follows. A report is text; with the word `--json` a line of JSON, or with `--pretty`
+/// several; with the word `--html` a page. Behind the word `--` each word is a file.
 ///
 /// `None` where the words name no file, or have an option that is not known or does not fit the
 /// others, which `err` says then.
@@ -76,28 +89,37 @@ pub(crate) fn inspect_files<O: Write, E: Write>(
     out: &mut O,
     err: &mut E,
 ) -> Option<u8> {
-    for word in words {
+    let (front, rest) = parts(words);
+    for word in front {
         if is_option(*word) && !is_known(*word) {
             let _ = writeln!(err, "{word}: no such option");
             return None;
         }
     }
-    let asked = Asked::of(words);
+    let asked = Asked::of(front);
     if let Some(why) = asked.misfit(words) {
         let _ = writeln!(err, "{why}");
         return None;
     }
     let mut worst = None;
-    for word in words {
+    for word in front {
         if !is_option(*word) {
             let status = inspect_file(rt, alloc, *word, asked, out, err);
-            worst = Some(match worst {
-                Some(before) if before > status => before,
-                _ => status,
-            });
+            worst = greater(worst, status);
         }
     }
+    for path in rest {
+        let status = inspect_file(rt, alloc, *path, asked, out, err);
+        worst = greater(worst, status);
+    }
     worst
+}
+
+fn greater(worst: Option<u8>, status: u8) -> Option<u8> {
+    match worst {
+        Some(before) if before > status => Some(before),
+        _ => Some(status),
+    }
 }
 
 fn inspect_file<O: Write, E: Write>(
@@ -157,7 +179,7 @@ fn write_report<O: Write, E: Write>(
         Ok(()) if file.report.is_without_errors() => 0,
         Ok(()) => 1,
         Err(cause) => {
-            let _ = writeln!(err, "{path}: {cause}");
+            let _ = writeln!(err, "standard output: {cause}");
             2
         }
     }

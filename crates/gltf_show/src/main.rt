@@ -5,6 +5,7 @@ mod call;
 mod chunks;
 mod findings;
 mod indices;
+mod kept;
 mod old;
 mod refusal;
 mod run;
@@ -35,10 +36,14 @@ fn main(rt: HostRuntime) -> std::io::Result<ExitCode> {
             return Ok(ExitCode::from(status));
         }
     }
-    let mut folder = Folder::new(&rt, base_of(words.as_slice()));
+    // What follows this word is a path, whatever it begins with, as it is without that word.
+    if let [_, "--", ..] = words.as_slice() {
+        let _dashes = words.remove(1);
+    }
+    let folder = Folder::new(&rt, base_of(words.as_slice()));
     let status = run(
         alloc,
-        &mut folder,
+        folder,
         words.as_slice(),
         &mut rt.stdout(),
         &mut rt.stderr(),

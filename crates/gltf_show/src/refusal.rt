@@ -71,10 +71,12 @@ impl From<Error> for Refusal {
 impl fmt::Display for Refusal {
     fn fmt<W: fmt::Write>(&self, f: &mut fmt::Formatter<W>) -> fmt::Result {
         match self {
-            Refusal::Usage => write!(
-                f,
-                "usage: gltf_show chunks PATH | check PATH | indices PATH MESH PRIMITIVE | inspect PATH.. [--json [--pretty]] [--no-files] | inspect PATH --html [--no-files]"
-            ),
+            Refusal::Usage => {
+                write!(f, "usage: gltf_show chunks PATH | check PATH | ")?;
+                write!(f, "indices PATH MESH PRIMITIVE | ")?;
+                write!(f, "inspect PATH.. [--json [--pretty]] [--no-files] | ")?;
+                write!(f, "inspect PATH --html [--no-files]")
+            }
             Refusal::File(error) => write!(f, "{error}"),
             Refusal::NoMesh => write!(f, "no such mesh"),
             Refusal::NoPrimitive => write!(f, "no such primitive"),

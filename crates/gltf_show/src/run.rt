@@ -2,7 +2,7 @@
 use crate::call::Call;
 use crate::chunks::Chunks;
 use crate::indices::write_indices;
-use crate::old::says_first_version;
+use crate::kept::Kept;
 use crate::refusal::Refusal;
 use crate::summary::Summary;
 use gltf::{Glb, Name, NamedBytes, import_from};
@@ -16,19 +16,21 @@ use std::io::{self, Write};
 /// - 1: the file is refused, or has not what is asked for, or a read or a write failed; the reason
 ///   stands on `err`, with the name of the file that could not be read.
 /// - 2: the words make no call; the usage stands on `err`.
-pub fn run<S: NamedBytes, O: Write, E: Write>(
+pub fn run<S: NamedBytes + Drop, O: Write, E: Write>(
     alloc: Global,
-    source: &mut S,
+    source: S,
     words: &[&str],
     out: &mut O,
     err: &mut E,
 ) -> u8 {
-    match answer(alloc, source, words, out) {
+    let mut source = Kept::new(source);
+    match answer(alloc, &mut source, words, out) {
         Ok(()) => 0,
         Err(refusal) => {
             // Where this write fails too, the status alone says so.
             let _ = tell(&refusal, source.last_failed(), err);
-            if is_of_first_version(alloc, source, words, &refusal) {
+            let is_check = matches!(Call::of(words), Some(Call::Check(_)));
+            if is_check && refusal.is_of_content() && source.says_first_version(alloc) {
                 let _ = writeln!(err, "this is a glTF 1.0 file; glTF 2.0 is supported");
             }
             refusal.status()
@@ -41,25 +43,6 @@ fn tell<E: Write>(refusal: &Refusal, failed: Option<&str>, err: &mut E) -> io::R
     match failed {
         Some(name) if refusal.is_failed_read() => writeln!(err, "{name}: {refusal}"),
         _ => writeln!(err, "{refusal}"),
-    }
-}
-
-/// Whether a file that `check` refuses is of glTF 1.0. It is read once more for that.
-fn is_of_first_version<S: NamedBytes>(
-    alloc: Global,
-    source: &mut S,
-    words: &[&str],
-    refusal: &Refusal,
-) -> bool {
-    let Some(Call::Check(path)) = Call::of(words) else {
-        return false;
-    };
-    if !refusal.is_of_content() {
-        return false;
-    }
-    match source.read(alloc, Name::File(path)) {
-        Ok(bytes) => says_first_version(alloc, &bytes),
-        Err(_) => false,
     }
 }
 

@@ -1,6 +1,7 @@
 -- The names of files, apart from one another.
 use Rattle.std.proofs.Common.{◌≡◌, ◌≢◌, ℕ, ◌+◌, ◌<◌, ◌≤◌, ◌^◌, ◌%◌, List, [], ◌∷◌, ◌++◌, length}
-use Rattle.std.proofs.Common.{Bool, true, false, Option, Some, None, Global, Vec, refl, sym, ap, subst}
+use Rattle.std.proofs.Common.{Bool, true, false, Option, Some, None, Global, Vec, refl, sym, ap}
+use Rattle.std.proofs.Common.{subst}
 use Rattle.std.proofs.Common.{◌∙◌, arith, codes, decimal, drop, get_or, bytes_eq, ◌==◌}
 use Rattle.std.proofs.lemmas.Fmt.{decimal_by_steps, decimal_injective}
 use Rattle.std.proofs.lemmas.List.{append_cancel_left, append_cancel_right}
@@ -41,9 +42,11 @@ same_digits : (xs ys e f : List ℕ) → AreDigits xs → AreDigits ys
     → xs ++ 46 ∷ e ≡ ys ++ 46 ∷ f → xs ≡ ys
 same_digits [] [] e f xs_are ys_are same = refl
 same_digits [] (y ∷ ys) e f xs_are ys_are same =
-    let here : 46 ≡ y = ap (λ (l : List ℕ). get_or l 0 0) same in absurd (omega (arith, here, ys_are.0))
+    let here : 46 ≡ y = ap (λ (l : List ℕ). get_or l 0 0) same in absurd
+    (omega (arith, here, ys_are.0))
 same_digits (x ∷ xs) [] e f xs_are ys_are same =
-    let here : x ≡ 46 = ap (λ (l : List ℕ). get_or l 0 0) same in absurd (omega (arith, here, xs_are.0))
+    let here : x ≡ 46 = ap (λ (l : List ℕ). get_or l 0 0) same in absurd
+    (omega (arith, here, xs_are.0))
 same_digits (x ∷ xs) (y ∷ ys) e f xs_are ys_are same =
     let here : x ≡ y = ap (λ (l : List ℕ). get_or l 0 0) same in
     let later : xs ++ 46 ∷ e ≡ ys ++ 46 ∷ f = ap (drop 1) same in
@@ -99,14 +102,16 @@ module _ (stem : List ℕ) where
 
   text_image : (i : ℕ) (e : List ℕ) → stem ++ codes ".gltf" ≢ image_name stem i e
   text_image i e same =
-      let rest = append_cancel_left stem (codes ".gltf") (codes "_image" ++ (decimal i ++ e)) same in
+      let rest = append_cancel_left stem (codes ".gltf")
+      (codes "_image" ++ (decimal i ++ e)) same in
       let here : 46 ≡ 95 = ap (λ (l : List ℕ). get_or l 0 0) rest in omega (arith, here)
 
   buffer_image : (count i j : ℕ) (e : List ℕ) → i < 2 ^ 64
       → buffer_name stem count i ≢ image_name stem j e
   buffer_image count i j e h same =
       apart_at (numeral count i) (numeral_digits count i h)
-      (append_cancel_left stem (numeral count i ++ codes ".bin") (codes "_image" ++ (decimal j ++ e))
+      (append_cancel_left stem (numeral count i ++ codes ".bin")
+      (codes "_image" ++ (decimal j ++ e))
       same) where
         apart_at : (ds : List ℕ) → AreDigits ds
             → ds ++ codes ".bin" ≡ codes "_image" ++ (decimal j ++ e) → ⊥
@@ -318,7 +323,8 @@ module _ (names : Names) (path stem : List ℕ) (keep : Bool) (set : Pieces)
   files_apart =
       both_apart (IsBufferName stem count) (IsImageName stem)
       (λ i j x y i_small j_small x_is y_is same.
-      buffer_image stem count i j y_is.ending i_small (sym x_is ∙ same ∙ y_is.is)) 0 0 buffers images
+      buffer_image stem count i j y_is.ending i_small (sym x_is ∙ same ∙ y_is.is)) 0 0 buffers
+      images
       buffers_are images_are
       (buffers_apart stem set.buffers.items (count == 1) refl is.named (few set.buffers))
       (rising_apart (IsImageName stem) (differ_images stem) 0 images images_are)

@@ -1,5 +1,6 @@
 -- What the text of a set is imported as, over a source that has its files.
-use Rattle.std.proofs.Common.{◌≡◌, ℕ, ◌<◌, ◌-◌, ◌%◌, ◌+◌, List, [], ◌∷◌, ◌++◌, length, map, Bool, true, false}
+use Rattle.std.proofs.Common.{◌≡◌, ℕ, ◌<◌, ◌-◌, ◌%◌, ◌+◌, List, [], ◌∷◌, ◌++◌, length, map, Bool}
+use Rattle.std.proofs.Common.{true, false}
 use Rattle.std.proofs.Common.{Option, Some, Ok, Err, Result, refl, sym, ap, subst, ◌∙◌, arith}
 use Rattle.std.proofs.Common.{slice_get, get_or, nat_lt, option_map, string_bytes}
 use Rattle.std.proofs.Common.{replicate, length-append, suc, zero}
@@ -46,7 +47,8 @@ module _ (names : Names) (path stem : List ℕ) (keep : Bool) (set : Pieces)
       let reads = subst (λ (t : List ℕ). Reads t document.value) same document.reads in
       of_some (sym reads.1 ∙ is.reads.1)
 
-  pub is_detached : IsDetached (buffer_uris set.buffers.items) (image_uris set.images.items) is.root_ s
+  pub is_detached : IsDetached (buffer_uris set.buffers.items)
+      (image_uris set.images.items) is.root_ s
   is_detached = record {
     value = is.value;
     before = is.source.records;
@@ -100,7 +102,8 @@ long_at i declared (Ok bytes) x is =
     long_in (nat_lt (length (padded bytes)) declared) refl is where
       long_in : (b : Bool) → nat_lt (length (padded bytes)) declared ≡ b
           → ◌≡◌ {A = Result (List ℕ) BufferFault}
-          (if b then Err (TooShort i declared (length (padded bytes))) else Ok (padded bytes)) (Ok x)
+          (if b then Err (TooShort i declared (length (padded bytes))) else Ok (padded bytes))
+          (Ok x)
           → nat_lt (length x) declared ≡ false
       long_in true short is = cc
       long_in false long is =
@@ -146,7 +149,8 @@ module _ (names : Names) (path : List ℕ) (value : Data) (r : Root) (ps : List 
       (λ i h.
       let within : i < length r.buffers.items = subst (λ (n : ℕ). i < n) (sym own_count) h in
       let found = source_in r.buffers.items i within in
-      fours names (blob_for (sources_of r) source.blob i) i found.0 (get_or (bytes_of_parts ps) i [])
+      fours names (blob_for (sources_of r) source.blob i) i found.0
+      (get_or (bytes_of_parts ps) i [])
       (source.data_.each i found.0
       (subst (λ (n : ℕ). i < n) (sym (length_of_map source_of r.buffers.items)) within) found.1))
 
@@ -306,7 +310,8 @@ pub shows_images : NamesImages → LeadToNames → ShowsImages
 shows_images named lead names path stem keep set is there s others accepts i p at holds x before =
     let detached = is_detached names path stem keep set is s accepts.blob accepts.valid in
     let u = uri_of_part p in
-    let after = named (buffer_uris set.buffers.items) (image_uris set.images.items) is.root_ s detached
+    let after = named (buffer_uris set.buffers.items)
+    (image_uris set.images.items) is.root_ s detached
     i x before u
     (slice_get-map image_uri set.images.items i ∙ ap (option_map image_uri) at) in
     record {

@@ -27,7 +27,8 @@ HoldsBuffers there set =
 -- the text of a set is imported, over a source of these files
 abbrev pub IsAcceptedOver : Holds → Pieces → Type 0
 IsAcceptedOver there set =
-    (s : Root) × (others : List (List ℕ)) × AcceptsWith (Held there) (string_bytes set.json) s others
+    (s : Root) × (others : List (List ℕ)) × AcceptsWith (Held there)
+    (string_bytes set.json) s others
 
 -- so it is over each source that has the files of its buffers
 abbrev pub IsTakenOver : Type 0
@@ -42,7 +43,8 @@ abbrev pub HasItsBuffers : Type 0
 HasItsBuffers =
     (names : Names) (path stem : List ℕ) (keep : Bool) (set : Pieces)
     (is : IsSplit names path stem keep set) (there : Holds) → HoldsBuffers there set
-    → (s : Root) (others : List (List ℕ)) → AcceptsWith (Held there) (string_bytes set.json) s others
+    → (s : Root) (others : List (List ℕ)) → AcceptsWith (Held there)
+    (string_bytes set.json) s others
     → IsDetached (buffer_uris set.buffers.items) (image_uris set.images.items) is.root_ s
     × (others ≡ bytes_of_parts set.buffers.items)
 
@@ -51,7 +53,8 @@ abbrev pub KeepsItems : {X : Type 0} → Ghosts X → Type 0
 KeepsItems {X} t =
     (names : Names) (path stem : List ℕ) (keep : Bool) (set : Pieces)
     (is : IsSplit names path stem keep set) (there : Holds) → HoldsBuffers there set
-    → (s : Root) (others : List (List ℕ)) → AcceptsWith (Held there) (string_bytes set.json) s others
+    → (s : Root) (others : List (List ℕ)) → AcceptsWith (Held there)
+    (string_bytes set.json) s others
     → (index : ℕ) (result : Option (List X))
     → ReadsAt t is.root_ (slice_get (bytes_of_parts set.buffers.items)) index result
     ↔ ReadsAt t s (slice_get others) index result

@@ -16,7 +16,8 @@ bytes_at buffers i = slice_get buffers i
 -- the bytes of a view, where it lies in its buffer
 abbrev pub bytes_in : List (List ℕ) → Data → Option (List ℕ)
 bytes_in buffers d =
-    option_and_then (cut (size_or_zero (codes "byteOffset") d) (size_or_zero (codes "byteLength") d))
+    option_and_then (cut (size_or_zero (codes "byteOffset") d)
+    (size_or_zero (codes "byteLength") d))
     (option_and_then (bytes_at buffers) (size_at (codes "buffer") d))
 
 -- those of the view at an index

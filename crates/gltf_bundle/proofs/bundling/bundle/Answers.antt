@@ -20,8 +20,10 @@ returns-in-Ok-clause-bundle g c =
     let is_joined : IsJoined (all.1 ++ all.2) made =
     subst (λ (bs : List (List ℕ)). IsJoined bs made) all.4
     (rw (c.deref.ensures.value, was.buffers-is) at c.in_ok-joined.ensures.joined) in
-    let edited = rw (c.deref-2.ensures.value, was.value-is, was.pictures-is) at c.in_ok-value-2.ensures in
-    is_bundle names c.args.path.now c.args.options.now.keep_images (view was.value) all.0 all.1 all.2
+    let edited = rw (c.deref-2.ensures.value, was.value-is, was.pictures-is) at
+    c.in_ok-value-2.ensures in
+    is_bundle names c.args.path.now c.args.options.now.keep_images
+    (view was.value) all.0 all.1 all.2
     was.pictures.items all.3 made is_joined edited.placed (view c.in_ok-value-2.value) edited.value
     c.in_ok-answer.answer.items c.in_ok-answer.ensures.written
 
@@ -47,7 +49,8 @@ returns-in_err-joined-clause-refused g c =
     let exit = c.from_residual-in_err-joined in
     let passed = err_from_is_err_and exit.result exit.ensures.1 in
     rw (passed.1, passed.2)
-    (join_refused names c.args.path.now c.args.options.now.keep_images old new (view was.value) all.0
+    (join_refused names c.args.path.now c.args.options.now.keep_images old new
+    (view was.value) all.0
     all.1 all.2 was.pictures.items all.3 f told)
 
 pub returns-in_err-value-2-clause-refused : goal.returns-in_err-value-2-clause-refused
@@ -63,11 +66,13 @@ returns-in_err-value-2-clause-refused g c =
     (rw (c.deref.ensures.value, was.buffers-is) at c.in_ok-joined.ensures.joined) in
     let f = c.in_err-value-2.field-0.0 in
     let stray =
-    rw (c.deref-2.ensures.value, was.value-is, was.pictures-is) at c.in_err-value-2.ensures.refused in
+    rw (c.deref-2.ensures.value, was.value-is, was.pictures-is) at
+    c.in_err-value-2.ensures.refused in
     let exit = c.from_residual-in_err-value-2 in
     let passed = err_from_is_err_and exit.result exit.ensures.1 in
     rw (passed.1, passed.2)
-    (edit_refused names c.args.path.now c.args.options.now.keep_images old new (view was.value) all.0
+    (edit_refused names c.args.path.now c.args.options.now.keep_images old new
+    (view was.value) all.0
     all.1 all.2 was.pictures.items all.3 f
     (subst (λ spans. NamesStray spans (embedded was.pictures.items (view was.value)) f)
     is_joined.spans stray))
@@ -113,7 +118,8 @@ returns g c =
       accepted = tt;
       refused =
           import_refused names c.args.path.now keep answer e
-          (is_bundle names c.args.path.now keep (view was.value) all.0 all.1 all.2 was.pictures.items
+          (is_bundle names c.args.path.now keep (view was.value) all.0 all.1 all.2
+          was.pictures.items
           all.3 made is_joined edited.placed (view c.in_ok-value-2.value) edited.value answer
           c.in_ok-answer.ensures.written)
           told;

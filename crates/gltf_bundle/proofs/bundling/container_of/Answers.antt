@@ -9,7 +9,11 @@ returns-in-Ok-clause-written c =
     let w = rw c.owned.ensures at c.in-Ok.ensures.written in
     record {
       json = text;
-      reads = λ short. (c.as_bytes.ensures.utf8, ap read whole ∙ c.in_ok-written.ensures.reads_back short);
+      reads = λ short. (
+        c.as_bytes.ensures.utf8,
+        ap read whole
+            ∙ c.in_ok-written.ensures.reads_back short,
+      );
       compact = λ none. whole ∙ c.in_ok-written.ensures.text none;
       fits = w.0;
       written = w.1;

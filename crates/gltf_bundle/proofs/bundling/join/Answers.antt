@@ -29,7 +29,8 @@ returns-clause-joined c =
     let whole = subst (λ (bs : List Data). IsSoFar (bytes_of_each bs) far.bytes.items
     far.spans.items) all far.invariant in
     record {
-      blob = rw (c.unless-blob.ensures, c.is_empty.ensures) (the_blob buffers far.bytes.items whole.is_joined);
+      blob = rw (c.unless-blob.ensures, c.is_empty.ensures)
+          (the_blob buffers far.bytes.items whole.is_joined);
       spans = whole.stand;
       total = long ∙ ap (λ (xs : List ℕ). length xs) whole.is_joined;
       fits = subst (λ (xs : List ℕ). length xs < 2 ^ 32) whole.is_joined whole.short;

@@ -43,8 +43,13 @@ loop-i-preserved g c =
       fine = made.fine ∙ far.fine;
       taken = far.taken ++ one;
       far =
-          rw (c.in_ok-push.ensures.items, taken_more vs c.loop-i.i image (omega arith) c.index-images-i.is)
-          (one_more names (take c.loop-i.i vs) c.loop-i.all.items far.taken far.far image p one takes);
+          rw (
+            c.in_ok-push.ensures.items,
+            taken_more vs c.loop-i.i image
+                (omega arith) c.index-images-i.is,
+          )
+          (one_more names (take c.loop-i.i vs) c.loop-i.all.items far.taken far.far image p one
+          takes);
       behind =
           made.taken.2 ∙ ap (λ (xs : List (List ℕ)). xs ++ one) far.behind
           ∙ append_assoc _ far.taken one;

@@ -1,4 +1,5 @@
-use Rattle.std.proofs.Common.{◌∷◌, [], refl, sym, ap, ◌∙◌, arith, ◌≡◌, length, Some, Option, ℕ, List}
+use Rattle.std.proofs.Common.{◌∷◌, [], refl, sym, ap, ◌∙◌, arith, ◌≡◌, length, Some, Option, ℕ}
+use Rattle.std.proofs.Common.{List}
 use Rattle.std.proofs.lemmas.Grind.{common_steps}
 use Rattle.std.specs.Prelude.{option_copied}
 use Rattle.gltf_bundle.specs.Media.{media_of}

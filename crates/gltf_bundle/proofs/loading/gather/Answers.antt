@@ -20,7 +20,8 @@ returns-clause-gathered g c =
         source = was.ensures.loaded.1;
         taken =
             subst (λ (ns : Names).
-            AreTaken ns c.args.keep (view was.field-0.value) c.in_ok-pictures.pictures.items taken.0)
+            AreTaken ns c.args.keep (view was.field-0.value) c.in_ok-pictures.pictures.items
+            taken.0)
             was.ensures.kept taken.1;
       },
       taken.2,

@@ -11,7 +11,8 @@ returns-clause-loaded g c =
     let bytes = c.in-Ok.bytes.items in
     let file = c.in-Ok-from_slice.file in (
       file.document,
-      loaded c.one_text_and_blob.ensures names c.args.path.now bytes c.in-Ok.ensures.gives file.document
+      loaded c.one_text_and_blob.ensures names c.args.path.now bytes c.in-Ok.ensures.gives
+          file.document
           (blob_bytes file.blob) (rw c.deref.ensures.value at c.in-Ok-from_slice.ensures.valid)
           (view c.in_ok-value.value) (rw c.deref-2.ensures.value at c.in_ok-value.ensures.value)
           (bytes_of_each c.in-Ok-import_buffers_from.buffers.items)

@@ -9,7 +9,8 @@ returns g c names path stem keep set is there holds other held kept answer bundl
     let text = held_accepted there other (string_bytes set.json) bundle.value bundle.root_
     bundle.buffers held bundle.gathered.source in
     both
-    (c.items_are_kept.ensures names path stem keep set is there holds bundle.root_ bundle.buffers text
+    (c.items_are_kept.ensures names path stem keep set is there holds bundle.root_ bundle.buffers
+    text
     index result)
     (c.items_are_kept-2.ensures (Held there) other kept answer bundle over s others accepts index
     result)

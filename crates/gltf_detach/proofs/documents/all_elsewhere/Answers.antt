@@ -14,7 +14,8 @@ loop-i-preserved c =
     let us = texts c.args.uris.now in
     let vs = c.deref-one-items.result.now in
     let far = c.loop-i in
-    let seen : view c.in_ok-elsewhere.field-0 ≡ elsewhere o (first (drop far.i us)) (view c.one-item.result) =
+    let seen : view c.in_ok-elsewhere.field-0 ≡ elsewhere o (first (drop far.i us))
+    (view c.one-item.result) =
     c.in_ok-elsewhere.ensures
     ∙ ap (λ (u : Option (List ℕ)). elsewhere o u (view c.one-item.result)) c.uri_at.ensures in
     record {
@@ -33,9 +34,11 @@ returns c =
     let far = c.loop-i in
     let same : vs ≡ c.in-Array.elements.items = c.deref-one-items.ensures.value in
     let none : drop far.i vs ≡ [] = grind (arith, common_steps) in
-    let whole : with_items (items_view far.all.items) (each_elsewhere o (drop far.i us) (items_view []))
+    let whole : with_items (items_view far.all.items)
+    (each_elsewhere o (drop far.i us) (items_view []))
     ≡ each_elsewhere o us (items_view vs) =
-    subst (λ ws. with_items (items_view far.all.items) (each_elsewhere o (drop far.i us) (items_view ws))
+    subst (λ ws. with_items (items_view far.all.items)
+    (each_elsewhere o (drop far.i us) (items_view ws))
     ≡ each_elsewhere o us (items_view vs)) none far.invariant.seen in
     rw (c.in-Array.is, view-Array c.in-Array.elements, ← same)
     (view-Array far.all ∙ ap array (sym (with_none (items_view far.all.items)) ∙ whole))

@@ -17,6 +17,7 @@ returns c =
     let told : c.args.findings.now ++ map refusal c.as_slice.result.now
     ≡ told_after c.args.findings.now [] (root_refusals c.args.root.now) =
     ap (λ fs. c.args.findings.now ++ fs) found
-    ∙ sym (c.a_walk_adds_what_is_found.ensures c.args.findings.now [] (root_refusals c.args.root.now)) in
+    ∙ sym (c.a_walk_adds_what_is_found.ensures c.args.findings.now []
+    (root_refusals c.args.root.now)) in
     subst (λ fs. OnOk c.tell_refusals.result (c.tell_refusals.new.findings ≡ fs)) told
     c.tell_refusals.ensures

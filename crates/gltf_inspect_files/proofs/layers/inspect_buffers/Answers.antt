@@ -1,7 +1,7 @@
 use Rattle.std.proofs.Common.{◌≡◌, ◌++◌, [], true, sym, subst, ◌∙◌}
 use Rattle.std.specs.Prelude.{slice_get}
 use Rattle.gltf_findings.specs.Checks.{findings_of}
-use Rattle.gltf_inspect_items.specs.Documents.{items_checks}
+use Rattle.gltf_inspect_files.specs.Reports.{contents_checks}
 use Rattle.gltf_buffers.specs.Buffers.{sources_of}
 use Rattle.gltf_buffers.specs.Shown.{answer_of_each, blob_bytes, bytes_of_each}
 use Rattle.gltf_inspect_files.specs.Buffers.{buffers_findings, is_nil}
@@ -20,6 +20,6 @@ returns-then-is_clean g c =
           (blob_bytes c.args.blob) answers (bytes_of_each c.in_ok-buffers.buffers.items)
           c.are_bytes_of_all.ensures c.in_ok-answers.ensures none c.in_ok-buffers.ensures;
       same = subst (λ b. c.in_ok-report.report ≡ c.args.records.now ++ findings_of []
-          (items_checks c.args.document.now (slice_get (bytes_of_each b))))
+          (contents_checks c.args.document.now (slice_get (bytes_of_each b))))
           c.deref.ensures.value c.in_ok-report.ensures;
     }

@@ -8,7 +8,8 @@ use Rattle.gltf_inspect_items.proofs.indices.any_restart.Given as goal
 abbrev pub invariant-loop-item : goal.invariant-loop-item
 invariant-loop-item g l =
     list_any (λ x. is_restart g.T.Number.most (g.T.Number.number x)) (counted_items l.items).items
-    ≡ list_any (λ x. is_restart g.T.Number.most (g.T.Number.number x)) (counted_items l.initial.items).items
+    ≡ list_any (λ x. is_restart g.T.Number.most (g.T.Number.number x))
+    (counted_items l.initial.items).items
 
 abbrev pub decreases-loop-item : goal.decreases-loop-item
 decreases-loop-item g l = length (counted_items l.items).items

@@ -10,6 +10,7 @@ use Rattle.gltf_inspect_items.proofs.indices.tell_meshes.Given as goal
 abbrev pub invariant-loop-i : goal.invariant-loop-i
 invariant-loop-i l =
     told_after l.findings (places_of l.location)
-    (elements_checks (mesh_checks l.document (slice_get (bytes_of_each l.buffers))) l.i (drop l.i l.meshes))
+    (elements_checks (mesh_checks l.document (slice_get (bytes_of_each l.buffers))) l.i
+    (drop l.i l.meshes))
     ≡ told_after l.initial.findings (places_of l.location)
     (elements_checks (mesh_checks l.document (slice_get (bytes_of_each l.buffers))) 0 l.meshes)

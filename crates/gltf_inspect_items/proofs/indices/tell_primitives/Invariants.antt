@@ -10,6 +10,8 @@ use Rattle.gltf_inspect_items.proofs.indices.tell_primitives.Given as goal
 abbrev pub invariant-loop-i : goal.invariant-loop-i
 invariant-loop-i l =
     told_after l.findings (places_of l.location)
-    (elements_checks (primitive_checks l.document (slice_get (bytes_of_each l.buffers))) l.i (drop l.i l.primitives))
+    (elements_checks (primitive_checks l.document (slice_get (bytes_of_each l.buffers))) l.i
+    (drop l.i l.primitives))
     ≡ told_after l.initial.findings (places_of l.location)
-    (elements_checks (primitive_checks l.document (slice_get (bytes_of_each l.buffers))) 0 l.primitives)
+    (elements_checks (primitive_checks l.document (slice_get (bytes_of_each l.buffers))) 0
+    l.primitives)

@@ -7,6 +7,7 @@ use Rattle.gltf_inspect_meshes.proofs.format.tell_formats.Given as goal
 -- what is left of the walk, after what was reported so far, is the whole of it
 abbrev pub invariant-loop-semantic : goal.invariant-loop-semantic
 invariant-loop-semantic l =
-    told_after l.findings (places_of l.location) (formats_checks l.root l.quantized l.semantic-iterator)
+    told_after l.findings (places_of l.location)
+    (formats_checks l.root l.quantized l.semantic-iterator)
     ≡ told_after l.initial.findings (places_of l.location)
     (formats_checks l.root l.quantized l.attributes.entries)

@@ -20,7 +20,8 @@ returns-in_err-part-clause-refused g c =
     let document = view c.args.document.now in
     let e = c.in_err-part.field-0.0 in
     let told : RefusesOwn names buffers document c.loop-i.i old new (view image) e =
-    subst (λ (ns : Names). RefusesOwn ns buffers document c.loop-i.i old new (view image) e) far.kept
+    subst (λ (ns : Names). RefusesOwn ns buffers document c.loop-i.i old new (view image) e)
+    far.kept
     (subst (λ (was : List Named).
     RefusesOwn (g.N.Ask.names c.loop-i.names) buffers document c.loop-i.i was new (view image) e)
     far.fine c.in_err-part.ensures.refused) in

@@ -1,0 +1,4 @@
+pub mod Extended
+pub mod Records
+pub mod Materials
+pub mod Documents

@@ -1,0 +1,9 @@
+pub mod Walks
+pub mod Orbits
+pub mod Tables
+pub mod Parents
+pub mod Ends
+pub mod Loops
+pub mod Joints
+pub mod Apart
+pub mod Found

@@ -1,0 +1,4 @@
+//! Which nodes are found to be on loops.
+#![tactic(auto)]
+
+pub mod laws;

@@ -1,0 +1,6 @@
+pub mod Steps
+pub mod Raised
+pub mod Counted
+pub mod Climbed
+pub mod Leading
+pub mod Same

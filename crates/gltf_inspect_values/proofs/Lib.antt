@@ -1,0 +1,4 @@
+pub mod Each
+pub mod Neighbours
+pub mod Short
+pub mod Sizes

@@ -1,0 +1,9 @@
+pub mod Components
+pub mod Questions
+pub mod Items
+pub mod Bounds
+pub mod Falls
+pub mod Stored
+pub mod Times
+pub mod Accessors
+pub mod Documents

@@ -1,0 +1,14 @@
+//! What the standard says of the values that accessors hold: of floats, of stated minima and
+//! maxima, of sparse indices, and of the times of animations.
+#![tactic(auto)]
+
+mod accessors;
+mod bounds;
+mod component;
+pub mod inspect;
+mod item;
+pub mod laws;
+mod question;
+mod stored;
+mod times;
+mod walk;
