@@ -70,7 +70,7 @@ fn write_container<'w, S: NamedBytes, O: Write>(
     };
     let bytes = bundle(rt.alloc(), source, asked.from, &options)?;
     put(rt, asked.to, &bytes)?;
-    told(out, asked.to, bytes.len())
+    report_file(out, asked.to, bytes.len())
 }
 
 /// Writes JSON text with files beside it. The stem is the name of the text without its ending.
@@ -93,13 +93,13 @@ fn write_text<'w, S: NamedBytes, O: Write>(
         return Err(Refusal::Files(format!(in alloc; "{fault}")?));
     }
     for file in &files {
-        told(out, file.0, file.1.len())?;
+        report_file(out, file.0, file.1.len())?;
     }
     Ok(())
 }
 
-/// Says how long a file is.
-fn told<'w, O: Write>(out: &mut O, name: &str, length: usize) -> Result<(), Refusal<'w>> {
+/// Writes the name of a file and how long it is.
+fn report_file<'w, O: Write>(out: &mut O, name: &str, length: usize) -> Result<(), Refusal<'w>> {
     match writeln!(out, "{name}: {length} bytes") {
         Ok(()) => Ok(()),
         Err(cause) => Err(Refusal::Line(cause)),
