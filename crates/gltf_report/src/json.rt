@@ -3,7 +3,7 @@ use crate::message::message;
 use gltf_findings::report::Report;
 use gltf_json::root::Root;
 use gltf_json_geometry::semantic::Semantic;
-use serde_json::{Value, json};
+use serde_json::{Value, json, put};
 use std::alloc::{AllocError, Global};
 
 /// The report as JSON, in the layout of the Khronos validator, and under `info` what the document
@@ -75,11 +75,42 @@ fn info(alloc: Global, root: &Root) -> Result<Value, AllocError> {
     })?;
     if let Some(generator) = &root.asset.generator {
         let generator = Value::String(String::from_str(alloc, generator.as_str())?);
-        if let Some(members) = info.as_object_mut() {
-            let _before = members.insert(String::from_str(alloc, "generator")?, generator)?;
-        }
+        add_member(alloc, &mut info, "generator", generator)?;
     }
+    let used = root.extensions_used.as_slice();
+    add_names(alloc, &mut info, "extensionsUsed", used)?;
+    let required = root.extensions_required.as_slice();
+    add_names(alloc, &mut info, "extensionsRequired", required)?;
     Ok(info)
+}
+
+fn add_member(
+    alloc: Global,
+    info: &mut Value,
+    name: &str,
+    member: Value,
+) -> Result<(), AllocError> {
+    if let Some(members) = info.as_object_mut() {
+        put(members, alloc, name, member)?;
+    }
+    Ok(())
+}
+
+/// Adds a list of names, where there are some.
+fn add_names(
+    alloc: Global,
+    info: &mut Value,
+    name: &str,
+    names: &[String],
+) -> Result<(), AllocError> {
+    if names.is_empty() {
+        return Ok(());
+    }
+    let mut list = Vec::with_capacity(alloc, names.len())?;
+    for one in names {
+        list.push(Value::String(String::from_str(alloc, one.as_str())?))?;
+    }
+    add_member(alloc, info, name, Value::Array(list))
 }
 
 fn has_targets(root: &Root) -> bool {

@@ -1,11 +1,14 @@
 //! The tables of what a document holds.
 use crate::table::Table;
+use gltf_extensions::supported;
 use gltf_json::root::Root;
 use gltf_json_animation::animation::Animation;
 use gltf_json_geometry::accessor::Accessor;
 use gltf_json_geometry::mesh::{Mesh, Primitive};
 use gltf_json_geometry::semantic::Semantic;
 use gltf_json_record::validation::Checked;
+use gltf_validation::root::is_supported;
+use serde_json::{Map, Value, put};
 use std::alloc::{AllocError, Global};
 
 /// The parts of a document that have a table.
@@ -23,16 +26,19 @@ pub(crate) enum Part {
     Animations,
     /// The buffers.
     Buffers,
+    /// The extensions that are used.
+    Extensions,
 }
 
 /// All of them, in the order of a report.
-pub(crate) const PARTS: [Part; 6] = [
+pub(crate) const PARTS: [Part; 7] = [
     Part::Scenes,
     Part::Meshes,
     Part::Materials,
     Part::Images,
     Part::Animations,
     Part::Buffers,
+    Part::Extensions,
 ];
 
 /// The table of a part.
@@ -45,6 +51,7 @@ pub(crate) fn table(alloc: Global, root: &Root, part: Part) -> Result<Table, All
         Part::Images => add_images(root, &mut table)?,
         Part::Animations => add_animations(root, &mut table)?,
         Part::Buffers => add_buffers(root, &mut table)?,
+        Part::Extensions => add_extensions(alloc, root, &mut table)?,
     }
     Ok(table)
 }
@@ -82,6 +89,7 @@ fn empty(alloc: Global, part: Part) -> Table {
             &["#", "name", "channels", "samplers", "keyframes"],
         ),
         Part::Buffers => Table::new(alloc, "BUFFERS", &["#", "name", "storage", "size", "uri"]),
+        Part::Extensions => Table::new(alloc, "EXTENSIONS", &["#", "name", "required", "read"]),
     }
 }
 
@@ -236,6 +244,52 @@ fn add_images(root: &Root, table: &mut Table) -> Result<(), AllocError> {
         table.add(reference_of(&image.uri))?;
     }
     Ok(())
+}
+
+fn add_extensions(alloc: Global, root: &Root, table: &mut Table) -> Result<(), AllocError> {
+    let required = set_of(alloc, root.extensions_required.as_slice())?;
+    for (i, name) in root.extensions_used.iter().enumerate() {
+        let name = name.as_str();
+        table.add_number(i as u64)?;
+        table.add(name)?;
+        table.add(if required.get(name).is_some() {
+            "true"
+        } else {
+            "false"
+        })?;
+        table.add(reading_of(name))?;
+    }
+    Ok(())
+}
+
+/// These names, to be looked up.
+fn set_of(alloc: Global, names: &[String]) -> Result<Map<String, Value>, AllocError> {
+    let mut set = Map::new(alloc);
+    for name in names {
+        put(&mut set, alloc, name.as_str(), Value::Null)?;
+    }
+    Ok(set)
+}
+
+/// How an extension is read: with the document, by the handles of `gltf_extensions`, or as JSON
+/// alone.
+fn reading_of(name: &str) -> &'static str {
+    if is_supported(name) {
+        "document"
+    } else if is_among(name, supported()) {
+        "handles"
+    } else {
+        "JSON"
+    }
+}
+
+fn is_among(name: &str, names: &[&str]) -> bool {
+    for other in names {
+        if name == *other {
+            return true;
+        }
+    }
+    false
 }
 
 fn is_data(uri: &str) -> bool {
