@@ -183,6 +183,7 @@ def shown(room):
         "thin.gltf": drawn(3, 2, 1, 2),
         "strip.gltf": drawn(3, 2, 1, 2, mode=5),
         "--dashed.gltf": document(),
+        "extended.gltf": document(**USED),
         "named.gltf": document(materials=[{"name": "a\tb</script>"}]),
     }
     for name in ("missing", "folder", "locked", LONG):
@@ -292,6 +293,8 @@ SENTENCES = {
     "ACCESSOR_INDEX_TRIANGLE_DEGENERATE": "A triangle names a vertex twice.",
     "NODE_PARENT_OVERRIDE": "The node is a child already.",
     "NODE_EMPTY": "The node is empty, and no skin has it as a joint.",
+    "UNSUPPORTED_EXTENSION":
+        "This reader does not know the extension, and leaves its data as they stand.",
     "UNUSED_OBJECT": "No member of the document names this object.",
 }
 
@@ -383,6 +386,15 @@ def of_indices(name, *found, infos=0, mode="TRIANGLES"):
     return (["inspect", name], 1 if len(found) > infos else 0, text, "")
 
 
+# Extensions that a file uses, one of which is required.
+USED = {"extensionsUsed": ["KHR_materials_unlit", "KHR_materials_sheen", "STUDIO"],
+        "extensionsRequired": ["KHR_materials_unlit"]}
+UNKNOWN = [("UNSUPPORTED_EXTENSION", f"/extensionsUsed/{i}") for i in (1, 2)]
+EXTENDED = "EXTENSIONS\n# name                required read\n" \
+    "0 KHR_materials_unlit true     document\n" \
+    "1 KHR_materials_sheen false    handles\n" \
+    "2 STUDIO              false    JSON\n"
+EXTENDED_INFO = {name: (INFO | USED)[name] for name in sorted(INFO | USED)}
 CUT, ENDED = "could not completely read the object", "failed to fill whole buffer"
 # A buffer in the folder of its file.
 FAR = "BUFFERS\n# name storage  size uri\n0 -    external 4    near.bin\n"
@@ -443,6 +455,10 @@ SHOWS += [
     of_indices("restart.gltf", ("ACCESSOR_INDEX_PRIMITIVE_RESTART", INDICES)),
     of_indices("thin.gltf", ("ACCESSOR_INDEX_TRIANGLE_DEGENERATE", INDICES), infos=1),
     of_indices("strip.gltf", mode="TRIANGLE_STRIP"),
+    (["inspect", "extended.gltf"], 0,
+     told("extended.gltf", *UNKNOWN, infos=2, holds=tables(EXTENSIONS=EXTENDED)), ""),
+    (["inspect", "--json", "extended.gltf"], 0,
+     told_json("extended.gltf", *UNKNOWN, infos=2, info=EXTENDED_INFO), ""),
     (["inspect", "--", "--dashed.gltf"], 0, told("--dashed.gltf", holds=tables()), ""),
     (["inspect", "--json", "--", "empty.gltf", "--dashed.gltf"], 0,
      told_json("empty.gltf", info=INFO) + told_json("--dashed.gltf", info=INFO), ""),
