@@ -1,7 +1,7 @@
 -- The extensions that a document names (glTF 2.0, section 3.12): "all extensions required to load
 -- and/or render an asset MUST be listed in the top-level extensionsRequired array", and this is "a
 -- subset of extensionsUsed".
-use Rattle.std.specs.Prelude.{List}
+use Rattle.std.specs.Prelude.{ℕ, Bool, List}
 use Rattle.std.specs.String.{string_bytes}
 use Rattle.std.specs.declared.string.String.{String}
 use Rattle.std.specs.declared.alloc.Global.{Global}
@@ -19,9 +19,10 @@ used_name_checks name =
 abbrev pub used_checks : List (String Global) → Checks
 used_checks used = list_checks used_name_checks used
 
-abbrev pub required_name_checks : List (String Global) → String Global → Checks
-required_name_checks used name =
-    Condition (is_among used (string_bytes name)) UnusedExtensionRequired
+-- is_used : whether extensionsUsed has a name
+abbrev pub required_name_checks : (List ℕ → Bool) → String Global → Checks
+required_name_checks is_used name =
+    Condition (is_used (string_bytes name)) UnusedExtensionRequired
 
 abbrev pub required_checks : List (String Global) → List (String Global) → Checks
-required_checks used required = list_checks (required_name_checks used) required
+required_checks used required = list_checks (required_name_checks (is_among used)) required

@@ -6,10 +6,10 @@ ghost use Rattle.gltf_inspect.specs.Extensions.{used_checks, required_checks};
 
 use gltf_findings::code::Code;
 use gltf_findings::findings::Findings;
-use gltf_inspect_meshes::names::is_among;
+use gltf_inspect_meshes::names::NameSet;
 use gltf_validation::location::Location;
 use gltf_validation::root::is_supported;
-use std::alloc::AllocError;
+use std::alloc::{AllocError, Global};
 
 /// Tells each used extension that is not known.
 pub(crate) fn tell_used(
@@ -29,6 +29,7 @@ pub(crate) fn tell_used(
 
 /// Tells each required extension that is not among the used ones.
 pub(crate) fn tell_required(
+    alloc: Global,
     used: &[String],
     required: &[String],
     location: &Location<'_>,
@@ -37,9 +38,10 @@ pub(crate) fn tell_required(
     ensures { OnOk result (findings.new ≡ told_after findings.old (places_of location.now)
         (required_checks used.now required.now)) }
 {
+    let declared = NameSet::of(alloc, used)?;
     for (i, name) in required.iter().enumerate() {
         let at = Location::Item(&*location, i);
-        findings.tell(is_among(name, used), Code::UnusedExtensionRequired, &at)?;
+        findings.tell(declared.has(name), Code::UnusedExtensionRequired, &at)?;
     }
     Ok(())
 }

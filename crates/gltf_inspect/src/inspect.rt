@@ -37,9 +37,9 @@ use std::alloc::{AllocError, Global};
 /// in views of vertices, in names of extensions, and last in the versions. The report has a code at
 /// a path exactly where the condition of that code stands at that path and is false.
 ///
-/// It takes time in proportion to the document, where it declares few extensions, but n log n for
-/// its nodes; and memory for the findings, 18 bytes for each node and a byte for each object. Fails
-/// where there is no memory.
+/// It takes time in proportion to the document, but n log n for its nodes and for the names of its
+/// extensions; and memory for the findings, for these names, 18 bytes for each node and a byte for
+/// each object. Fails where there is no memory.
 pub fn inspect(alloc: Global, root: &Root) -> Result<Report, AllocError>
     ensures { IfOk result (λ report. report ≡ findings_of [] (root_checks root.now)) }
 {
@@ -56,7 +56,7 @@ pub fn inspect(alloc: Global, root: &Root) -> Result<Report, AllocError>
     inspect_roots(alloc, root, &Location::Whole, &mut findings)?;
     inspect_skeletons(alloc, root, &Location::Whole, &mut findings)?;
     inspect_views(alloc, root, &Location::Whole, &mut findings)?;
-    inspect_extensions(root, &Location::Whole, &mut findings)?;
+    inspect_extensions(alloc, root, &Location::Whole, &mut findings)?;
     let asset = Location::Member(&Location::Whole, "asset");
     tell_asset(&root.asset, &asset, &mut findings)?;
     Ok(Report::new(findings))
@@ -134,6 +134,7 @@ fn inspect_document(
     let used = root.extensions_used.as_slice();
     let required = Location::Member(location, "extensionsRequired");
     tell_required(
+        alloc,
         used,
         root.extensions_required.as_slice(),
         &required,

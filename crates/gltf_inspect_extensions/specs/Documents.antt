@@ -4,6 +4,7 @@ use Rattle.std.specs.Prelude.{codes}
 use Rattle.gltf_json.specs.declared.extensions.root.Root as extended
 use Rattle.gltf_json.specs.declared.root.Root.{Root}
 use Rattle.gltf_findings.specs.Checks.{Checks, ◌&◌, member, list_checks}
+use Rattle.gltf_inspect_meshes.specs.Names.{is_among}
 use Rattle.gltf_inspect_extensions.specs.Extended.{Names, entries_checks, known_checks}
 use Rattle.gltf_inspect_extensions.specs.Extended.{extensions_checks}
 use Rattle.gltf_inspect_extensions.specs.Materials.{material_checks}
@@ -63,4 +64,4 @@ root_checks used r =
     & later_lists_checks used r
 
 abbrev pub undeclared_checks : Root → Checks
-undeclared_checks r = root_checks r.extensions_used.items r
+undeclared_checks r = root_checks (is_among r.extensions_used.items) r

@@ -1,6 +1,6 @@
 -- The extensions that are used in records: "All extensions used in a glTF asset MUST be listed in
 -- the top-level extensionsUsed array object" (glTF 2.0, section 3.12).
-use Rattle.std.specs.Prelude.{ℕ, List, [], ◌∷◌, Option, Some, None, codes}
+use Rattle.std.specs.Prelude.{ℕ, Bool, List, [], ◌∷◌, Option, Some, None, codes}
 use Rattle.std.specs.String.{string_bytes}
 use Rattle.std.specs.declared.string.String.{String}
 use Rattle.std.specs.declared.alloc.Global.{Global}
@@ -9,14 +9,13 @@ use Rattle.gltf_json_record.specs.Place.{keyed}
 use Rattle.gltf_json_record.specs.declared.extensions.Others.{Others}
 use Rattle.gltf_findings.specs.declared.code.Code.TheVariants.{UndeclaredExtension}
 use Rattle.gltf_findings.specs.Checks.{Checks, Nothing, Condition, At, ◌&◌, member, optional_checks}
-use Rattle.gltf_inspect_meshes.specs.Names.{is_among}
 
--- the names that extensionsUsed has
+-- whether extensionsUsed has a name
 abbrev pub Names : Type 0
-Names = List (String Global)
+Names = List ℕ → Bool
 
 abbrev pub declared_checks : Names → List ℕ → Checks
-declared_checks used name = Condition (is_among used name) UndeclaredExtension
+declared_checks used name = Condition (used name) UndeclaredExtension
 
 -- the members of `extensions` of which no record is made
 abbrev pub entries_checks : Names → List (String Global × Value) → Checks

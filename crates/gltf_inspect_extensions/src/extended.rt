@@ -8,7 +8,7 @@ ghost use Rattle.gltf_inspect_extensions.specs.Extended.{extensions_checks};
 
 use gltf_findings::code::Code;
 use gltf_findings::findings::Findings;
-use gltf_inspect_meshes::names::is_among;
+use gltf_inspect_meshes::names::NameSet;
 use gltf_json_record::extensions::Others;
 use gltf_validation::location::Location;
 use serde_json::{Map, Value};
@@ -25,7 +25,7 @@ pub(crate) trait Extended {
     /// Tells each extension that is used in a value and not among the declared ones, in order.
     fn tell(
         &self,
-        used: &[String],
+        used: &NameSet,
         location: &Location<'_>,
         findings: &mut Findings,
     ) -> Result<(), AllocError>
@@ -36,7 +36,7 @@ pub(crate) trait Extended {
 /// The same of the members of `extensions` of which no record is made.
 pub(crate) fn tell_others(
     others: &Map<String, Value>,
-    used: &[String],
+    used: &NameSet,
     location: &Location<'_>,
     findings: &mut Findings,
 ) -> Result<(), AllocError>
@@ -45,7 +45,7 @@ pub(crate) fn tell_others(
 {
     for (name, _value) in others {
         let at = Location::UnknownAttribute(&*location, name.as_str());
-        let is_declared = is_among(name.as_str(), used);
+        let is_declared = used.has(name.as_str());
         findings.tell(is_declared, Code::UndeclaredExtension, &at)?;
     }
     Ok(())
@@ -55,7 +55,7 @@ pub(crate) fn tell_others(
 pub(crate) fn tell_known<T>(
     extension: &Option<T>,
     name: &'static str,
-    used: &[String],
+    used: &NameSet,
     location: &Location<'_>,
     findings: &mut Findings,
 ) -> Result<(), AllocError>
@@ -65,7 +65,7 @@ pub(crate) fn tell_known<T>(
     if extension.is_none() {
         return Ok(());
     }
-    let is_declared = is_among(name, used);
+    let is_declared = used.has(name);
     findings.tell_member(is_declared, Code::UndeclaredExtension, name, location)
 }
 
@@ -73,7 +73,7 @@ pub(crate) fn tell_known<T>(
 pub(crate) fn tell_optional<T: Extended>(
     value: Option<&T>,
     name: &'static str,
-    used: &[String],
+    used: &NameSet,
     location: &Location<'_>,
     findings: &mut Findings,
 ) -> Result<(), AllocError>
@@ -89,7 +89,7 @@ pub(crate) fn tell_optional<T: Extended>(
 /// The same of the member `extensions`.
 pub(crate) fn tell_extensions<T: Extended>(
     extensions: Option<&T>,
-    used: &[String],
+    used: &NameSet,
     location: &Location<'_>,
     findings: &mut Findings,
 ) -> Result<(), AllocError>
@@ -101,7 +101,7 @@ pub(crate) fn tell_extensions<T: Extended>(
 
 fn tell_each<T: Extended>(
     values: &[T],
-    used: &[String],
+    used: &NameSet,
     location: &Location<'_>,
     findings: &mut Findings,
 ) -> Result<(), AllocError>
@@ -118,7 +118,7 @@ fn tell_each<T: Extended>(
 pub(crate) fn tell_list<T: Extended>(
     values: &[T],
     name: &'static str,
-    used: &[String],
+    used: &NameSet,
     location: &Location<'_>,
     findings: &mut Findings,
 ) -> Result<(), AllocError>
@@ -135,7 +135,7 @@ impl Extended for Others {
 
     fn tell(
         &self,
-        used: &[String],
+        used: &NameSet,
         location: &Location<'_>,
         findings: &mut Findings,
     ) -> Result<(), AllocError> {

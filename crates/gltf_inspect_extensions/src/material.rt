@@ -13,6 +13,7 @@ ghost use Rattle.gltf_inspect_extensions.specs.Materials.{later_textures_checks,
 
 use crate::extended::{Extended, tell_extensions, tell_known, tell_optional, tell_others};
 use gltf_findings::findings::Findings;
+use gltf_inspect_meshes::names::NameSet;
 use gltf_json_material::extensions::{material as surface, texture as moved};
 use gltf_json_material::material::{
     Material, NormalTexture, OcclusionTexture, PbrMetallicRoughness,
@@ -27,7 +28,7 @@ impl Extended for moved::Info {
 
     fn tell(
         &self,
-        used: &[String],
+        used: &NameSet,
         location: &Location<'_>,
         findings: &mut Findings,
     ) -> Result<(), AllocError> {
@@ -42,7 +43,7 @@ impl Extended for Info {
 
     fn tell(
         &self,
-        used: &[String],
+        used: &NameSet,
         location: &Location<'_>,
         findings: &mut Findings,
     ) -> Result<(), AllocError> {
@@ -55,7 +56,7 @@ impl Extended for NormalTexture {
 
     fn tell(
         &self,
-        used: &[String],
+        used: &NameSet,
         location: &Location<'_>,
         findings: &mut Findings,
     ) -> Result<(), AllocError> {
@@ -68,7 +69,7 @@ impl Extended for OcclusionTexture {
 
     fn tell(
         &self,
-        used: &[String],
+        used: &NameSet,
         location: &Location<'_>,
         findings: &mut Findings,
     ) -> Result<(), AllocError> {
@@ -81,7 +82,7 @@ impl Extended for PbrMetallicRoughness {
 
     fn tell(
         &self,
-        used: &[String],
+        used: &NameSet,
         location: &Location<'_>,
         findings: &mut Findings,
     ) -> Result<(), AllocError> {
@@ -104,7 +105,7 @@ impl Extended for surface::PbrSpecularGlossiness {
 
     fn tell(
         &self,
-        used: &[String],
+        used: &NameSet,
         location: &Location<'_>,
         findings: &mut Findings,
     ) -> Result<(), AllocError> {
@@ -126,7 +127,7 @@ impl Extended for surface::Transmission {
 
     fn tell(
         &self,
-        used: &[String],
+        used: &NameSet,
         location: &Location<'_>,
         findings: &mut Findings,
     ) -> Result<(), AllocError> {
@@ -146,7 +147,7 @@ impl Extended for surface::Volume {
 
     fn tell(
         &self,
-        used: &[String],
+        used: &NameSet,
         location: &Location<'_>,
         findings: &mut Findings,
     ) -> Result<(), AllocError> {
@@ -160,7 +161,7 @@ impl Extended for surface::Specular {
 
     fn tell(
         &self,
-        used: &[String],
+        used: &NameSet,
         location: &Location<'_>,
         findings: &mut Findings,
     ) -> Result<(), AllocError> {
@@ -176,7 +177,7 @@ impl Extended for surface::Material {
 
     fn tell(
         &self,
-        used: &[String],
+        used: &NameSet,
         location: &Location<'_>,
         findings: &mut Findings,
     ) -> Result<(), AllocError> {
@@ -188,7 +189,7 @@ impl Extended for surface::Material {
 
 fn tell_names(
     surface: &surface::Material,
-    used: &[String],
+    used: &NameSet,
     location: &Location<'_>,
     findings: &mut Findings,
 ) -> Result<(), AllocError>
@@ -226,7 +227,7 @@ fn tell_names(
 
 fn tell_first_textures(
     surface: &surface::Material,
-    used: &[String],
+    used: &NameSet,
     location: &Location<'_>,
     findings: &mut Findings,
 ) -> Result<(), AllocError>
@@ -247,7 +248,7 @@ fn tell_first_textures(
 
 fn tell_later_textures(
     surface: &surface::Material,
-    used: &[String],
+    used: &NameSet,
     location: &Location<'_>,
     findings: &mut Findings,
 ) -> Result<(), AllocError>
@@ -265,7 +266,7 @@ impl Extended for Material {
 
     fn tell(
         &self,
-        used: &[String],
+        used: &NameSet,
         location: &Location<'_>,
         findings: &mut Findings,
     ) -> Result<(), AllocError> {
@@ -278,7 +279,7 @@ impl Extended for Material {
 
 fn tell_textures(
     material: &Material,
-    used: &[String],
+    used: &NameSet,
     location: &Location<'_>,
     findings: &mut Findings,
 ) -> Result<(), AllocError>

@@ -13,6 +13,7 @@ use crate::extended::{
     Extended, tell_extensions, tell_known, tell_list, tell_optional, tell_others,
 };
 use gltf_findings::findings::Findings;
+use gltf_inspect_meshes::names::NameSet;
 use gltf_json_animation::animation::Animation;
 use gltf_json_geometry::accessor::Accessor;
 use gltf_json_geometry::buffer::{Buffer, View};
@@ -34,7 +35,7 @@ impl Extended for Accessor {
 
     fn tell(
         &self,
-        used: &[String],
+        used: &NameSet,
         location: &Location<'_>,
         findings: &mut Findings,
     ) -> Result<(), AllocError> {
@@ -47,7 +48,7 @@ impl Extended for Animation {
 
     fn tell(
         &self,
-        used: &[String],
+        used: &NameSet,
         location: &Location<'_>,
         findings: &mut Findings,
     ) -> Result<(), AllocError> {
@@ -60,7 +61,7 @@ impl Extended for Asset {
 
     fn tell(
         &self,
-        used: &[String],
+        used: &NameSet,
         location: &Location<'_>,
         findings: &mut Findings,
     ) -> Result<(), AllocError> {
@@ -73,7 +74,7 @@ impl Extended for Buffer {
 
     fn tell(
         &self,
-        used: &[String],
+        used: &NameSet,
         location: &Location<'_>,
         findings: &mut Findings,
     ) -> Result<(), AllocError> {
@@ -86,7 +87,7 @@ impl Extended for View {
 
     fn tell(
         &self,
-        used: &[String],
+        used: &NameSet,
         location: &Location<'_>,
         findings: &mut Findings,
     ) -> Result<(), AllocError> {
@@ -99,7 +100,7 @@ impl Extended for Orthographic {
 
     fn tell(
         &self,
-        used: &[String],
+        used: &NameSet,
         location: &Location<'_>,
         findings: &mut Findings,
     ) -> Result<(), AllocError> {
@@ -112,7 +113,7 @@ impl Extended for Perspective {
 
     fn tell(
         &self,
-        used: &[String],
+        used: &NameSet,
         location: &Location<'_>,
         findings: &mut Findings,
     ) -> Result<(), AllocError> {
@@ -125,7 +126,7 @@ impl Extended for Image {
 
     fn tell(
         &self,
-        used: &[String],
+        used: &NameSet,
         location: &Location<'_>,
         findings: &mut Findings,
     ) -> Result<(), AllocError> {
@@ -138,7 +139,7 @@ impl Extended for Scene {
 
     fn tell(
         &self,
-        used: &[String],
+        used: &NameSet,
         location: &Location<'_>,
         findings: &mut Findings,
     ) -> Result<(), AllocError> {
@@ -151,7 +152,7 @@ impl Extended for Skin {
 
     fn tell(
         &self,
-        used: &[String],
+        used: &NameSet,
         location: &Location<'_>,
         findings: &mut Findings,
     ) -> Result<(), AllocError> {
@@ -164,7 +165,7 @@ impl Extended for Sampler {
 
     fn tell(
         &self,
-        used: &[String],
+        used: &NameSet,
         location: &Location<'_>,
         findings: &mut Findings,
     ) -> Result<(), AllocError> {
@@ -177,7 +178,7 @@ impl Extended for Texture {
 
     fn tell(
         &self,
-        used: &[String],
+        used: &NameSet,
         location: &Location<'_>,
         findings: &mut Findings,
     ) -> Result<(), AllocError> {
@@ -190,7 +191,7 @@ impl Extended for Camera {
 
     fn tell(
         &self,
-        used: &[String],
+        used: &NameSet,
         location: &Location<'_>,
         findings: &mut Findings,
     ) -> Result<(), AllocError> {
@@ -212,7 +213,7 @@ impl Extended for place::Node {
 
     fn tell(
         &self,
-        used: &[String],
+        used: &NameSet,
         location: &Location<'_>,
         findings: &mut Findings,
     ) -> Result<(), AllocError> {
@@ -227,7 +228,7 @@ impl Extended for Node {
 
     fn tell(
         &self,
-        used: &[String],
+        used: &NameSet,
         location: &Location<'_>,
         findings: &mut Findings,
     ) -> Result<(), AllocError> {
@@ -240,7 +241,7 @@ impl Extended for shape::Primitive {
 
     fn tell(
         &self,
-        used: &[String],
+        used: &NameSet,
         location: &Location<'_>,
         findings: &mut Findings,
     ) -> Result<(), AllocError> {
@@ -255,7 +256,7 @@ impl Extended for Primitive {
 
     fn tell(
         &self,
-        used: &[String],
+        used: &NameSet,
         location: &Location<'_>,
         findings: &mut Findings,
     ) -> Result<(), AllocError> {
@@ -268,7 +269,7 @@ impl Extended for Mesh {
 
     fn tell(
         &self,
-        used: &[String],
+        used: &NameSet,
         location: &Location<'_>,
         findings: &mut Findings,
     ) -> Result<(), AllocError> {

@@ -11,16 +11,18 @@ ghost use Rattle.gltf_inspect_extensions.specs.Documents.{undeclared_checks};
 
 use crate::extended::{Extended, tell_extensions, tell_known, tell_list, tell_others};
 use gltf_findings::findings::Findings;
+use gltf_inspect_meshes::names::NameSet;
 use gltf_json::extensions::root as extended;
 use gltf_json::root::Root;
 use gltf_validation::location::Location;
-use std::alloc::AllocError;
+use std::alloc::{AllocError, Global};
 
 /// Tells each extension that is used in a record of a document and not among its `extensionsUsed`:
 /// in the asset, the document itself, and each element of its lists. What is in records of which
-/// the reader keeps no extensions, as channels of animations, is not looked at. Takes memory only
-/// for a finding, and fails where there is none.
+/// the reader keeps no extensions, as channels of animations, is not looked at. Takes memory for
+/// the declared names and for a finding, and fails where there is none.
 pub fn inspect_extensions(
+    alloc: Global,
     root: &Root,
     location: &Location<'_>,
     findings: &mut Findings,
@@ -28,12 +30,12 @@ pub fn inspect_extensions(
     ensures { OnOk result (findings.new ≡ told_after findings.old (places_of location.now)
         (undeclared_checks root.now)) }
 {
-    let used = root.extensions_used.as_slice();
+    let used = NameSet::of(alloc, root.extensions_used.as_slice())?;
     let asset = Location::Member(location, "asset");
-    root.asset.tell(used, &asset, findings)?;
-    tell_extensions(root.extensions.as_ref(), used, location, findings)?;
-    tell_first_lists(root, used, location, findings)?;
-    tell_later_lists(root, used, location, findings)
+    root.asset.tell(&used, &asset, findings)?;
+    tell_extensions(root.extensions.as_ref(), &used, location, findings)?;
+    tell_first_lists(root, &used, location, findings)?;
+    tell_later_lists(root, &used, location, findings)
 }
 
 impl Extended for extended::Root {
@@ -41,7 +43,7 @@ impl Extended for extended::Root {
 
     fn tell(
         &self,
-        used: &[String],
+        used: &NameSet,
         location: &Location<'_>,
         findings: &mut Findings,
     ) -> Result<(), AllocError> {
@@ -55,7 +57,7 @@ impl Extended for extended::Root {
 
 fn tell_first_lists(
     root: &Root,
-    used: &[String],
+    used: &NameSet,
     location: &Location<'_>,
     findings: &mut Findings,
 ) -> Result<(), AllocError>
@@ -69,7 +71,7 @@ fn tell_first_lists(
 
 fn tell_later_lists(
     root: &Root,
-    used: &[String],
+    used: &NameSet,
     location: &Location<'_>,
     findings: &mut Findings,
 ) -> Result<(), AllocError>
@@ -82,7 +84,7 @@ fn tell_later_lists(
 
 fn tell_geometry_lists(
     root: &Root,
-    used: &[String],
+    used: &NameSet,
     location: &Location<'_>,
     findings: &mut Findings,
 ) -> Result<(), AllocError>
@@ -99,7 +101,7 @@ fn tell_geometry_lists(
 
 fn tell_scene_lists(
     root: &Root,
-    used: &[String],
+    used: &NameSet,
     location: &Location<'_>,
     findings: &mut Findings,
 ) -> Result<(), AllocError>
@@ -116,7 +118,7 @@ fn tell_scene_lists(
 
 fn tell_picture_lists(
     root: &Root,
-    used: &[String],
+    used: &NameSet,
     location: &Location<'_>,
     findings: &mut Findings,
 ) -> Result<(), AllocError>
@@ -133,7 +135,7 @@ fn tell_picture_lists(
 
 fn tell_other_lists(
     root: &Root,
-    used: &[String],
+    used: &NameSet,
     location: &Location<'_>,
     findings: &mut Findings,
 ) -> Result<(), AllocError>
@@ -148,7 +150,7 @@ fn tell_other_lists(
 
 fn tell_shape_lists(
     root: &Root,
-    used: &[String],
+    used: &NameSet,
     location: &Location<'_>,
     findings: &mut Findings,
 ) -> Result<(), AllocError>

@@ -8,6 +8,6 @@ use Rattle.gltf_inspect.proofs.extensions.tell_required.Given as goal
 abbrev pub invariant-loop-i : goal.invariant-loop-i
 invariant-loop-i l =
     told_after l.findings (places_of l.location)
-    (elements_checks (required_name_checks l.used) l.i (drop l.i l.required))
+    (elements_checks (required_name_checks l.declared) l.i (drop l.i l.required))
     ≡ told_after l.initial.findings (places_of l.location)
-    (elements_checks (required_name_checks l.used) 0 l.required)
+    (elements_checks (required_name_checks l.declared) 0 l.required)
