@@ -33,9 +33,9 @@ sys.path.insert(0, str(c_tests.TESTS_OF_C))
 import expected
 
 # What the crate does not tell, of lines of expected.py: only that of used samplers, of what a
-# material or node states what the crate `gltf` tells, and no extension that is JSON text there.
+# material or node states what the crate `gltf` tells, and no packet of the document itself.
 UNTOLD = re.compile(r"buffers \d+ waits:|animations \d+ samplers:|animationSamplers \d+ \d+ EXT_"
-                    rf"|({'|'.join(expected.EXTENSIONS)}) \d+ ")
+                    r"|root 0 status of packet:")
 # The factors of the extensions of a material, by the bit of the extension.
 FACTORS = {2: "diffuse_factor specular_glossiness_factor glossiness_factor",
            4: "transmission_factor", 8: "ior", 16: "emissive_strength",
@@ -242,12 +242,14 @@ def reads_what_python_reads():
     cargo("build", "--example", "list")
     files = OUT / "files"
     files.mkdir(exist_ok=True)
-    c.ran(sys.executable, c_tests.TESTS_OF_C / "rich.py", files)
+    for writer in ("rich.py", "extended.py"):
+        c.ran(sys.executable, c_tests.TESTS_OF_C / writer, files)
     found = [file for file in sorted(EXAMPLES.rglob("*"))
              if file.suffix in (".glb", ".gltf") and file != c_tests.DANGLING]
     assert len(found) >= 3
     for file in [*found, c_tests.RIG, c_tests.SURFACE,
-                 *(files / name for name in ("rich.gltf", "rich.glb", "valid.glb", "plain.gltf"))]:
+                 *(files / name for name in ("rich.gltf", "rich.glb", "valid.glb", "plain.gltf",
+                                             "extended.gltf"))]:
         printed = listed(file)
         wanted = wanted_of(file, printed)
         shown = [expected.meaning(line) for line in printed]

@@ -1,7 +1,7 @@
 //! What a file says of itself.
 use std::fmt;
 
-use crate::{sys, Document};
+use crate::{sys, Document, Result};
 
 /// What a file says of itself (glTF 2.0, section 5.9).
 #[derive(Clone)]
@@ -42,6 +42,12 @@ impl<'a> Asset<'a> {
     /// What it has of an extension, as JSON text.
     pub fn extension_value(&self, ext_name: &str) -> Option<String> {
         self.document.file().json(sys::GLTF_ASSET, 0, 0, Some(ext_name))
+    }
+
+    /// The packet of metadata that describes it (`KHR_xmp_json_ld`), by its position in the list of
+    /// packets ([`extension`](crate::extension)).
+    pub fn xmp_packet(&self) -> Result<Option<usize>> {
+        self.document.file().xmp_packet(sys::GLTF_ASSET, 0, 0)
     }
 
     fn text(&self, what: u32) -> Option<String> {

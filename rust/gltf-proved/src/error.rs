@@ -39,7 +39,8 @@ pub enum Status {
     NoRoom,
     /// The components of an accessor are of another type.
     OtherType,
-    /// An extension has a member that is missing or of another kind, or an index out of range.
+    /// An extension has a member that is missing or of another kind, an index out of range, or an
+    /// unknown word.
     BadExtension,
     /// What a later library answers.
     Unknown(u32),
@@ -100,6 +101,9 @@ pub enum Error {
     Unreadable(Fault),
     /// The items of an accessor are not of the type that was asked for.
     OtherType(Fault),
+    /// An extension of a record has a member that is missing or of another kind, an index out of
+    /// range, or an unknown word ([`extension`](crate::extension)).
+    BadExtension(Fault),
     /// What a later library answers.
     Other(Fault),
 }
@@ -147,6 +151,17 @@ impl Fault {
         Fault { status, pointer, message: message.to_owned(), buffer: None, rules: 0 }
     }
 
+    /// A fault at an extension of a record, by the pointer to the record.
+    pub(crate) fn of_extension(status: Status, record: &str, extension: &str) -> Fault {
+        let pointer = format!("{record}/extensions/{extension}");
+        let message = match status {
+            Status::BadExtension => "is not of its form, or has an index out of range",
+            _ => "cannot be read",
+        };
+        let message = format!("the extension {extension} {message}");
+        Fault { status, pointer, message, buffer: None, rules: 0 }
+    }
+
     fn of_library(fault: &sys::gltf_fault) -> Fault {
         let buffer = (fault.buffer != sys::GLTF_NONE).then_some(fault.buffer);
         let mut pointer = text_of(&fault.path);
@@ -186,6 +201,7 @@ impl Error {
             Status::UnsupportedScheme => Error::UnsupportedScheme(fault),
             Status::Unreadable => Error::Unreadable(fault),
             Status::OtherType => Error::OtherType(fault),
+            Status::BadExtension => Error::BadExtension(fault),
             _ => Error::Other(fault),
         }
     }
@@ -205,6 +221,7 @@ impl Error {
             | Error::UnsupportedScheme(fault)
             | Error::Unreadable(fault)
             | Error::OtherType(fault)
+            | Error::BadExtension(fault)
             | Error::Other(fault) => Some(fault),
         }
     }

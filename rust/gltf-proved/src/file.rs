@@ -5,11 +5,11 @@ use std::mem::MaybeUninit;
 use std::os::raw::c_char;
 use std::ptr::{self, NonNull};
 
-use crate::error::{Error, Result};
+use crate::error::{Error, Fault, Result, Status};
 use crate::sys::{self, gltf_file, gltf_status};
 
 /// The version of the library: major, minor, patch. It works with this crate if its major version
-/// is 2; this crate makes no call that 2.0.0 has not.
+/// is 2 and it is not older than 2.1; this crate makes no call that 2.1.0 has not.
 pub fn library_version() -> (u32, u32, u32) {
     // SAFETY: the call takes nothing and changes nothing.
     let number = unsafe { sys::gltf_version() };
@@ -87,6 +87,41 @@ infos! {
     PartInfo by PartCall:
     gltf_channel gltf_channel_info,
     gltf_primitive gltf_primitive_info,
+}
+
+/// A call that fills in an extension of the record at an index. There are only the constants below:
+/// the members are private.
+pub(crate) struct ExtensionCall<T> {
+    call: InfoCall<T>,
+    kind: u32,
+    name: &'static str,
+}
+
+/// Each of these calls fills in all of the struct where it returns GLTF_SUCCESS, as gltf.h says of
+/// it. All bits 0 are a value of the struct: its members are numbers.
+macro_rules! extension_calls {
+    ($($constant:ident: $info:ident by $call:ident of $kind:ident, $name:literal;)*) => {$(
+        pub(crate) const $constant: ExtensionCall<sys::$info> =
+            ExtensionCall { call: sys::$call, kind: sys::$kind, name: $name };
+    )*};
+}
+
+extension_calls! {
+    CLEARCOAT: gltf_clearcoat by gltf_clearcoat_info of GLTF_MATERIALS, "KHR_materials_clearcoat";
+    SHEEN: gltf_sheen by gltf_sheen_info of GLTF_MATERIALS, "KHR_materials_sheen";
+    IRIDESCENCE: gltf_iridescence by gltf_iridescence_info of GLTF_MATERIALS,
+        "KHR_materials_iridescence";
+    ANISOTROPY: gltf_anisotropy by gltf_anisotropy_info of GLTF_MATERIALS,
+        "KHR_materials_anisotropy";
+    DISPERSION: gltf_dispersion by gltf_dispersion_info of GLTF_MATERIALS,
+        "KHR_materials_dispersion";
+    DIFFUSE_TRANSMISSION: gltf_diffuse_transmission by gltf_diffuse_transmission_info
+        of GLTF_MATERIALS, "KHR_materials_diffuse_transmission";
+    BASISU: gltf_texture_source by gltf_basisu_info of GLTF_TEXTURES, "KHR_texture_basisu";
+    WEBP: gltf_texture_source by gltf_webp_info of GLTF_TEXTURES, "EXT_texture_webp";
+    INSTANCING: gltf_instancing by gltf_instancing_info of GLTF_NODES, "EXT_mesh_gpu_instancing";
+    VISIBILITY: gltf_visibility by gltf_visibility_info of GLTF_NODES, "KHR_node_visibility";
+    MESHOPT: gltf_meshopt by gltf_meshopt_info of GLTF_BUFFER_VIEWS, "EXT_meshopt_compression";
 }
 
 /// Ends the program where a call failed that does not fail: of a record that is there.
@@ -219,6 +254,26 @@ impl File {
         found(status, index)
     }
 
+    /// The struct of an extension of the record at an index; None where the record has none.
+    pub(crate) fn extension<T>(&self, of: &ExtensionCall<T>, index: usize) -> Result<Option<T>> {
+        let mut out = MaybeUninit::zeroed();
+        // SAFETY: the file is open, and `out` is room for the struct of this call, which is one of
+        // the constants.
+        let status = unsafe { (of.call)(self.at.as_ptr(), index, out.as_mut_ptr()) };
+        // SAFETY: all of it is numbers, which were 0 before the call filled it in.
+        let found = unsafe { out.assume_init() };
+        stated(status, found, || (pointer_to(of.kind, index, 0), of.name))
+    }
+
+    /// The packet of metadata of a record, or of a part of it; None where it names none.
+    pub(crate) fn xmp_packet(&self, kind: u32, index: usize, part: usize) -> Result<Option<usize>> {
+        let mut packet = 0;
+        // SAFETY: the file is open, and `packet` is room for what the call writes.
+        let status =
+            unsafe { sys::gltf_xmp_packet(self.at.as_ptr(), kind, index, part, &mut packet) };
+        stated(status, packet, || (pointer_to(kind, index, part), "KHR_xmp_json_ld"))
+    }
+
     /// The name of a record.
     pub(crate) fn name(&self, kind: u32, index: usize) -> Option<String> {
         // SAFETY: the file is open, and `text_of_call` gives room for what the call writes.
@@ -317,6 +372,52 @@ fn found<T>(status: gltf_status, value: T) -> Option<T> {
     }
     done(status);
     Some(value)
+}
+
+/// What a call wrote of an extension; None where the record has no such extension. `place` is the
+/// pointer to the record, and the name of the extension.
+fn stated<T>(
+    status: gltf_status,
+    value: T,
+    place: impl FnOnce() -> (String, &'static str),
+) -> Result<Option<T>> {
+    match status {
+        sys::GLTF_SUCCESS => Ok(Some(value)),
+        sys::GLTF_NO_SUCH_INDEX => Ok(None),
+        _ => {
+            let (record, name) = place();
+            Err(Error::of_fault(Fault::of_extension(Status::of_number(status), &record, name)))
+        }
+    }
+}
+
+/// The lists of a document with the records of a kind, by the number of the kind.
+const LISTS: [&str; sys::GLTF_VARIANTS as usize + 1] = [
+    "buffers",
+    "bufferViews",
+    "accessors",
+    "meshes",
+    "nodes",
+    "materials",
+    "scenes",
+    "skins",
+    "animations",
+    "images",
+    "textures",
+    "samplers",
+    "cameras",
+    "extensions/KHR_lights_punctual/lights",
+    "extensions/KHR_materials_variants/variants",
+];
+
+/// The JSON Pointer to a record, or to a part of it; empty where it is the document.
+fn pointer_to(kind: u32, index: usize, part: usize) -> String {
+    match (kind, LISTS.get(kind as usize)) {
+        (_, Some(list)) => format!("/{list}/{index}"),
+        (sys::GLTF_ASSET, _) => "/asset".to_owned(),
+        (sys::GLTF_PRIMITIVES, _) => format!("/meshes/{index}/primitives/{part}"),
+        _ => String::new(),
+    }
 }
 
 /// The text that a call copies. The call gets the room for it, twice.

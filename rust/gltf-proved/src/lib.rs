@@ -56,6 +56,7 @@ pub mod accessor;
 pub mod animation;
 pub mod buffer;
 pub mod camera;
+pub mod extension;
 pub mod image;
 pub mod iter;
 pub mod khr_lights_punctual;

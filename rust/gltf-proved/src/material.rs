@@ -2,7 +2,7 @@
 use std::fmt;
 
 use crate::texture::{Info, Texture, TextureTransform};
-use crate::{sys, Document};
+use crate::{sys, Document, Result};
 
 /// How a material is laid over what is behind it (glTF 2.0, section 3.9.4).
 #[derive(Clone, Copy, Debug, PartialEq, Eq, Hash)]
@@ -18,7 +18,7 @@ pub enum AlphaMode {
 /// A material (glTF 2.0, section 5.19).
 #[derive(Clone)]
 pub struct Material<'a> {
-    document: &'a Document,
+    pub(crate) document: &'a Document,
     index: Option<usize>,
     info: &'a sys::gltf_material,
 }
@@ -65,18 +65,18 @@ impl<'a> Material<'a> {
 
     /// Its colours and its metal.
     pub fn pbr_metallic_roughness(&self) -> PbrMetallicRoughness<'a> {
-        PbrMetallicRoughness { material: self.clone() }
+        PbrMetallicRoughness::new(self.document, self.info)
     }
 
     /// `KHR_materials_pbrSpecularGlossiness`, if the material has it.
     pub fn pbr_specular_glossiness(&self) -> Option<PbrSpecularGlossiness<'a>> {
         self.has(sys::GLTF_SPECULAR_GLOSSINESS)
-            .then(|| PbrSpecularGlossiness { material: self.clone() })
+            .then(|| PbrSpecularGlossiness::new(self.document, self.info))
     }
 
     /// `KHR_materials_transmission`, if the material has it.
     pub fn transmission(&self) -> Option<Transmission<'a>> {
-        self.has(sys::GLTF_TRANSMISSION).then(|| Transmission { material: self.clone() })
+        self.has(sys::GLTF_TRANSMISSION).then(|| Transmission::new(self.document, self.info))
     }
 
     /// The index of refraction of `KHR_materials_ior`, if the material has it.
@@ -91,12 +91,12 @@ impl<'a> Material<'a> {
 
     /// `KHR_materials_volume`, if the material has it.
     pub fn volume(&self) -> Option<Volume<'a>> {
-        self.has(sys::GLTF_VOLUME).then(|| Volume { material: self.clone() })
+        self.has(sys::GLTF_VOLUME).then(|| Volume::new(self.document, self.info))
     }
 
     /// `KHR_materials_specular`, if the material has it.
     pub fn specular(&self) -> Option<Specular<'a>> {
-        self.has(sys::GLTF_SPECULAR).then(|| Specular { material: self.clone() })
+        self.has(sys::GLTF_SPECULAR).then(|| Specular::new(self.document, self.info))
     }
 
     /// Whether it has `KHR_materials_unlit`.
@@ -106,12 +106,12 @@ impl<'a> Material<'a> {
 
     /// The texture of normals.
     pub fn normal_texture(&self) -> Option<NormalTexture<'a>> {
-        Info::new(self.document, &self.info.normal).map(|info| NormalTexture { info })
+        NormalTexture::new(self.document, &self.info.normal)
     }
 
     /// The texture of what light does not reach.
     pub fn occlusion_texture(&self) -> Option<OcclusionTexture<'a>> {
-        Info::new(self.document, &self.info.occlusion).map(|info| OcclusionTexture { info })
+        OcclusionTexture::new(self.document, &self.info.occlusion)
     }
 
     /// The texture of its own light.
@@ -129,10 +129,17 @@ impl<'a> Material<'a> {
         self.document.file().json(sys::GLTF_MATERIALS, self.index?, 0, None)
     }
 
-    /// What the material has of an extension that this crate has no member for, as
-    /// `KHR_materials_clearcoat`, as JSON text.
+    /// What the material has of an extension, as JSON text: of one that this crate has no member
+    /// for, and of those in [`extension`](crate::extension).
     pub fn extension_value(&self, key: &str) -> Option<String> {
         self.document.file().json(sys::GLTF_MATERIALS, self.index?, 0, Some(key))
+    }
+
+    /// The packet of metadata that describes it (`KHR_xmp_json_ld`), by its position in the list of
+    /// packets ([`extension`](crate::extension)).
+    pub fn xmp_packet(&self) -> Result<Option<usize>> {
+        let Some(index) = self.index else { return Ok(None) };
+        self.document.file().xmp_packet(sys::GLTF_MATERIALS, index, 0)
     }
 }
 
@@ -142,50 +149,76 @@ impl fmt::Debug for Material<'_> {
     }
 }
 
-fn floats<const N: usize>(numbers: [f64; N]) -> [f32; N] {
+pub(crate) fn floats<const N: usize>(numbers: [f64; N]) -> [f32; N] {
     numbers.map(|number| number as f32)
 }
 
-/// A part of a material: its type, its factors, of one number or several, and its textures.
+/// A part of a material: its type, the struct that has its members, its factors, of one number or
+/// several, and its textures, of which those of normals are of another type.
 macro_rules! part {
     (
-        $(#[$about:meta])* $name:ident
+        $(#[$about:meta])* $name:ident: $info:ty,
         numbers { $($(#[$one_about:meta])* $one:ident of $one_member:ident;)* }
         lists { $($(#[$many_about:meta])* $many:ident of $many_member:ident, $count:literal;)* }
         textures { $($(#[$use_about:meta])* $texture:ident of $use_member:ident;)* }
+        $(normals { $($(#[$normal_about:meta])* $normal:ident of $normal_member:ident;)* })?
     ) => {
         $(#[$about])*
-        #[derive(Clone, Debug)]
+        #[derive(Clone)]
         pub struct $name<'a> {
-            material: Material<'a>,
+            document: &'a Document,
+            info: $info,
         }
 
         impl<'a> $name<'a> {
+            pub(crate) fn new(document: &'a Document, info: $info) -> Self {
+                $name { document, info }
+            }
+
             $(
                 $(#[$one_about])*
                 pub fn $one(&self) -> f32 {
-                    self.material.info.$one_member as f32
+                    self.info.$one_member as f32
                 }
             )*
             $(
                 $(#[$many_about])*
                 pub fn $many(&self) -> [f32; $count] {
-                    floats(self.material.info.$many_member)
+                    $crate::material::floats(self.info.$many_member)
                 }
             )*
             $(
                 $(#[$use_about])*
                 pub fn $texture(&self) -> Option<Info<'a>> {
-                    Info::new(self.material.document, &self.material.info.$use_member)
+                    Info::new(self.document, &self.info.$use_member)
                 }
             )*
+            $($(
+                $(#[$normal_about])*
+                pub fn $normal(&self) -> Option<NormalTexture<'a>> {
+                    NormalTexture::new(self.document, &self.info.$normal_member)
+                }
+            )*)?
+        }
+
+        impl fmt::Debug for $name<'_> {
+            fn fmt(&self, f: &mut fmt::Formatter<'_>) -> fmt::Result {
+                let mut shown = f.debug_struct(stringify!($name));
+                $(shown.field(stringify!($one), &self.$one());)*
+                $(shown.field(stringify!($many), &self.$many());)*
+                $(shown.field(stringify!($texture), &self.$texture());)*
+                $($(shown.field(stringify!($normal), &self.$normal());)*)?
+                shown.finish()
+            }
         }
     };
 }
 
+pub(crate) use part;
+
 part! {
     /// The colours and the metal of a material (glTF 2.0, section 5.22).
-    PbrMetallicRoughness
+    PbrMetallicRoughness: &'a sys::gltf_material,
     numbers {
         /// How much of it is metal.
         metallic_factor of metallic_factor;
@@ -206,7 +239,7 @@ part! {
 
 part! {
     /// `KHR_materials_pbrSpecularGlossiness`.
-    PbrSpecularGlossiness
+    PbrSpecularGlossiness: &'a sys::gltf_material,
     numbers {
         /// How glossy it is.
         glossiness_factor of glossiness_factor;
@@ -227,7 +260,7 @@ part! {
 
 part! {
     /// `KHR_materials_transmission`: light that goes through a surface.
-    Transmission
+    Transmission: &'a sys::gltf_material,
     numbers {
         /// How much of the light goes through.
         transmission_factor of transmission_factor;
@@ -241,7 +274,7 @@ part! {
 
 part! {
     /// `KHR_materials_volume`: what is inside of a surface.
-    Volume
+    Volume: &'a sys::gltf_material,
     numbers {
         /// How thick it is.
         thickness_factor of thickness_factor;
@@ -261,7 +294,7 @@ part! {
 
 part! {
     /// `KHR_materials_specular`: how much a surface that is no metal mirrors.
-    Specular
+    Specular: &'a sys::gltf_material,
     numbers {
         /// How much it mirrors.
         specular_factor of specular_factor;
@@ -288,6 +321,14 @@ macro_rules! factored {
         }
 
         impl<'a> $name<'a> {
+            /// The use of a texture, if there is a texture.
+            pub(crate) fn new(
+                document: &'a Document,
+                info: &sys::gltf_texture_use,
+            ) -> Option<Self> {
+                Info::new(document, info).map(|info| $name { info })
+            }
+
             $(#[$factor_about])*
             pub fn $factor(&self) -> f32 {
                 self.info.scale()

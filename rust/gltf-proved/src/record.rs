@@ -37,6 +37,12 @@ macro_rules! record {
             pub fn extension_value(&self, ext_name: &str) -> Option<String> {
                 self.document.file().json($crate::sys::$kind, self.index, 0, Some(ext_name))
             }
+
+            /// The packet of metadata that describes it (`KHR_xmp_json_ld`), by its position in the
+            /// list of packets ([`extension`](crate::extension)).
+            pub fn xmp_packet(&self) -> $crate::Result<Option<usize>> {
+                self.document.file().xmp_packet($crate::sys::$kind, self.index, 0)
+            }
         }
 
         impl std::fmt::Debug for $name<'_> {

@@ -1,6 +1,8 @@
 //! Textures and their samplers.
+use std::marker::PhantomData;
+
 use crate::file::or_none;
-use crate::{sys, Document, Image};
+use crate::{sys, Document, Image, Result};
 
 record! {
     /// A texture (glTF 2.0, section 5.29).
@@ -148,6 +150,13 @@ impl<'a> Sampler<'a> {
     pub fn extension_value(&self, ext_name: &str) -> Option<String> {
         self.document.file().json(sys::GLTF_SAMPLERS, self.index?, 0, Some(ext_name))
     }
+
+    /// The packet of metadata that describes it (`KHR_xmp_json_ld`), by its position in the list of
+    /// packets ([`extension`](crate::extension)).
+    pub fn xmp_packet(&self) -> Result<Option<usize>> {
+        let Some(index) = self.index else { return Ok(None) };
+        self.document.file().xmp_packet(sys::GLTF_SAMPLERS, index, 0)
+    }
 }
 
 impl std::fmt::Debug for Sampler<'_> {
@@ -160,19 +169,20 @@ impl std::fmt::Debug for Sampler<'_> {
 #[derive(Clone)]
 pub struct Info<'a> {
     document: &'a Document,
-    info: &'a sys::gltf_texture_use,
+    info: sys::gltf_texture_use,
 }
 
 /// How a use of a texture moves, turns and scales it (`KHR_texture_transform`).
 #[derive(Clone, Copy, Debug)]
 pub struct TextureTransform<'a> {
-    info: &'a sys::gltf_texture_use,
+    info: sys::gltf_texture_use,
+    of: PhantomData<&'a Document>,
 }
 
 impl<'a> Info<'a> {
     /// The use of a texture, if there is a texture.
-    pub(crate) fn new(document: &'a Document, info: &'a sys::gltf_texture_use) -> Option<Self> {
-        or_none(info.texture).map(|_| Info { document, info })
+    pub(crate) fn new(document: &'a Document, info: &sys::gltf_texture_use) -> Option<Self> {
+        or_none(info.texture).map(|_| Info { document, info: *info })
     }
 
     /// The set of texture coordinates: that of `KHR_texture_transform` where it has one.
@@ -187,7 +197,8 @@ impl<'a> Info<'a> {
 
     /// How it is moved, turned and scaled, if the file states it.
     pub fn texture_transform(&self) -> Option<TextureTransform<'a>> {
-        (self.info.has_transform != 0).then_some(TextureTransform { info: self.info })
+        let transform = TextureTransform { info: self.info, of: PhantomData };
+        (self.info.has_transform != 0).then_some(transform)
     }
 
     /// The scale of a normal texture, or the strength of an occlusion texture.

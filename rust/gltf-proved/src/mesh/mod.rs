@@ -4,7 +4,7 @@ use std::fmt;
 use crate::accessor::Accessor;
 use crate::file::{or_none, NO_TARGET};
 use crate::khr_materials_variants::Mapping;
-use crate::{iter, sys, Document, Material};
+use crate::{iter, sys, Document, Material, Result};
 
 mod attributes;
 mod reader;
@@ -183,6 +183,12 @@ impl<'a> Primitive<'a> {
     /// What the primitive has of an extension that this crate has no member for, as JSON text.
     pub fn extension_value(&self, ext_name: &str) -> Option<String> {
         self.document.file().json(sys::GLTF_PRIMITIVES, self.mesh, self.index, Some(ext_name))
+    }
+
+    /// The packet of metadata that describes it (`KHR_xmp_json_ld`), by its position in the list of
+    /// packets ([`extension`](crate::extension)).
+    pub fn xmp_packet(&self) -> Result<Option<usize>> {
+        self.document.file().xmp_packet(sys::GLTF_PRIMITIVES, self.mesh, self.index)
     }
 }
 

@@ -3,12 +3,13 @@
 use gltf_proved as gltf;
 use gltf_proved::animation::{Interpolation, Property};
 use gltf_proved::camera::Projection;
+use gltf_proved::extension::{MeshoptFilter, MeshoptMode};
 use gltf_proved::khr_lights_punctual::Kind;
-use gltf_proved::material::{AlphaMode, Material};
+use gltf_proved::material::{AlphaMode, Material, NormalTexture};
 use gltf_proved::mesh::Primitive;
 use gltf_proved::scene::Transform;
 use gltf_proved::texture::{Info, Sampler, TextureTransform};
-use gltf_proved::{Accessor, Document, Error, Node, Result, Status};
+use gltf_proved::{buffer, Accessor, Document, Error, Node, Result, Status, Texture};
 use std::fmt::Display;
 
 const EXTENSIONS: [&str; 2] = ["EXT_mark", "KHR_materials_clearcoat"];
@@ -48,11 +49,19 @@ fn put_json(about: &str, extras: Option<String>, extension: impl Fn(&str) -> Opt
     }
 }
 
-/// The lines of the name, the extras and the extensions of a record.
+fn put_packet(about: &str, packet: Result<Option<usize>>) {
+    match number_of(&packet) {
+        0 => put_if(about, "packet", packet.ok().flatten()),
+        status => put(about, "status of packet", status),
+    }
+}
+
+/// The lines of the name, the extras, the extensions and the packet of a record.
 macro_rules! begin {
     ($about:expr, $record:expr) => {
         put_if($about, "name", $record.name());
         put_json($about, $record.extras(), |name| $record.extension_value(name));
+        put_packet($about, $record.xmp_packet());
     };
 }
 
@@ -61,8 +70,44 @@ fn number_of<T>(result: &Result<T>) -> u32 {
         Ok(_) => 0,
         Err(Status::Unreadable) => 13,
         Err(Status::OtherType) => 16,
+        Err(Status::BadExtension) => 17,
         Err(other) => panic!("{other:?}"),
     }
+}
+
+/// The lines of an extension that a record has, or the status of why it is at fault.
+fn list_extension<T>(about: &str, found: Result<Option<T>>, list: impl FnOnce(&str, T)) {
+    match number_of(&found) {
+        0 => {
+            if let Ok(Some(it)) = found {
+                list(about, it);
+            }
+        }
+        status => put(about, "status", status),
+    }
+}
+
+fn list_meshopt(it: &buffer::View) {
+    list_extension(&format!("meshopt {}", it.index()), it.meshopt(), |about, it| {
+        let mode = match it.mode() {
+            MeshoptMode::Attributes => 0,
+            MeshoptMode::Triangles => 1,
+            MeshoptMode::Indices => 2,
+        };
+        let filter = match it.filter() {
+            None => 0,
+            Some(MeshoptFilter::Octahedral) => 1,
+            Some(MeshoptFilter::Quaternion) => 2,
+            Some(MeshoptFilter::Exponential) => 3,
+        };
+        put(about, "buffer", it.buffer().index());
+        put(about, "byte_offset", it.offset());
+        put(about, "byte_length", it.length());
+        put(about, "byte_stride", it.stride());
+        put(about, "count", it.count());
+        put(about, "mode", mode);
+        put(about, "filter", filter);
+    });
 }
 
 fn list_buffers(document: &Document) {
@@ -85,6 +130,7 @@ fn list_buffers(document: &Document) {
         put(about, "byte_length", it.length());
         put(about, "byte_stride", it.stride().unwrap_or(0));
         put(about, "target", it.target().map_or(0, |target| target.as_gl_enum()));
+        list_meshopt(&it);
     }
 }
 
@@ -141,6 +187,7 @@ fn list_primitive(document: &Document, about: &str, it: &Primitive) {
         put_or_none(about, "of material", mapping.material().index());
     }
     put_json(about, it.extras(), |name| it.extension_value(name));
+    put_packet(about, it.xmp_packet());
     for (semantic, accessor) in it.attributes() {
         put(about, &semantic.to_string(), accessor.index());
         assert_eq!(it.get(&semantic).map(|it| it.index()), Some(accessor.index()));
@@ -191,12 +238,27 @@ fn list_node(about: &str, it: &Node) {
     put_floats(about, "weights", weights.iter().copied());
 }
 
+fn list_instancing(it: &Node) {
+    list_extension(&format!("instancing {}", it.index()), it.instancing(), |about, it| {
+        let index = |accessor: Option<Accessor>| accessor.map(|it| it.index());
+        put_or_none(about, "translation", index(it.translation()));
+        put_or_none(about, "rotation", index(it.rotation()));
+        put_or_none(about, "scale", index(it.scale()));
+    });
+    let has = it.extension_value("KHR_node_visibility").is_some();
+    let visible = it.visible().map(|visible| has.then_some(visible));
+    list_extension(&format!("visibility {}", it.index()), visible, |about, visible| {
+        put(about, "visible", u32::from(visible));
+    });
+}
+
 fn list_nodes(document: &Document) {
     println!("{} nodes", document.nodes().len());
     for it in document.nodes() {
         let about = &format!("nodes {}", it.index());
         begin!(about, it);
         list_node(about, &it);
+        list_instancing(&it);
     }
 }
 
@@ -204,6 +266,13 @@ fn list_use(about: &str, name: &str, scale: f32, it: Option<Info>) {
     if let Some(it) = it {
         let texture = (it.texture().index(), it.tex_coord());
         list_parts(&format!("{about} {name}"), texture, it.texture_transform(), scale);
+    }
+}
+
+fn list_normal(about: &str, name: &str, it: Option<NormalTexture>) {
+    if let Some(it) = it {
+        let texture = (it.texture().index(), it.tex_coord());
+        list_parts(&format!("{about} {name}"), texture, it.texture_transform(), it.scale());
     }
 }
 
@@ -273,10 +342,7 @@ fn list_textures_of(about: &str, it: &Material) {
     let pbr = it.pbr_metallic_roughness();
     list_use(about, "base_color", 1.0, pbr.base_color_texture());
     list_use(about, "metallic_roughness", 1.0, pbr.metallic_roughness_texture());
-    if let Some(it) = it.normal_texture() {
-        let (about, texture) = (format!("{about} normal"), it.texture().index());
-        list_parts(&about, (texture, it.tex_coord()), it.texture_transform(), it.scale());
-    }
+    list_normal(about, "normal", it.normal_texture());
     if let Some(it) = it.occlusion_texture() {
         let (about, texture) = (format!("{about} occlusion"), it.texture().index());
         list_parts(&about, (texture, it.tex_coord()), it.texture_transform(), it.strength());
@@ -298,6 +364,52 @@ fn list_textures_of(about: &str, it: &Material) {
     }
 }
 
+fn list_layers(index: usize, it: &Material) {
+    list_extension(&format!("clearcoat {index}"), it.clearcoat(), |about, it| {
+        put_floats(about, "clearcoat_factor", [it.clearcoat_factor()]);
+        put_floats(about, "clearcoat_roughness_factor", [it.clearcoat_roughness_factor()]);
+        list_use(about, "clearcoat", 1.0, it.clearcoat_texture());
+        list_use(about, "clearcoat_roughness", 1.0, it.clearcoat_roughness_texture());
+        list_normal(about, "clearcoat_normal", it.clearcoat_normal_texture());
+    });
+    list_extension(&format!("sheen {index}"), it.sheen(), |about, it| {
+        put_floats(about, "sheen_color_factor", it.sheen_color_factor());
+        put_floats(about, "sheen_roughness_factor", [it.sheen_roughness_factor()]);
+        list_use(about, "sheen_color", 1.0, it.sheen_color_texture());
+        list_use(about, "sheen_roughness", 1.0, it.sheen_roughness_texture());
+    });
+    list_extension(&format!("iridescence {index}"), it.iridescence(), |about, it| {
+        let (least, most) =
+            (it.iridescence_thickness_minimum(), it.iridescence_thickness_maximum());
+        put_floats(about, "iridescence_factor", [it.iridescence_factor()]);
+        put_floats(about, "iridescence_ior", [it.iridescence_ior()]);
+        put_floats(about, "iridescence_thickness_minimum", [least]);
+        put_floats(about, "iridescence_thickness_maximum", [most]);
+        list_use(about, "iridescence", 1.0, it.iridescence_texture());
+        list_use(about, "iridescence_thickness", 1.0, it.iridescence_thickness_texture());
+    });
+}
+
+fn list_light_of(index: usize, it: &Material) {
+    list_extension(&format!("anisotropy {index}"), it.anisotropy(), |about, it| {
+        put_floats(about, "anisotropy_strength", [it.anisotropy_strength()]);
+        put_floats(about, "anisotropy_rotation", [it.anisotropy_rotation()]);
+        list_use(about, "anisotropy", 1.0, it.anisotropy_texture());
+    });
+    list_extension(&format!("dispersion {index}"), it.dispersion(), |about, it| {
+        put_floats(about, "dispersion", [it]);
+    });
+    let about = format!("diffuse_transmission {index}");
+    list_extension(&about, it.diffuse_transmission(), |about, it| {
+        let (color, texture) =
+            (it.diffuse_transmission_color_factor(), it.diffuse_transmission_color_texture());
+        put_floats(about, "diffuse_transmission_factor", [it.diffuse_transmission_factor()]);
+        put_floats(about, "diffuse_transmission_color_factor", color);
+        list_use(about, "diffuse_transmission", 1.0, it.diffuse_transmission_texture());
+        list_use(about, "diffuse_transmission_color", 1.0, texture);
+    });
+}
+
 fn list_materials(document: &Document) {
     println!("{} materials", document.materials().len());
     for (index, it) in document.materials().enumerate() {
@@ -306,6 +418,8 @@ fn list_materials(document: &Document) {
         begin!(about, it);
         list_factors(about, &it);
         list_textures_of(about, &it);
+        list_layers(index, &it);
+        list_light_of(index, &it);
     }
 }
 
@@ -369,6 +483,18 @@ fn list_sampler(about: &str, it: &Sampler) {
     put(about, "wrap_t", it.wrap_t().as_gl_enum());
 }
 
+fn list_sources(it: &Texture) {
+    let found =
+        [("basisu", "KHR_texture_basisu", it.basisu()), ("webp", "EXT_texture_webp", it.webp())];
+    for (kind, name, image) in found {
+        let has = it.extension_value(name).is_some();
+        let image = image.map(|image| has.then_some(image));
+        list_extension(&format!("{kind} {}", it.index()), image, |about, image| {
+            put_or_none(about, "image", image.map(|it| it.index()));
+        });
+    }
+}
+
 fn list_images(document: &Document) {
     println!("{} images", document.images().len());
     for it in document.images() {
@@ -392,6 +518,7 @@ fn list_images(document: &Document) {
         put_or_none(about, "image", it.source().map(|it| it.index()));
         put_or_none(about, "sampler", it.sampler().index());
         list_sampler(about, &it.sampler());
+        list_sources(&it);
     }
     println!("{} samplers", document.samplers().len());
     for (index, it) in document.samplers().enumerate() {
@@ -465,6 +592,7 @@ fn list_document(document: &Document) {
     let asset = document.asset();
     println!("1 asset");
     put_json("asset 0", asset.extras(), |name| asset.extension_value(name));
+    put_packet("asset 0", asset.xmp_packet());
     put("asset 0", "version", asset.version());
     put_if("asset 0", "minVersion", asset.min_version());
     put_if("asset 0", "generator", asset.generator());

@@ -63,7 +63,30 @@ pub fn read_all(document: &Document) -> usize {
         let (matrix, name) = (node.transform().matrix(), node.name().unwrap_or(""));
         sum += format!("{matrix:?}{name}{:?}", node.weights()).len() + node.children().len();
     }
-    sum + format!("{:?}{:?}", document.skins(), document.cameras()).len()
+    sum += format!("{:?}{:?}", document.skins(), document.cameras()).len();
+    sum + read_extensions(document)
+}
+
+/// Reads the extensions that are read when they are asked for. What is at fault is read too.
+fn read_extensions(document: &Document) -> usize {
+    let mut sum = format!("{:?}", document.asset().xmp_packet()).len();
+    for it in document.materials() {
+        sum += format!("{:?}{:?}{:?}", it.clearcoat(), it.sheen(), it.iridescence()).len();
+        sum += format!("{:?}{:?}", it.anisotropy(), it.diffuse_transmission()).len();
+        sum += format!("{:?}{:?}", it.dispersion(), it.xmp_packet()).len();
+    }
+    for it in document.textures() {
+        sum += format!("{:?}{:?}", it.basisu(), it.webp()).len();
+    }
+    for it in document.nodes() {
+        sum += format!("{:?}{:?}{:?}", it.visible(), it.instancing(), it.xmp_packet()).len();
+    }
+    for it in document.views() {
+        let meshopt = it.meshopt();
+        sum += format!("{meshopt:?}").len();
+        sum += meshopt.ok().flatten().and_then(|it| it.bytes()).map_or(0, |it| it.len());
+    }
+    sum
 }
 
 fn read_mesh(mesh: &gltf_proved::Mesh) -> usize {
