@@ -2,6 +2,7 @@
 ghost use Rattle.std.specs.Prelude.{◌≡◌, OnOk, codes};
 ghost use Rattle.std.specs.Option.{option_copied};
 ghost use Rattle.gltf_validation.specs.Locations.{places_of};
+ghost use Rattle.gltf_inspect_meshes.specs.Names.{has_name};
 ghost use Rattle.gltf_findings.specs.Checks.{told_after, member, optional_checks, list_checks};
 ghost use Rattle.gltf_inspect_extensions.specs.Extended.{entries_checks, known_checks};
 ghost use Rattle.gltf_inspect_extensions.specs.Extended.{extensions_checks};
@@ -30,7 +31,8 @@ pub(crate) trait Extended {
         findings: &mut Findings,
     ) -> Result<(), AllocError>
         ensures { OnOk result (findings.new
-            ≡ told_after findings.old (places_of location.now) (checks used.now self.now)) };
+            ≡ told_after findings.old (places_of location.now)
+            (checks (has_name used.now) self.now)) };
 }
 
 /// The same of the members of `extensions` of which no record is made.
@@ -41,7 +43,7 @@ pub(crate) fn tell_others(
     findings: &mut Findings,
 ) -> Result<(), AllocError>
     ensures { OnOk result (findings.new ≡ told_after findings.old (places_of location.now)
-        (entries_checks used.now others.now.entries)) }
+        (entries_checks (has_name used.now) others.now.entries)) }
 {
     for (name, _value) in others {
         let at = Location::UnknownAttribute(&*location, name.as_str());
@@ -60,7 +62,7 @@ pub(crate) fn tell_known<T>(
     findings: &mut Findings,
 ) -> Result<(), AllocError>
     ensures { OnOk result (findings.new ≡ told_after findings.old (places_of location.now)
-        (known_checks used.now name.now extension.now)) }
+        (known_checks (has_name used.now) name.now extension.now)) }
 {
     if extension.is_none() {
         return Ok(());
@@ -78,7 +80,8 @@ pub(crate) fn tell_optional<T: Extended>(
     findings: &mut Findings,
 ) -> Result<(), AllocError>
     ensures { OnOk result (findings.new ≡ told_after findings.old (places_of location.now)
-        (member name.now (optional_checks (T.checks used.now) (option_copied value.entry)))) }
+        (member name.now (optional_checks (T.checks (has_name used.now))
+        (option_copied value.entry)))) }
 {
     match value {
         Some(value) => value.tell(used, &Location::Member(location, name), findings),
@@ -94,7 +97,7 @@ pub(crate) fn tell_extensions<T: Extended>(
     findings: &mut Findings,
 ) -> Result<(), AllocError>
     ensures { OnOk result (findings.new ≡ told_after findings.old (places_of location.now)
-        (extensions_checks (T.checks used.now) (option_copied extensions.entry))) }
+        (extensions_checks (T.checks (has_name used.now)) (option_copied extensions.entry))) }
 {
     tell_optional(extensions, "extensions", used, location, findings)
 }
@@ -106,7 +109,7 @@ fn tell_each<T: Extended>(
     findings: &mut Findings,
 ) -> Result<(), AllocError>
     ensures { OnOk result (findings.new ≡ told_after findings.old (places_of location.now)
-        (list_checks (T.checks used.now) values.now)) }
+        (list_checks (T.checks (has_name used.now)) values.now)) }
 {
     for (i, value) in values.iter().enumerate() {
         value.tell(used, &Location::Item(&*location, i), findings)?;
@@ -123,7 +126,7 @@ pub(crate) fn tell_list<T: Extended>(
     findings: &mut Findings,
 ) -> Result<(), AllocError>
     ensures { OnOk result (findings.new ≡ told_after findings.old (places_of location.now)
-        (member name.now (list_checks (T.checks used.now) values.now))) }
+        (member name.now (list_checks (T.checks (has_name used.now)) values.now))) }
 {
     tell_each(values, used, &Location::Member(location, name), findings)
 }

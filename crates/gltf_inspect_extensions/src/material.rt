@@ -1,6 +1,7 @@
 //! Materials, and the textures that they use.
 ghost use Rattle.std.specs.Prelude.{◌≡◌, OnOk};
 ghost use Rattle.gltf_validation.specs.Locations.{places_of};
+ghost use Rattle.gltf_inspect_meshes.specs.Names.{has_name};
 ghost use Rattle.gltf_findings.specs.Checks.{told_after};
 ghost use Rattle.gltf_inspect_extensions.specs.Materials.{info_checks, info_extensions_checks};
 ghost use Rattle.gltf_inspect_extensions.specs.Materials.{normal_checks, occlusion_checks};
@@ -194,7 +195,7 @@ fn tell_names(
     findings: &mut Findings,
 ) -> Result<(), AllocError>
     ensures { OnOk result (findings.new ≡ told_after findings.old (places_of location.now)
-        (surface_names_checks used.now surface.now)) }
+        (surface_names_checks (has_name used.now) surface.now)) }
 {
     let it = &surface.pbr_specular_glossiness;
     tell_known(
@@ -232,7 +233,7 @@ fn tell_first_textures(
     findings: &mut Findings,
 ) -> Result<(), AllocError>
     ensures { OnOk result (findings.new ≡ told_after findings.old (places_of location.now)
-        (first_textures_checks used.now surface.now)) }
+        (first_textures_checks (has_name used.now) surface.now)) }
 {
     let it = surface.pbr_specular_glossiness.as_ref();
     tell_optional(
@@ -253,7 +254,7 @@ fn tell_later_textures(
     findings: &mut Findings,
 ) -> Result<(), AllocError>
     ensures { OnOk result (findings.new ≡ told_after findings.old (places_of location.now)
-        (later_textures_checks used.now surface.now)) }
+        (later_textures_checks (has_name used.now) surface.now)) }
 {
     let it = surface.volume.as_ref();
     tell_optional(it, "KHR_materials_volume", used, location, findings)?;
@@ -284,7 +285,7 @@ fn tell_textures(
     findings: &mut Findings,
 ) -> Result<(), AllocError>
     ensures { OnOk result (findings.new ≡ told_after findings.old (places_of location.now)
-        (textures_checks used.now material.now)) }
+        (textures_checks (has_name used.now) material.now)) }
 {
     let emissive = material.emissive_texture.as_ref();
     tell_optional(emissive, "emissiveTexture", used, location, findings)?;

@@ -1,6 +1,7 @@
 //! The extensions that are used in a whole document.
 ghost use Rattle.std.specs.Prelude.{◌≡◌, OnOk};
 ghost use Rattle.gltf_validation.specs.Locations.{places_of};
+ghost use Rattle.gltf_inspect_meshes.specs.Names.{has_name};
 ghost use Rattle.gltf_findings.specs.Checks.{told_after};
 ghost use Rattle.gltf_inspect_extensions.specs.Documents.{root_extensions_checks};
 ghost use Rattle.gltf_inspect_extensions.specs.Documents.{first_lists_checks, later_lists_checks};
@@ -62,7 +63,7 @@ fn tell_first_lists(
     findings: &mut Findings,
 ) -> Result<(), AllocError>
     ensures { OnOk result (findings.new ≡ told_after findings.old (places_of location.now)
-        (first_lists_checks used.now root.now)) }
+        (first_lists_checks (has_name used.now) root.now)) }
 {
     tell_geometry_lists(root, used, location, findings)?;
     tell_scene_lists(root, used, location, findings)?;
@@ -76,7 +77,7 @@ fn tell_later_lists(
     findings: &mut Findings,
 ) -> Result<(), AllocError>
     ensures { OnOk result (findings.new ≡ told_after findings.old (places_of location.now)
-        (later_lists_checks used.now root.now)) }
+        (later_lists_checks (has_name used.now) root.now)) }
 {
     tell_other_lists(root, used, location, findings)?;
     tell_shape_lists(root, used, location, findings)
@@ -89,7 +90,7 @@ fn tell_geometry_lists(
     findings: &mut Findings,
 ) -> Result<(), AllocError>
     ensures { OnOk result (findings.new ≡ told_after findings.old (places_of location.now)
-        (geometry_lists_checks used.now root.now)) }
+        (geometry_lists_checks (has_name used.now) root.now)) }
 {
     let accessors = root.accessors.as_slice();
     tell_list(accessors, "accessors", used, location, findings)?;
@@ -106,7 +107,7 @@ fn tell_scene_lists(
     findings: &mut Findings,
 ) -> Result<(), AllocError>
     ensures { OnOk result (findings.new ≡ told_after findings.old (places_of location.now)
-        (scene_lists_checks used.now root.now)) }
+        (scene_lists_checks (has_name used.now) root.now)) }
 {
     let nodes = root.nodes.as_slice();
     tell_list(nodes, "nodes", used, location, findings)?;
@@ -123,7 +124,7 @@ fn tell_picture_lists(
     findings: &mut Findings,
 ) -> Result<(), AllocError>
     ensures { OnOk result (findings.new ≡ told_after findings.old (places_of location.now)
-        (picture_lists_checks used.now root.now)) }
+        (picture_lists_checks (has_name used.now) root.now)) }
 {
     let images = root.images.as_slice();
     tell_list(images, "images", used, location, findings)?;
@@ -140,7 +141,7 @@ fn tell_other_lists(
     findings: &mut Findings,
 ) -> Result<(), AllocError>
     ensures { OnOk result (findings.new ≡ told_after findings.old (places_of location.now)
-        (other_lists_checks used.now root.now)) }
+        (other_lists_checks (has_name used.now) root.now)) }
 {
     let animations = root.animations.as_slice();
     tell_list(animations, "animations", used, location, findings)?;
@@ -155,7 +156,7 @@ fn tell_shape_lists(
     findings: &mut Findings,
 ) -> Result<(), AllocError>
     ensures { OnOk result (findings.new ≡ told_after findings.old (places_of location.now)
-        (shape_lists_checks used.now root.now)) }
+        (shape_lists_checks (has_name used.now) root.now)) }
 {
     let materials = root.materials.as_slice();
     tell_list(materials, "materials", used, location, findings)?;

@@ -15,7 +15,8 @@ or_none false = refl
 -- one name more
 pub among_more : (names : List (String Global)) (i : ℕ) (name : String Global) (q : List ℕ)
     → i < length names → name ≡ get_or names i name
-    → is_among (take (i + 1) names) q ≡ (is_among (take i names) q || bytes_eq q (string_bytes name))
+    → is_among (take (i + 1) names) q ≡ (is_among (take i names) q || bytes_eq q
+    (string_bytes name))
 among_more [] i name q within is = absurd (omega (arith, within))
 among_more (x ∷ xs) zero name q within is =
     or_none (bytes_eq q (string_bytes x)) ∙ ap (λ n. bytes_eq q (string_bytes n)) (sym is)

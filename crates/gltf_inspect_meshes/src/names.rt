@@ -1,10 +1,9 @@
 //! Names of extensions in a list.
 ghost use Rattle.std.specs.Prelude.{◌≡◌, IfOk};
-ghost use Rattle.gltf_inspect_meshes.specs.Names.{is_among};
+ghost use Rattle.gltf_inspect_meshes.specs.Names.{is_among, has_name};
 
 use std::alloc::{AllocError, Global};
 use std::collections::BTreeSet;
-use std::marker::Model;
 
 /// Whether a name is one of these. Where many names are looked up, a [`NameSet`] is faster.
 pub fn is_among(name: &str, names: &[String]) -> bool
@@ -18,25 +17,16 @@ pub fn is_among(name: &str, names: &[String]) -> bool
     false
 }
 
-/// The names of a list, to be looked up. Contracts see whether a name is one of them.
+/// The names of a list, to be looked up.
 #[derive(Debug, Drop)]
 pub struct NameSet {
     names: BTreeSet<String>,
 }
 
-impl Model for NameSet {
-    ghost use Rattle.std.specs.Prelude.{ℕ, List, Bool};
-    ghost use Rattle.std.specs.BTreeSet.{contains_text};
-
-    ghost Value = { List ℕ → Bool };
-
-    ghost view = { λ set. contains_text set.names };
-}
-
 impl NameSet {
     /// The set of these names. Fails where there is no memory.
     pub fn of(alloc: Global, names: &[String]) -> Result<NameSet, AllocError>
-        ensures { IfOk result (λ set. set ≡ is_among names.now) }
+        ensures { IfOk result (λ set. has_name set ≡ is_among names.now) }
     {
         let mut set = BTreeSet::new(alloc);
         for name in names {
@@ -47,7 +37,7 @@ impl NameSet {
 
     /// Whether a name is one of them.
     pub fn has(&self, name: &str) -> bool
-        ensures { result ≡ self.now name.now }
+        ensures { result ≡ has_name self.now name.now }
     {
         self.names.contains(name)
     }

@@ -1,6 +1,7 @@
 use Rattle.std.proofs.Common.{◌≡◌, drop}
 use Rattle.gltf_validation.specs.Locations.{places_of}
 use Rattle.gltf_findings.specs.Checks.{told_after, elements_checks}
+use Rattle.gltf_inspect_meshes.specs.Names.{has_name}
 use Rattle.gltf_inspect.specs.Extensions.{required_name_checks}
 use Rattle.gltf_inspect.proofs.extensions.tell_required.Given as goal
 
@@ -8,6 +9,6 @@ use Rattle.gltf_inspect.proofs.extensions.tell_required.Given as goal
 abbrev pub invariant-loop-i : goal.invariant-loop-i
 invariant-loop-i l =
     told_after l.findings (places_of l.location)
-    (elements_checks (required_name_checks l.declared) l.i (drop l.i l.required))
+    (elements_checks (required_name_checks (has_name l.declared)) l.i (drop l.i l.required))
     ≡ told_after l.initial.findings (places_of l.location)
-    (elements_checks (required_name_checks l.declared) 0 l.required)
+    (elements_checks (required_name_checks (has_name l.declared)) 0 l.required)
