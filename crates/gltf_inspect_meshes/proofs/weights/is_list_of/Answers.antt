@@ -1,4 +1,4 @@
-use Rattle.std.proofs.Common.{◌≡◌, ◌∙◌, refl, sym}
+use Rattle.std.proofs.Common.{◌∙◌, refl, sym}
 use Rattle.serde_json.specs.View.{view}
 use Rattle.gltf_inspect_meshes.proofs.Lengths.{of_list}
 use Rattle.gltf_inspect_meshes.proofs.weights.is_list_of.Goals as goal
