@@ -47,6 +47,16 @@ class Begins:
         return text.startswith(self.text)
 
 
+class Holds:
+    """A text that holds this one."""
+
+    def __init__(self, text):
+        self.text = text
+
+    def __eq__(self, text):
+        return self.text in text
+
+
 def chunk(kind, data):
     return struct.pack("<I4s", len(data), kind) + data
 
@@ -118,6 +128,83 @@ def drawn(vertices, *indices, mode=4):
     )
 
 
+def primitive(**members):
+    return document(meshes=[{"primitives": [{"attributes": {}, **members}]}])
+
+
+def variants(**members):
+    return {"extensions": {"KHR_materials_variants": members}}
+
+
+ELEMENT, MEMBER = "ARRAY_TYPE_MISMATCH", "TYPE_MISMATCH"
+A_SIZE = "wanted a whole number from 0 to 18446744073709551615"
+AN_INDEX = "wanted a whole number from 0 to 4294967295"
+PRIMITIVE = "/meshes/0/primitives/0"
+VARIANTS = "extensions/KHR_materials_variants"
+# Files with a value of the wrong kind: the code and its pointer, the loader's name of the place,
+# and what was found and wanted.
+KINDS = {
+    "array.gltf": (b"[]", MEMBER, "", "", "a list, wanted an object"),
+    "list.gltf": (document(nodes={}), MEMBER, "/nodes", "nodes", "an object, wanted a list"),
+    "null.gltf": (document(nodes=[None]), ELEMENT, "/nodes/0", "nodes[0]",
+                  "null, wanted an object"),
+    "second.gltf": (document(materials=[{}, None]), ELEMENT, "/materials/1", "materials[1]",
+                    "null, wanted an object"),
+    "half.gltf": (document(accessors=[accessor(5121, 1.5)]), MEMBER, "/accessors/0/count",
+                  "accessors[0].count", f"1.5, {A_SIZE}"),
+    "below.gltf": (document(accessors=[accessor(5121, -1)]), MEMBER, "/accessors/0/count",
+                   "accessors[0].count", f"-1, {A_SIZE}"),
+    "quoted.gltf": (document(accessors=[accessor(5121, "3")]), MEMBER, "/accessors/0/count",
+                    "accessors[0].count", f"a string, {A_SIZE}"),
+    "sparse.gltf": (document(accessors=[accessor(5121, 1, sparse={"count": 1, "indices": 0})]),
+                    MEMBER, "/accessors/0/sparse/indices", "accessors[0].sparse.indices",
+                    "0, wanted an object"),
+    "attribute.gltf": (primitive(attributes={"POSITION": "x"}), MEMBER,
+                       f"{PRIMITIVE}/attributes/POSITION",
+                       'meshes[0].primitives[0].attributes["POSITION"]', f"a string, {AN_INDEX}"),
+    "slash.gltf": (primitive(attributes={"_A/B~": "x"}), MEMBER,
+                   f"{PRIMITIVE}/attributes/_A~1B~0",
+                   'meshes[0].primitives[0].attributes["_A/B~"]', f"a string, {AN_INDEX}"),
+    "drawn.gltf": (primitive(indices={}), MEMBER, f"{PRIMITIVE}/indices",
+                   "meshes[0].primitives[0].indices", f"an object, {AN_INDEX}"),
+    "version.gltf": (b'{"asset":{"version":2}}', MEMBER, "/asset/version", "asset.version",
+                     "2, wanted a string"),
+    "flag.gltf": (document(materials=[{"doubleSided": 1}]), MEMBER, "/materials/0/doubleSided",
+                  "materials[0].doubleSided", "1, wanted true or false"),
+    "texture.gltf": (document(materials=[{"normalTexture": 0}]), MEMBER,
+                     "/materials/0/normalTexture", "materials[0].normalTexture",
+                     "0, wanted an object"),
+    "great.gltf": (document(textures=[{"source": 2 ** 32}]), MEMBER, "/textures/0/source",
+                   "textures[0].source", f"4294967296, {AN_INDEX}"),
+    "uri.gltf": (document(images=[{"uri": []}]), MEMBER, "/images/0/uri", "images[0].uri",
+                 "a list, wanted a string"),
+    "used.gltf": (document(extensionsUsed=[5]), ELEMENT, "/extensionsUsed/0", "extensionsUsed[0]",
+                  "5, wanted a string"),
+    "scene.gltf": (document(scenes=[{"nodes": [{}]}]), ELEMENT, "/scenes/0/nodes/0",
+                   "scenes[0].nodes[0]", f"an object, {AN_INDEX}"),
+    "kind.gltf": (document(nodes=[{"children": [True]}]), ELEMENT, "/nodes/0/children/0",
+                  "nodes[0].children[0]", f"true or false, {AN_INDEX}"),
+    "target.gltf": (document(bufferViews=[view(0, 4) | {"target": {}}]), MEMBER,
+                    "/bufferViews/0/target", "bufferViews[0].target", f"an object, {A_SIZE}"),
+    "channel.gltf": (document(animations=[{"channels": [{"sampler": 0, "target": 5}]}]), MEMBER,
+                     "/animations/0/channels/0/target", "animations[0].channels[0].target",
+                     "5, wanted an object"),
+    "unlit.gltf": (document(materials=[{"extensions": {"KHR_materials_unlit": False}}]), MEMBER,
+                   "/materials/0/extensions/KHR_materials_unlit",
+                   "materials[0].extensions.KHR_materials_unlit",
+                   "true or false, wanted an object"),
+    "variant.gltf": (document(**variants(variants=["a"])), ELEMENT, f"/{VARIANTS}/variants/0",
+                     "extensions.KHR_materials_variants.variants[0]", "a string, wanted an object"),
+    "mapping.gltf": (primitive(**variants(mappings=[{"material": 0, "variants": ["a"]}])), ELEMENT,
+                     f"{PRIMITIVE}/{VARIANTS}/mappings/0/variants/0",
+                     "meshes[0].primitives[0].extensions.KHR_materials_variants.mappings[0]"
+                     ".variants[0]", f"a string, {AN_INDEX}"),
+    "kind.glb": (container(chunk(b"JSON", b'{"scene":"0","asset":{"version":"2.0"}} '),
+                           chunk(b"BIN\0", b"1234")), MEMBER, "/scene", "scene",
+                 f"a string, {AN_INDEX}"),
+}
+
+
 def shown(room):
     """The files that `gltf_show` is called on."""
     numbers, indices = accessor(5123, 2), {"meshes": meshes(0)}
@@ -167,8 +254,8 @@ def shown(room):
         ),
         "blobless.gltf": document(buffers=[{"byteLength": 4}]),
         "payload.gltf": document(buffers=buffers((4, "data:;base64,****"))),
-        "kind.gltf": document(nodes=[{"children": [True]}]),
-        "list.gltf": document(nodes={}),
+        # A text of more than 16 MiB is not kept.
+        "long.gltf": b"[]" + b" " * 2 ** 24,
         "text.gltf": b'{"asset":',
         "tiny.glb": b"glTF\2\0\0\0\14\0\0",
         "short.glb": b"glTF\2\0\0\0\13\0\0\0",
@@ -186,6 +273,7 @@ def shown(room):
         "extended.gltf": document(**USED),
         "named.gltf": document(materials=[{"name": "a\tb</script>"}]),
     }
+    files |= {name: contents for name, (contents, *_) in KINDS.items()}
     for name in ("missing", "folder", "locked", LONG):
         files[f"names {name[:9]}.gltf"] = document(buffers=buffers((1, name)))
     return files
@@ -376,9 +464,9 @@ def drawn_tables(mode):
     )
 
 
-def single(name, code, pointer, refused):
+def single(name, code, pointer, refused, *numbers):
     """A file that holds no document, for one reason."""
-    return (["inspect", name], 1, told(name, (code, pointer), refused=refused), "")
+    return (["inspect", name], 1, told(name, (code, pointer, *numbers), refused=refused), "")
 
 
 def of_indices(name, *found, infos=0, mode="TRIANGLES"):
@@ -428,9 +516,17 @@ SHOWS += [
     single("second.glb", "GLB_DUPLICATE_CHUNK", "", "was not expecting JSON chunk"),
     single("big.glb", "GLB_CHUNK_TOO_BIG", "", r"BIN\0 chunk length exceeds that of slice"),
     single("text.gltf", "INVALID_JSON", "", "EOF while parsing at line 1 column 9"),
-    single("list.gltf", "TYPE_MISMATCH", "/nodes", "nodes: wrong kind"),
-    single("kind.gltf", "ARRAY_TYPE_MISMATCH", "/nodes/0/children/0",
-           "nodes[0].children[0]: wrong kind"),
+    *(single(name, code, pointer, f"{place}: wrong kind", kinds)
+      for name, (_, code, pointer, place, kinds) in KINDS.items()),
+    single("long.gltf", MEMBER, "", ": wrong kind"),
+    (["inspect", "--no-files", "list.gltf"], 1,
+     told("list.gltf", (MEMBER, "/nodes", "an object, wanted a list"), refused="nodes: wrong kind"),
+     ""),
+    (["inspect", "--json", "half.gltf", "kind.glb"], 1,
+     told_json("half.gltf", (MEMBER, "/accessors/0/count", f"1.5, {A_SIZE}"))
+     + told_json("kind.glb", (MEMBER, "/scene", f"a string, {AN_INDEX}")), ""),
+    (["inspect", "--html", "null.gltf"], 1,
+     Holds(f"<td>/nodes/0<td>{says(ELEMENT, 'null, wanted an object')}"), ""),
     (["inspect", "short.gltf"], 1,
      told("short.gltf", ("BUFFER_BYTE_LENGTH_MISMATCH", "/buffers/0"), *unused("/buffers/0"),
           infos=1), ""),

@@ -7,43 +7,48 @@ use serde_json::{Value, json, put};
 use std::alloc::{AllocError, Global};
 
 /// The report as JSON, in the layout of the Khronos validator, and under `info` what the document
-/// holds, where there is one. On one line, or on several where it is to be pretty.
+/// holds, where there is one. On one line, or on several where it is to be pretty. `value` is the
+/// JSON value of the file, where the messages are to say which kinds it has.
 pub fn json_text(
     alloc: Global,
     name: &str,
     report: &Report,
     root: Option<&Root>,
+    value: Option<&Value>,
     is_pretty: bool,
 ) -> Result<String, AllocError> {
-    let mut value = report.to_json(alloc, name)?;
+    let mut made = report.to_json(alloc, name)?;
+    if root.is_some() || value.is_some() {
+        say_more(alloc, root, value, report, &mut made)?;
+    }
     if let Some(root) = root {
-        say_numbers(alloc, root, report, &mut value)?;
         let info = info(alloc, root)?;
-        if let Some(members) = value.as_object_mut() {
+        if let Some(members) = made.as_object_mut() {
             let _before = members.insert(String::from_str(alloc, "info")?, info)?;
         }
     }
     let text = if is_pretty {
-        value.to_string_pretty(alloc)?
+        made.to_string_pretty(alloc)?
     } else {
-        value.to_string(alloc)?
+        made.to_string(alloc)?
     };
     Ok(text)
 }
 
-/// Puts the numbers into the messages.
-fn say_numbers(
+/// Puts the numbers and kinds into the messages.
+fn say_more(
     alloc: Global,
-    root: &Root,
+    root: Option<&Root>,
+    value: Option<&Value>,
     report: &Report,
-    value: &mut Value,
+    made: &mut Value,
 ) -> Result<(), AllocError> {
-    let Some(Value::Array(messages)) = value.pointer_mut("/issues/messages") else {
+    let Some(Value::Array(messages)) = made.pointer_mut("/issues/messages") else {
         return Ok(());
     };
     for (k, finding) in report.findings().iter().enumerate() {
         let (place, code) = finding;
-        let says = message(alloc, Some(root), place, *code)?;
+        let says = message(alloc, root, value, place, *code)?;
         if let Some(Value::Object(members)) = messages.get_mut(k) {
             let name = String::from_str(alloc, "message")?;
             let _before = members.insert(name, Value::String(says))?;

@@ -1,5 +1,6 @@
-//! What a finding says: the sentence of its code, and where it is about a number, what was found
-//! and what was wanted.
+//! What a finding says: the sentence of its code, and where it is about a number or a kind, what
+//! was found and what was wanted.
+use crate::kinds;
 use gltf_findings::code::Code;
 use gltf_inspect_meshes::item::{component_size, item_size, last_size, or_zero};
 use gltf_inspect_meshes::target::target_count;
@@ -39,14 +40,22 @@ fn compared(found: u64, wanted: Wanted) -> Option<Numbers> {
 }
 
 /// The text of a finding at a place, with its numbers where there is a document and it is about
-/// numbers of records. Fails where there is no memory.
+/// numbers of records, and with its kinds where there is the JSON value of the file and it is about
+/// the kind of a part. Fails where there is no memory.
 pub(crate) fn message(
     alloc: Global,
     root: Option<&Root>,
+    value: Option<&Value>,
     place: &Path,
     code: Code,
 ) -> Result<String, AllocError> {
     let sentence = code.sentence();
+    if let Some(value) = value {
+        if let Some(found) = kind_found(alloc, value, place, code)? {
+            let wanted = kinds::wanted(place.steps());
+            return format!(in alloc; "{sentence} Found {found}, wanted {wanted}.");
+        }
+    }
     let found = match root {
         Some(root) => numbers_at(alloc, root, place.steps(), code)?,
         None => None,
@@ -65,6 +74,18 @@ pub(crate) fn message(
             format!(in alloc; "{sentence} Found {found}, wanted a multiple of {n}.")
         }
         Wanted::Exactly(n) => format!(in alloc; "{sentence} Found {found}, wanted {n}."),
+    }
+}
+
+fn kind_found(
+    alloc: Global,
+    value: &Value,
+    place: &Path,
+    code: Code,
+) -> Result<Option<String>, AllocError> {
+    match code {
+        Code::TypeMismatch | Code::ArrayTypeMismatch => kinds::found(alloc, value, place),
+        _ => Ok(None),
     }
 }
 

@@ -10,21 +10,24 @@ use gltf_findings::code::Severity;
 use gltf_findings::report::Report;
 use gltf_html::escape::{add_data, add_text};
 use gltf_json::root::Root;
+use serde_json::Value;
 use std::alloc::{AllocError, Global};
 
 /// The page: the number of findings of each severity, a table of all findings, errors first, the
 /// tables of what the document holds, and a picture of its scene, which turns with the mouse. A
 /// file that is refused has the first two alone, and why it holds no document, where it holds none.
-/// Fails where there is no memory.
+/// `value` is the JSON value of the file, where the messages are to say which kinds it has. Fails
+/// where there is no memory.
 pub fn page(
     alloc: Global,
     name: &str,
     report: &Report,
     cause: Option<&Error>,
     imported: Option<(&Document, &[Data])>,
+    value: Option<&Value>,
 ) -> Result<Vec<u8>, AllocError> {
     let mut html = Vec::new(alloc);
-    add_page(alloc, name, report, cause, imported, &mut html)?;
+    add_page(alloc, name, report, cause, imported, value, &mut html)?;
     Ok(html)
 }
 
@@ -34,6 +37,7 @@ fn add_page(
     report: &Report,
     cause: Option<&Error>,
     imported: Option<(&Document, &[Data])>,
+    value: Option<&Value>,
     html: &mut Vec<u8>,
 ) -> Result<(), AllocError> {
     add(html, HEAD)?;
@@ -42,7 +46,7 @@ fn add_page(
         Some((document, _buffers)) => Some(document.as_json()),
         None => None,
     };
-    add_findings(alloc, report, root, html)?;
+    add_findings(alloc, report, root, value, html)?;
     if let Some(cause) = cause {
         add_cause(alloc, cause, html)?;
     }
@@ -113,6 +117,7 @@ fn add_findings(
     alloc: Global,
     report: &Report,
     root: Option<&Root>,
+    value: Option<&Value>,
     html: &mut Vec<u8>,
 ) -> Result<(), AllocError> {
     add(html, "<h2>FINDINGS</h2>\n")?;
@@ -120,10 +125,10 @@ fn add_findings(
         return add(html, "<p>none</p>\n");
     }
     add(html, "<table><tr><th>severity<th>code<th>place<th>says")?;
-    add_rows(alloc, report, root, Severity::Error, html)?;
-    add_rows(alloc, report, root, Severity::Warning, html)?;
-    add_rows(alloc, report, root, Severity::Information, html)?;
-    add_rows(alloc, report, root, Severity::Hint, html)?;
+    add_rows(alloc, report, root, value, Severity::Error, html)?;
+    add_rows(alloc, report, root, value, Severity::Warning, html)?;
+    add_rows(alloc, report, root, value, Severity::Information, html)?;
+    add_rows(alloc, report, root, value, Severity::Hint, html)?;
     add(html, "\n</table>\n")
 }
 
@@ -131,6 +136,7 @@ fn add_rows(
     alloc: Global,
     report: &Report,
     root: Option<&Root>,
+    value: Option<&Value>,
     severity: Severity,
     html: &mut Vec<u8>,
 ) -> Result<(), AllocError> {
@@ -146,7 +152,7 @@ fn add_rows(
             add(html, "<td>")?;
             add_text(html, shown_pointer(alloc, place)?.as_str().as_bytes())?;
             add(html, "<td>")?;
-            let says = message(alloc, root, place, *code)?;
+            let says = message(alloc, root, value, place, *code)?;
             add_text(html, says.as_str().as_bytes())?;
         }
     }

@@ -6,26 +6,29 @@ use gltf_findings::code::Severity;
 use gltf_findings::report::Report;
 use gltf_json::root::Root;
 use gltf_json_record::path::Path;
+use serde_json::Value;
 use std::alloc::{AllocError, Global};
 use std::io::{self, Write};
 
 /// Writes a report as text: a line with the name of the file; the number of findings of each
 /// severity; a line for each error, then for each warning and each info (hints are counted alone);
 /// why the file holds no document, in the loader's words, where it holds none; and the tables of
-/// what the document holds, where it is loaded.
+/// what the document holds, where it is loaded. `value` is the JSON value of the file, where the
+/// messages are to say which kinds it has.
 pub fn write_text<O: Write>(
     alloc: Global,
     name: &str,
     report: &Report,
     cause: Option<&Error>,
     root: Option<&Root>,
+    value: Option<&Value>,
     out: &mut O,
 ) -> io::Result<()> {
     writeln!(out, "{name}")?;
     write_counts(report, out)?;
-    write_findings(alloc, report, root, Severity::Error, out)?;
-    write_findings(alloc, report, root, Severity::Warning, out)?;
-    write_findings(alloc, report, root, Severity::Information, out)?;
+    write_findings(alloc, report, root, value, Severity::Error, out)?;
+    write_findings(alloc, report, root, value, Severity::Warning, out)?;
+    write_findings(alloc, report, root, value, Severity::Information, out)?;
     if let Some(cause) = cause {
         writeln!(out, "refused: {cause}")?;
     }
@@ -53,6 +56,7 @@ fn write_findings<O: Write>(
     alloc: Global,
     report: &Report,
     root: Option<&Root>,
+    value: Option<&Value>,
     severity: Severity,
     out: &mut O,
 ) -> io::Result<()> {
@@ -62,7 +66,7 @@ fn write_findings<O: Write>(
             let grave = severity.name();
             let name = code.name();
             let pointer = shown_pointer(alloc, place)?;
-            let says = message(alloc, root, place, *code)?;
+            let says = message(alloc, root, value, place, *code)?;
             writeln!(out, "{grave} {name} {pointer} {says}")?;
         }
     }

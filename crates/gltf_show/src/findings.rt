@@ -1,11 +1,12 @@
 //! What is found in files.
-use gltf::{Error, Folder, Name, NamedBytes, NamedFault};
+use crate::looked::{Looked, look_at, look_at_alone};
+use gltf::{Error, Folder};
 use gltf_findings::report::Report;
-use gltf_inspect_files::inspect::{Inspected, inspect_from, inspect_slice};
 use gltf_json::root::Root;
 use gltf_report::json::json_text;
 use gltf_report::page::page;
 use gltf_report::text::write_text;
+use serde_json::Value;
 use std::alloc::{AllocError, Global};
 use std::io::Write;
 use std::rt::HostRuntime;
@@ -131,7 +132,7 @@ fn inspect_file<O: Write, E: Write>(
     err: &mut E,
 ) -> u8 {
     match file_at(rt, alloc, path, asked) {
-        Ok(file) => write_report(alloc, &file, path, asked, out, err),
+        Ok(looked) => write_report(alloc, &looked, path, asked, out, err),
         Err(cause) => {
             let _ = writeln!(err, "{path}: {cause}");
             2
@@ -140,43 +141,30 @@ fn inspect_file<O: Write, E: Write>(
 }
 
 /// Files that buffers name are looked for in the folder of the file.
-fn file_at(rt: &HostRuntime, alloc: Global, path: &str, asked: Asked) -> Result<Inspected, Error> {
+fn file_at(rt: &HostRuntime, alloc: Global, path: &str, asked: Asked) -> Result<Looked, Error> {
     let mut folder = Folder::new(rt, gltf::base_of(path));
-    file_of(alloc, &mut folder, path, asked)
-}
-
-fn file_of<S: NamedBytes>(
-    alloc: Global,
-    source: &mut S,
-    path: &str,
-    asked: Asked,
-) -> Result<Inspected, Error> {
-    if !asked.no_files {
-        return inspect_from(alloc, source, path);
+    if asked.no_files {
+        look_at_alone(alloc, &mut folder, path)
+    } else {
+        look_at(alloc, folder, path)
     }
-    let bytes = match source.read(alloc, Name::File(path)) {
-        Ok(bytes) => bytes,
-        Err(NamedFault::Io(cause)) => return Err(Error::Io(cause)),
-        Err(NamedFault::Memory) => return Err(Error::Memory),
-    };
-    Ok(inspect_slice(alloc, &bytes)?)
 }
 
 /// Writes a report, which is made whole before.
 fn write_report<O: Write, E: Write>(
     alloc: Global,
-    file: &Inspected,
+    looked: &Looked,
     path: &str,
     asked: Asked,
     out: &mut O,
     err: &mut E,
 ) -> u8 {
-    let Ok(text) = report_text(alloc, file, path, asked) else {
+    let Ok(text) = report_text(alloc, looked, path, asked) else {
         let _ = writeln!(err, "{path}: out of memory");
         return 2;
     };
     match out.write_all(text.as_slice()) {
-        Ok(()) if file.report.is_without_errors() => 0,
+        Ok(()) if looked.file.report.is_without_errors() => 0,
         Ok(()) => 1,
         Err(cause) => {
             let _ = writeln!(err, "standard output: {cause}");
@@ -187,28 +175,30 @@ fn write_report<O: Write, E: Write>(
 
 fn report_text(
     alloc: Global,
-    file: &Inspected,
+    looked: &Looked,
     path: &str,
     asked: Asked,
 ) -> Result<Vec<u8>, AllocError> {
+    let Looked { file, value } = looked;
     let report = &file.report;
     let cause = file.cause.as_ref();
+    let value = value.as_ref();
     if asked.html {
         let imported = match &file.imported {
             Some((document, buffers)) => Some((document, buffers.as_slice())),
             None => None,
         };
-        return page(alloc, path, report, cause, imported);
+        return page(alloc, path, report, cause, imported, value);
     }
     let root = match &file.imported {
         Some((document, _buffers)) => Some(document.as_json()),
         None => None,
     };
     if asked.json {
-        return json_line(alloc, path, report, root, asked.pretty);
+        return json_line(alloc, path, report, root, value, asked.pretty);
     }
     let mut text = Vec::new(alloc);
-    match write_text(alloc, path, report, cause, root, &mut text) {
+    match write_text(alloc, path, report, cause, root, value, &mut text) {
         Ok(()) => Ok(text),
         Err(_) => Err(AllocError),
     }
@@ -219,9 +209,10 @@ fn json_line(
     path: &str,
     report: &Report,
     root: Option<&Root>,
+    value: Option<&Value>,
     is_pretty: bool,
 ) -> Result<Vec<u8>, AllocError> {
-    let mut text = json_text(alloc, path, report, root, is_pretty)?;
+    let mut text = json_text(alloc, path, report, root, value, is_pretty)?;
     text.push_str("\n")?;
     Vec::from_slice(alloc, text.as_str().as_bytes())
 }

@@ -1,35 +1,56 @@
-//! What the first file that is read begins with, for the reason why it is refused.
+//! What is kept of the first file that is read, so that no file is opened twice.
 use crate::old::says_first_version;
-use gltf::{Name, NamedBytes, NamedFault};
-use std::alloc::Global;
+use gltf::{Name, NamedBytes, NamedFault, text_and_blob};
+use std::alloc::{AllocError, Global};
+use std::borrow::CowSlice;
 
 /// A longer text is not kept.
 const LONGEST: usize = 16_777_216;
 
-/// A source, and a copy of the first bytes that it gave: of a container its first eight, of a text
-/// all, where it is not too long and there is memory for it. So no file is opened twice.
+/// What is kept of a file.
+#[derive(Clone, Copy)]
+pub(crate) enum Part {
+    /// What tells its version: of a container its first eight bytes, else its text.
+    Version,
+    /// Its JSON text.
+    Text,
+}
+
+/// A source, and a copy of a part of the first file that it gave.
 #[derive(Drop)]
 pub(crate) struct Kept<S: Drop> {
     source: S,
+    part: Part,
     is_read: bool,
-    first: Option<Vec<u8>>,
+    copy: Result<Option<Vec<u8>>, AllocError>,
 }
 
 impl<S: NamedBytes + Drop> Kept<S> {
     /// The source, of which nothing is read yet.
-    pub(crate) fn new(source: S) -> Kept<S> {
+    pub(crate) fn new(source: S, part: Part) -> Kept<S> {
         Kept {
             source,
+            part,
             is_read: false,
-            first: None,
+            copy: Ok(None),
         }
     }
 
-    /// Whether the first bytes that were given are of glTF 1.0; false where they were not kept.
+    /// The part of the first file; `None` where it has none or is too long. Fails where there was
+    /// no memory for it.
+    pub(crate) fn part(&self) -> Result<Option<&[u8]>, AllocError> {
+        match &self.copy {
+            Ok(Some(bytes)) => Ok(Some(bytes.as_slice())),
+            Ok(None) => Ok(None),
+            Err(_) => Err(AllocError),
+        }
+    }
+
+    /// Whether the part says that the file is of glTF 1.0; false where it was not kept.
     pub(crate) fn says_first_version(&self, alloc: Global) -> bool {
-        match &self.first {
-            Some(bytes) => says_first_version(alloc, bytes),
-            None => false,
+        match self.part() {
+            Ok(Some(bytes)) => says_first_version(alloc, bytes),
+            _ => false,
         }
     }
 }
@@ -41,7 +62,7 @@ impl<S: NamedBytes + Drop> NamedBytes for Kept<S> {
         let bytes = self.source.read(alloc, name)?;
         if !self.is_read {
             self.is_read = true;
-            self.first = copy_of(alloc, &bytes);
+            self.copy = copy_of(alloc, &bytes, self.part);
         }
         Ok(bytes)
     }
@@ -51,12 +72,22 @@ impl<S: NamedBytes + Drop> NamedBytes for Kept<S> {
     }
 }
 
-/// A copy of what tells the version of a file.
-fn copy_of(alloc: Global, bytes: &[u8]) -> Option<Vec<u8>> {
-    let kept = match bytes {
-        [b'g', b'l', b'T', b'F', ..] => bytes.get(..8)?,
-        _ if bytes.len() <= LONGEST => bytes,
-        _ => return None,
+/// A copy of a part of a file.
+fn copy_of(alloc: Global, bytes: &[u8], part: Part) -> Result<Option<Vec<u8>>, AllocError> {
+    let kept = match (part, bytes) {
+        (Part::Version, [b'g', b'l', b'T', b'F', ..]) => bytes.get(..8),
+        _ => text_of(bytes),
     };
-    Vec::from_slice(alloc, kept).ok()
+    match kept {
+        Some(kept) => Ok(Some(Vec::from_slice(alloc, kept)?)),
+        None => Ok(None),
+    }
+}
+
+/// The JSON text of a file; `None` where it has none, or a longer one than is kept.
+pub(crate) fn text_of(bytes: &[u8]) -> Option<&[u8]> {
+    match text_and_blob(bytes) {
+        Ok((CowSlice::Borrowed(text), _)) if text.len() <= LONGEST => Some(text),
+        _ => None,
+    }
 }

@@ -6,6 +6,7 @@ mod chunks;
 mod findings;
 mod indices;
 mod kept;
+mod looked;
 mod old;
 mod refusal;
 mod run;

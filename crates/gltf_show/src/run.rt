@@ -2,7 +2,7 @@
 use crate::call::Call;
 use crate::chunks::Chunks;
 use crate::indices::write_indices;
-use crate::kept::Kept;
+use crate::kept::{Kept, Part};
 use crate::refusal::Refusal;
 use crate::summary::Summary;
 use gltf::{Glb, Name, NamedBytes, import_from};
@@ -23,7 +23,7 @@ pub fn run<S: NamedBytes + Drop, O: Write, E: Write>(
     out: &mut O,
     err: &mut E,
 ) -> u8 {
-    let mut source = Kept::new(source);
+    let mut source = Kept::new(source, Part::Version);
     match answer(alloc, &mut source, words, out) {
         Ok(()) => 0,
         Err(refusal) => {
