@@ -1,14 +1,14 @@
 -- Where no node is on a loop, two nodes lead to one end exactly where they have an ancestor in
 -- common.
-use Rattle.std.proofs.Common.{◌≡◌, ◌≢◌, ◌<◌, ◌≤◌, ◌+◌, ℕ, zero, suc, Bool, true, false, ◌⊎◌, inl}
+use Rattle.std.proofs.Common.{◌≡◌, ◌<◌, ◌≤◌, ℕ, zero, suc, false, ◌⊎◌, inl}
 use Rattle.std.proofs.Common.{inr}
-use Rattle.std.proofs.Common.{refl, sym, ◌∙◌, ap, subst, arith, List, [], ◌∷◌, length}
-use Rattle.std.specs.Prelude.{nat_eq, is_some}
-use Rattle.std.specs.List.{list_any}
+use Rattle.std.proofs.Common.{refl, sym, ◌∙◌, ap, arith, List, length}
+use Rattle.std.specs.Prelude.{is_some}
+use Rattle.std.proofs.lemmas.Bool.{eqb-false}
 use Rattle.gltf_json_scene.specs.declared.scene.Node.{Node}
-use Rattle.gltf_inspect_nodes.specs.Roots.{parents_of, led, ends_of, lead_together}
+use Rattle.gltf_inspect_nodes.specs.Roots.{led, ends_of, lead_together}
 use Rattle.gltf_inspect_loops.specs.Ancestors.{IsParent, IsAncestor, AreApart, HasNoLoop}
-use Rattle.gltf_inspect_loops.proofs.Walks.{after, after_more, after_both, after_still}
+use Rattle.gltf_inspect_loops.proofs.Walks.{after, after_both, after_still}
 use Rattle.gltf_inspect_loops.proofs.Tables.{last_in}
 use Rattle.gltf_inspect_loops.proofs.Parents.{parent_or_none, parent_some}
 use Rattle.gltf_inspect_loops.proofs.Ends.{ends_steps}
@@ -30,7 +30,7 @@ end_by ns j few no_loop below (inl parent) =
     absurd (no_loop (after (up ns) Most j) loop.0
     (round_above ns (after (up ns) Most j) loop.0 (stays_after ns Most j below) child loop.1))
 
-end_still : (ns : List Node) (j : ℕ) → length ns ≤ Most → HasNoLoop ns → j < length ns
+pub end_still : (ns : List Node) (j : ℕ) → length ns ≤ Most → HasNoLoop ns → j < length ns
     → up ns (after (up ns) Most j) ≡ after (up ns) Most j
 end_still ns j few no_loop below =
     end_by ns j few no_loop below
@@ -57,7 +57,7 @@ ancestor_by ns n s k leads (inr none) rest = (
       ∙ ap (λ x. after (up ns) n x) (sym none.1) ∙ leads,
 )
 
-ancestor : (ns : List Node) (n s k : ℕ) → k < length ns → after (up ns) n k ≡ s
+pub ancestor : (ns : List Node) (n s k : ℕ) → k < length ns → after (up ns) n k ≡ s
     → (m : ℕ) × IsAncestor ns m s k
 unfolding after
 ancestor ns zero s k below leads = (zero, leads)
@@ -84,12 +84,12 @@ apart_of ns joints few no_loop h =
       one_is_node = one_in;
       other_is_node = other_in;
       none = λ a m n up_one up_other.
-          two.other.strays (
+          eqb-false (led (ends_of ns) two.other.joint) two.end two.other.holds (
           ends.each two.other.joint
           ∙ sym (same_end ns two.other.joint a n few no_loop other_in up_other)
           ∙ same_end ns two.one.joint a m few no_loop one_in up_one
           ∙ sym (ends.each two.one.joint)
-          ∙ two.one.leads);
+          ∙ two.one.holds);
     }
 
 pub apart_found : (ns : List Node) (joints : List ℕ) → AreApart ns joints

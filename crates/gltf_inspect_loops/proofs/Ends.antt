@@ -1,6 +1,6 @@
 -- Where nodes lead to by 2 ^ 64 steps.
 use Rattle.std.proofs.Common.{◌≡◌, ◌<◌, ◌≤◌, ◌+◌, ℕ, zero, suc, Bool, true, false}
-use Rattle.std.proofs.Common.{refl, sym, ◌∙◌, ap, subst, arith, List, [], ◌∷◌, length, get_or, map}
+use Rattle.std.proofs.Common.{refl, sym, ◌∙◌, ap, arith, List, [], ◌∷◌, length, get_or, map}
 use Rattle.std.specs.Prelude.{nat_eq, nat_lt, if◌then◌else◌, ◌&&◌}
 use Rattle.std.proofs.lemmas.Bool.{eqb-true, ltb-true, ltb-false}
 use Rattle.std.proofs.lemmas.List.{get_or-map, get_or_past, length-map}
@@ -65,7 +65,7 @@ twice_by f n m t false e h = record {
       ∙ sym (after_more f m m v);
 }
 
-twice_steps : (f : ℕ → ℕ) (n m : ℕ) (t : List ℕ) → AreSteps f n m t
+pub twice_steps : (f : ℕ → ℕ) (n m : ℕ) (t : List ℕ) → AreSteps f n m t
     → AreSteps f n (m + m) (twice t)
 twice_steps f n m t h = twice_by f n m t (are_fixed t t) refl h
 
@@ -93,7 +93,7 @@ steps_16 f n = four f n two twice (λ m t h. twice_steps f n m t h)
 steps_65536 : (f : ℕ → ℕ) (n : ℕ) → Doubles f n many times_65536
 steps_65536 f n = four f n sixteen times_16 (steps_16 f n)
 
-first_steps : (ns : List Node)
+pub first_steps : (ns : List Node)
     → AreSteps (led (parents_of ns)) (length ns) 1 (parents_of ns)
 unfolding after
 first_steps ns = record { long = length-parents ns; each = λ v. refl }

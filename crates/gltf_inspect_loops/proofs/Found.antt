@@ -1,5 +1,5 @@
 -- What the checks of loops and of roots find, node by node.
-use Rattle.std.proofs.Common.{◌≡◌, ◌<◌, ◌≤◌, ◌+◌, ℕ, zero, suc, Bool, true, false, ◌⊎◌, inl, inr}
+use Rattle.std.proofs.Common.{◌≡◌, ◌<◌, ◌≤◌, ◌+◌, ℕ, zero, suc, Bool, true, false, inl, inr}
 use Rattle.std.proofs.Common.{refl, sym, ◌∙◌, ap, subst, arith, List, [], ◌∷◌, length}
 use Rattle.std.specs.Prelude.{◌&&◌, not, codes, Some}
 use Rattle.gltf_json.specs.declared.root.Root.{Root}
@@ -8,12 +8,13 @@ use Rattle.gltf_json_scene.specs.declared.scene.Node.{Node}
 use Rattle.gltf_json_scene.specs.declared.skin.Skin.{Skin}
 use Rattle.gltf_findings.specs.declared.code.Code.TheVariants.{NodeLoop, SkinNoCommonRoot}
 use Rattle.gltf_findings.specs.Checks.{Fails, elements_checks}
-use Rattle.gltf_inspect_nodes.specs.Roots.{loop_checks, skin_checks, skins_checks, roots_checks}
+use Rattle.gltf_inspect_nodes.specs.Roots.{loop_checks, skin_checks, roots_checks}
 use Rattle.gltf_inspect_nodes.specs.Named.{joints_of}
 use Rattle.gltf_inspect_nodes.specs.Roots.{ends_of, is_end_in, is_child_of, lead_together}
 use Rattle.gltf_inspect_loops.specs.Ancestors.{IsAncestor, AreApart, HasNoLoop, skin_at}
 use Rattle.gltf_inspect_loops.proofs.Apart.{apart_of, apart_found}
 use Rattle.gltf_inspect_loops.proofs.Loops.{Most, found_above, above_found}
+use Rattle.gltf_inspect_loops.proofs.Skins.{found_skin, skin_found}
 
 not_false : (b : Bool) → not b ≡ false → b ≡ true
 not_false true h = refl
@@ -73,49 +74,6 @@ loop_found r path i n at h =
 
 -- ---- joints
 
--- a finding of joints is at a skin
-skin_fails : (ends : List ℕ) (i : ℕ) (ss : List Skin) (path : List Place)
-    → Fails (elements_checks (skin_checks ends) i ss) path SkinNoCommonRoot
-    → (k : ℕ) × (s : Skin) × (path ≡ numbered (i + k) ∷ named (codes "joints") ∷ [])
-    × (skin_at ss k ≡ Some s) × (lead_together ends (joints_of s) ≡ false)
-skin_fails ends i [] path h = cc
-skin_fails ends i (s ∷ ss) path (inl first) = (
-  zero,
-  s,
-  first.1
-      ∙ ap (λ p. numbered i ∷ p) (first.2.1 ∙ ap (λ p. named (codes "joints") ∷ p) first.2.2.1)
-      ∙ ap (λ n. numbered n ∷ named (codes "joints") ∷ [])
-      (let e : i ≡ i + zero = omega arith in e),
-  refl,
-  first.2.2.0,
-)
-skin_fails ends i (s ∷ ss) path (inr rest) =
-    let there = skin_fails ends (i + 1) ss path rest in (
-      suc there.0,
-      there.1,
-      there.2
-          ∙ ap (λ n. numbered n ∷ named (codes "joints") ∷ [])
-          (let e : (i + 1) + there.0 ≡ i + suc there.0 = omega arith in e),
-      there.3,
-      there.4,
-    )
-
-fails_skin : (ends : List ℕ) (i : ℕ) (ss : List Skin) (k : ℕ) (s : Skin) (n : ℕ)
-    → skin_at ss k ≡ Some s → n ≡ i + k → lead_together ends (joints_of s) ≡ false
-    → Fails (elements_checks (skin_checks ends) i ss)
-    (numbered n ∷ named (codes "joints") ∷ []) SkinNoCommonRoot
-fails_skin ends i [] k s n at sum h = cc
-fails_skin ends i (x ∷ xs) zero s n at sum h =
-    let same : x ≡ s = cc in
-    let number : n ≡ i = omega arith in
-    inl (
-      named (codes "joints") ∷ [],
-      ap (λ m. numbered m ∷ named (codes "joints") ∷ []) number,
-      ([], refl, (ap (λ y. lead_together ends (joints_of y)) same ∙ h, refl, refl)),
-    )
-fails_skin ends i (x ∷ xs) (suc k) s n at sum h =
-    inr (fails_skin ends (i + 1) xs k s n at (let e : n ≡ (i + 1) + k = omega arith in e) h)
-
 -- no finding of loops is of joints
 no_node : (e c : ℕ → Bool) (i : ℕ) (ns : List Node) (path : List Place)
     → Fails (loop_checks e c i ns) path SkinNoCommonRoot → true ≡ false
@@ -123,41 +81,30 @@ no_node e c i [] path h = h
 no_node e c i (n ∷ ns) path (inl first) = cc (first.2.2)
 no_node e c i (n ∷ ns) path (inr rest) = no_node e c (i + 1) ns path rest
 
-pub record IsFound (r : Root) (path : List Place) : Type 0 where
-  pub at : ℕ
-  pub skin : Skin
-  pub there : path ≡ named (codes "skins") ∷ numbered at ∷ named (codes "joints") ∷ []
-  pub is_skin : skin_at r.skins.items at ≡ Some skin
-  pub apart : AreApart r.nodes.items (joints_of skin)
-
 pub found_joints : (r : Root) (path : List Place) → length r.nodes.items ≤ Most
-    → HasNoLoop r.nodes.items → Fails (roots_checks r) path SkinNoCommonRoot → IsFound r path
+    → HasNoLoop r.nodes.items → Fails (roots_checks r) path SkinNoCommonRoot
+    → (i : ℕ) × (skin : Skin)
+    × (path ≡ named (codes "skins") ∷ numbered i ∷ named (codes "joints") ∷ [])
+    × (skin_at r.skins.items i ≡ Some skin) × AreApart r.nodes.items (joints_of skin)
 found_joints r path few no_loop (inl nodes) =
     let no : true ≡ false = no_node (is_end_in r.nodes.items (ends_of r.nodes.items))
     (is_child_of r.nodes.items) 0 r.nodes.items nodes.0 nodes.2 in
     cc
 found_joints r path few no_loop (inr skins) =
-    let at = skin_fails (ends_of r.nodes.items) 0 r.skins.items skins.0 skins.2 in
-    record {
-      at = at.0;
-      skin = at.1;
-      there = skins.1
-          ∙ ap (λ p. named (codes "skins") ∷ p) at.2
-          ∙ ap (λ n. named (codes "skins") ∷ numbered n ∷ named (codes "joints") ∷ [])
-          (let e : 0 + at.0 ≡ at.0 = omega arith in e);
-      is_skin = at.3;
-      apart = apart_of r.nodes.items (joints_of at.1) few no_loop at.4;
-    }
+    let at = found_skin (codes "joints") (λ s. lead_together (ends_of r.nodes.items) (joints_of s))
+    SkinNoCommonRoot r.skins.items path skins in (
+      at.0,
+      at.1,
+      at.2,
+      at.3,
+      apart_of r.nodes.items (joints_of at.1) few no_loop at.4,
+    )
 
 pub joints_found : (r : Root) (path : List Place) (i : ℕ) (skin : Skin)
     → path ≡ named (codes "skins") ∷ numbered i ∷ named (codes "joints") ∷ []
     → skin_at r.skins.items i ≡ Some skin → AreApart r.nodes.items (joints_of skin)
     → Fails (roots_checks r) path SkinNoCommonRoot
 joints_found r path i skin at is_skin apart =
-    inr (
-      numbered i ∷ named (codes "joints") ∷ [],
-      at,
-      fails_skin (ends_of r.nodes.items) 0 r.skins.items i skin i is_skin
-          (let e : i ≡ 0 + i = omega arith in e)
-          (apart_found r.nodes.items (joints_of skin) apart),
-    )
+    inr (skin_found (codes "joints") (λ s. lead_together (ends_of r.nodes.items) (joints_of s))
+    SkinNoCommonRoot r.skins.items path i skin at is_skin
+    (apart_found r.nodes.items (joints_of skin) apart))

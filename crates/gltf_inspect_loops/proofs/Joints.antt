@@ -1,69 +1,58 @@
--- Joints that lead to one node, or to several.
-use Rattle.std.proofs.Common.{◌≡◌, ◌≢◌, ◌<◌, ◌≤◌, ℕ, Bool, true, false, Option, Some, None, refl}
-use Rattle.std.proofs.Common.{sym}
+-- Joints that lead to one node, or to several, and joints that a test rejects.
+use Rattle.std.proofs.Common.{◌≡◌, ◌≢◌, ◌<◌, ℕ, Bool, true, false, Option, Some, None, refl, sym}
 use Rattle.std.proofs.Common.{◌∙◌, ap, List, [], ◌∷◌, length}
 use Rattle.std.specs.Prelude.{nat_eq, nat_lt, ◌&&◌, ◌||◌, not, if◌then◌else◌}
 use Rattle.std.specs.List.{list_any}
-use Rattle.std.proofs.lemmas.Bool.{eqb-true, eqb-false, eq-eqb, ltb-true, lt-ltb}
-use Rattle.gltf_inspect_nodes.specs.Roots.{led, lead_to, first_end, lead_to_first, lead_together}
+use Rattle.std.proofs.lemmas.Bool.{eqb-true, eq-eqb, ltb-true, lt-ltb, false_from_ne_true}
+use Rattle.gltf_inspect_nodes.specs.Roots.{led, first_end, lead_to_first, lead_together}
+use Rattle.gltf_inspect_trees.specs.Skeletons.{all_below}
 
--- one of these that is a node and leads there
-pub record Leads (ends : List ℕ) (joints : List ℕ) (end : ℕ) : Type 0 where
+-- one of these that is a node, of so many, and of which this holds
+pub record HasJoint (P : ℕ → Type 0) (count : ℕ) (joints : List ℕ) : Type 0 where
   pub joint : ℕ
   pub there : list_any (nat_eq joint) joints ≡ true
-  pub is_node : joint < length ends
-  pub leads : led ends joint ≡ end
+  pub is_node : joint < count
+  pub holds : P joint
 
--- one that leads elsewhere
-pub record Strays (ends : List ℕ) (joints : List ℕ) (end : ℕ) : Type 0 where
-  pub joint : ℕ
-  pub there : list_any (nat_eq joint) joints ≡ true
-  pub is_node : joint < length ends
-  pub strays : led ends joint ≢ end
-
-or_true : (b : Bool) → (b || true) ≡ true
+pub or_true : (b : Bool) → (b || true) ≡ true
 or_true true = refl
 or_true false = refl
 
-first_there : (j : ℕ) (js : List ℕ) → list_any (nat_eq j) (j ∷ js) ≡ true
+pub first_there : (j : ℕ) (js : List ℕ) → list_any (nat_eq j) (j ∷ js) ≡ true
 first_there j js = ap (λ b. b || list_any (nat_eq j) js) (eq-eqb j j refl)
 
-later_there : (x j : ℕ) (js : List ℕ) → list_any (nat_eq x) js ≡ true
+pub later_there : (x j : ℕ) (js : List ℕ) → list_any (nat_eq x) js ≡ true
     → list_any (nat_eq x) (j ∷ js) ≡ true
 later_there x j js h = ap (λ b. nat_eq x j || b) h ∙ or_true (nat_eq x j)
 
-leads_later : (ends : List ℕ) (j : ℕ) (js : List ℕ) (end : ℕ) → Leads ends js end
-    → Leads ends (j ∷ js) end
-leads_later ends j js end h = record {
+later : (P : ℕ → Type 0) (count j : ℕ) (js : List ℕ) → HasJoint P count js
+    → HasJoint P count (j ∷ js)
+later P count j js h = record {
   joint = h.joint;
   there = later_there h.joint j js h.there;
   is_node = h.is_node;
-  leads = h.leads;
-}
-
-strays_later : (ends : List ℕ) (j : ℕ) (js : List ℕ) (end : ℕ) → Strays ends js end
-    → Strays ends (j ∷ js) end
-strays_later ends j js end h = record {
-  joint = h.joint;
-  there = later_there h.joint j js h.there;
-  is_node = h.is_node;
-  strays = h.strays;
+  holds = h.holds;
 }
 
 -- ---- the first
 
-first_by : (ends : List ℕ) (j : ℕ) (js : List ℕ) (end : ℕ) (b : Bool)
-    → nat_lt j (length ends) ≡ b → (first_end ends js ≡ Some end → Leads ends js end)
-    → (if b then Some (led ends j) else first_end ends js) ≡ Some end → Leads ends (j ∷ js) end
+abbrev pub Leads : List ℕ → ℕ → ℕ → Type 0
+Leads ends end j = led ends j ≡ end
+
+first_by : (ends : List ℕ) (j : ℕ) (js : List ℕ) (end : ℕ) (b : Bool) → nat_lt j (length ends) ≡ b
+    → (first_end ends js ≡ Some end → HasJoint (Leads ends end) (length ends) js)
+    → (if b then Some (led ends j) else first_end ends js) ≡ Some end
+    → HasJoint (Leads ends end) (length ends) (j ∷ js)
 first_by ends j js end true e rest h = record {
   joint = j;
   there = first_there j js;
   is_node = ltb-true j (length ends) e;
-  leads = cc;
+  holds = cc;
 }
-first_by ends j js end false e rest h = leads_later ends j js end (rest h)
+first_by ends j js end false e rest h = later (Leads ends end) (length ends) j js (rest h)
 
-first_leads : (ends js : List ℕ) (end : ℕ) → first_end ends js ≡ Some end → Leads ends js end
+first_leads : (ends js : List ℕ) (end : ℕ) → first_end ends js ≡ Some end
+    → HasJoint (Leads ends end) (length ends) js
 first_leads ends [] end h = cc
 first_leads ends (j ∷ js) end h =
     first_by ends j js end (nat_lt j (length ends)) refl (λ rest. first_leads ends js end rest) h
@@ -88,62 +77,63 @@ none_there ends (j ∷ js) x below h there =
     none_by ends j js x (nat_lt j (length ends)) (nat_eq x j) refl refl below h
     (λ rest more. none_there ends js x below rest more) there
 
--- ---- all
+-- ---- all, by any test
 
-all_by : (ends : List ℕ) (end j : ℕ) (js : List ℕ) (x : ℕ) (b c d rest : Bool)
-    → nat_lt j (length ends) ≡ b → nat_eq (led ends j) end ≡ c → nat_eq x j ≡ d
-    → x < length ends → ((not b || c) && rest) ≡ true
-    → (rest ≡ true → list_any (nat_eq x) js ≡ true → led ends x ≡ end)
-    → (d || list_any (nat_eq x) js) ≡ true → led ends x ≡ end
-all_by ends end j js x b c false true e f g below h more there = more refl there
-all_by ends end j js x b c false false e f g below h more there =
-    let no : true ≡ false = sym h ∙ and_false (not b || c) in cc
-  where
-    and_false : (y : Bool) → (y && false) ≡ false
-    and_false true = refl
-    and_false false = refl
-all_by ends end j js x true true true rest e f g below h more there =
-    ap (λ k. led ends k) (eqb-true x j g) ∙ eqb-true (led ends j) end f
-all_by ends end j js x true false true rest e f g below h more there = cc
-all_by ends end j js x false c true rest e f g below h more there =
-    let no : true ≡ false
-    = sym (lt-ltb x (length ends) below) ∙ ap (λ k. nat_lt k (length ends)) (eqb-true x j g) ∙ e in
-    cc
+abbrev pub Rejects : (ℕ → Bool) → ℕ → Type 0
+Rejects test j = test j ≡ false
 
-all_lead : (ends : List ℕ) (end : ℕ) (js : List ℕ) (x : ℕ) → x < length ends
-    → lead_to ends end js ≡ true → list_any (nat_eq x) js ≡ true → led ends x ≡ end
-all_lead ends end [] x below h there = cc
-all_lead ends end (j ∷ js) x below h there =
-    all_by ends end j js x (nat_lt j (length ends)) (nat_eq (led ends j) end) (nat_eq x j)
-    (lead_to ends end js) refl refl refl below h
-    (λ rest more. all_lead ends end js x below rest more) there
-
-stray_by : (ends : List ℕ) (end j : ℕ) (js : List ℕ) (b c : Bool)
-    → nat_lt j (length ends) ≡ b → nat_eq (led ends j) end ≡ c
-    → (lead_to ends end js ≡ false → Strays ends js end)
-    → ((not b || c) && lead_to ends end js) ≡ false → Strays ends (j ∷ js) end
-stray_by ends end j js true true e f rest h = strays_later ends j js end (rest h)
-stray_by ends end j js false c e f rest h = strays_later ends j js end (rest h)
-stray_by ends end j js true false e f rest h = record {
+not_all_by : (test : ℕ → Bool) (count j : ℕ) (js : List ℕ) (b c : Bool) → nat_lt j count ≡ b
+    → test j ≡ c → (all_below test count js ≡ false → HasJoint (Rejects test) count js)
+    → ((not b || c) && all_below test count js) ≡ false
+    → HasJoint (Rejects test) count (j ∷ js)
+not_all_by test count j js true false e f rest h = record {
   joint = j;
   there = first_there j js;
-  is_node = ltb-true j (length ends) e;
-  strays = eqb-false (led ends j) end f;
+  is_node = ltb-true j count e;
+  holds = f;
 }
+not_all_by test count j js true true e f rest h = later (Rejects test) count j js (rest h)
+not_all_by test count j js false c e f rest h = later (Rejects test) count j js (rest h)
 
-stray : (ends : List ℕ) (end : ℕ) (js : List ℕ) → lead_to ends end js ≡ false
-    → Strays ends js end
-stray ends end [] h = cc
-stray ends end (j ∷ js) h =
-    stray_by ends end j js (nat_lt j (length ends)) (nat_eq (led ends j) end) refl refl
-    (λ rest. stray ends end js rest) h
+pub not_all : (test : ℕ → Bool) (count : ℕ) (js : List ℕ) → all_below test count js ≡ false
+    → HasJoint (Rejects test) count js
+not_all test count [] h = cc
+not_all test count (j ∷ js) h =
+    not_all_by test count j js (nat_lt j count) (test j) refl refl
+    (λ rest. not_all test count js rest) h
 
--- ---- both
+and_false : (b : Bool) → (b && false) ≡ false
+and_false true = refl
+and_false false = refl
+
+all_not_by : (test : ℕ → Bool) (count j : ℕ) (js : List ℕ) (x : ℕ) (b : Bool) → nat_eq x j ≡ b
+    → x < count → test x ≡ false
+    → (list_any (nat_eq x) js ≡ true → all_below test count js ≡ false)
+    → (b || list_any (nat_eq x) js) ≡ true → all_below test count (j ∷ js) ≡ false
+all_not_by test count j js x true e is_node h rest there =
+    ap (λ k. (not (nat_lt k count) || test k) && all_below test count js) (sym (eqb-true x j e))
+    ∙ ap (λ b. (not b || test x) && all_below test count js) (lt-ltb x count is_node)
+    ∙ ap (λ b. b && all_below test count js) h
+all_not_by test count j js x false e is_node h rest there =
+    ap (λ b. (not (nat_lt j count) || test j) && b) (rest there)
+    ∙ and_false (not (nat_lt j count) || test j)
+
+pub all_not : (test : ℕ → Bool) (count : ℕ) (js : List ℕ) (x : ℕ) → x < count → test x ≡ false
+    → list_any (nat_eq x) js ≡ true → all_below test count js ≡ false
+all_not test count [] x is_node h there = cc
+all_not test count (j ∷ js) x is_node h there =
+    all_not_by test count j js x (nat_eq x j) refl is_node h
+    (λ rest. all_not test count js x is_node h rest) there
+
+-- ---- all to one end: such a test too
+
+abbrev pub is_led : List ℕ → ℕ → ℕ → Bool
+is_led ends end j = nat_eq (led ends j) end
 
 pub record AreTwo (ends joints : List ℕ) : Type 0 where
   pub end : ℕ
-  pub one : Leads ends joints end
-  pub other : Strays ends joints end
+  pub one : HasJoint (Leads ends end) (length ends) joints
+  pub other : HasJoint (Rejects (is_led ends end)) (length ends) joints
 
 two_by : (ends js : List ℕ) (o : Option ℕ) → first_end ends js ≡ o
     → lead_to_first ends js o ≡ false → AreTwo ends js
@@ -151,26 +141,33 @@ two_by ends js None e h = cc
 two_by ends js (Some end) e h = record {
   end = end;
   one = first_leads ends js end e;
-  other = stray ends end js h;
+  other = not_all (is_led ends end) (length ends) js h;
 }
 
 pub two_of : (ends js : List ℕ) → lead_together ends js ≡ false → AreTwo ends js
 two_of ends js h = two_by ends js (first_end ends js) refl h
 
-not_by : (ends js : List ℕ) (x y : ℕ) (o : Option ℕ) (b : Bool) → x < length ends
+other_by : (ends js : List ℕ) (x y end : ℕ) (b : Bool) → is_led ends end x ≡ b
+    → x < length ends → y < length ends → list_any (nat_eq x) js ≡ true
+    → list_any (nat_eq y) js ≡ true → led ends x ≢ led ends y
+    → lead_to_first ends js (Some end) ≡ false
+other_by ends js x y end false e below other there also apart =
+    all_not (is_led ends end) (length ends) js x below e there
+other_by ends js x y end true e below other there also apart =
+    all_not (is_led ends end) (length ends) js y other
+    (false_from_ne_true (is_led ends end y) (λ f.
+    apart (eqb-true (led ends x) end e ∙ sym (eqb-true (led ends y) end f)))) also
+
+not_by : (ends js : List ℕ) (x y : ℕ) (o : Option ℕ) → x < length ends
     → y < length ends → list_any (nat_eq x) js ≡ true → list_any (nat_eq y) js ≡ true
-    → led ends x ≢ led ends y → first_end ends js ≡ o → lead_to_first ends js o ≡ b
-    → lead_to_first ends js o ≡ false
-not_by ends js x y None b below other there also apart e f =
+    → led ends x ≢ led ends y → first_end ends js ≡ o → lead_to_first ends js o ≡ false
+not_by ends js x y None below other there also apart e =
     absurd (none_there ends js x below e there)
-not_by ends js x y (Some end) false below other there also apart e f = f
-not_by ends js x y (Some end) true below other there also apart e f =
-    absurd (apart (all_lead ends end js x below f there
-    ∙ sym (all_lead ends end js y other f also)))
+not_by ends js x y (Some end) below other there also apart e =
+    other_by ends js x y end (is_led ends end x) refl below other there also apart
 
 pub not_together : (ends js : List ℕ) (x y : ℕ) → x < length ends → y < length ends
     → list_any (nat_eq x) js ≡ true → list_any (nat_eq y) js ≡ true
     → led ends x ≢ led ends y → lead_together ends js ≡ false
 not_together ends js x y below other there also apart =
-    not_by ends js x y (first_end ends js) (lead_together ends js) below other there also apart
-    refl refl
+    not_by ends js x y (first_end ends js) below other there also apart refl

@@ -6,4 +6,7 @@ pub mod Ends
 pub mod Loops
 pub mod Joints
 pub mod Apart
+pub mod Skins
 pub mod Found
+pub mod Rooted
+pub mod Skeletons

@@ -4,8 +4,7 @@ use Rattle.std.proofs.Common.{inr}
 use Rattle.std.proofs.Common.{refl, sym, ◌∙◌, ap, subst, arith, List, [], ◌∷◌, length, get_or}
 use Rattle.std.specs.Prelude.{nat_eq, nat_lt, ◌&&◌, ◌||◌, is_some, Some}
 use Rattle.std.specs.List.{list_any}
-use Rattle.std.proofs.lemmas.Bool.{eqb-true, eq-eqb, ltb-true, ltb-false, lt-ltb}
-use Rattle.std.proofs.lemmas.List.{get_or_past}
+use Rattle.std.proofs.lemmas.Bool.{eqb-true, eq-eqb, ltb-true, lt-ltb}
 use Rattle.std.proofs.lemmas.List.Folds.{list_any_at}
 use Rattle.gltf_json_scene.specs.declared.scene.Node.{Node}
 use Rattle.gltf_inspect_nodes.specs.Roots.{parents_of, led, ends_of, is_end_in, is_child_of}
@@ -13,7 +12,7 @@ use Rattle.gltf_inspect_loops.specs.Ancestors.{node_at, IsParent, IsAncestor}
 use Rattle.gltf_inspect_loops.proofs.Walks.{after, after_more, after_both, after_still, times}
 use Rattle.gltf_inspect_loops.proofs.Walks.{after_times}
 use Rattle.gltf_inspect_loops.proofs.Orbits.{comes_back}
-use Rattle.gltf_inspect_loops.proofs.Tables.{last_in, length-parents}
+use Rattle.gltf_inspect_loops.proofs.Tables.{last_in}
 use Rattle.gltf_inspect_loops.proofs.Parents.{parent_or_none, parent-led, parent_some, child-is}
 use Rattle.gltf_inspect_loops.proofs.Ends.{ends_steps}
 
@@ -155,7 +154,7 @@ any_by y ys x false e rest h =
       other_default ys there.0 (suc there.0) there.0 there.1 ∙ there.2,
     )
 
-any_at : (ys : List ℕ) (x : ℕ) → list_any (nat_eq x) ys ≡ true
+pub any_at : (ys : List ℕ) (x : ℕ) → list_any (nat_eq x) ys ≡ true
     → (j : ℕ) × (j < length ys) × (get_or ys j j ≡ x)
 any_at [] x h = cc
 any_at (y ∷ ys) x h = any_by y ys x (nat_eq x y) refl (λ rest. any_at ys x rest) h
@@ -182,7 +181,7 @@ end_at ns i j below leads =
     list_any_at (nat_eq i) (ends_of ns) j j within
     (eq-eqb i (get_or (ends_of ns) j j) (sym (ends.each j ∙ leads)))
 
-both_true : (a b : Bool) → a ≡ true → b ≡ true → (a && b) ≡ true
+pub both_true : (a b : Bool) → a ≡ true → b ≡ true → (a && b) ≡ true
 both_true true b p q = q
 both_true false b p q = p
 

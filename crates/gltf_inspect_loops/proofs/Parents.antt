@@ -5,9 +5,9 @@ use Rattle.std.proofs.Common.{refl, sym, ◌∙◌, ap, subst, arith, List, [], 
 use Rattle.std.proofs.Common.{inr}
 use Rattle.std.specs.Prelude.{nat_eq, nat_lt, ◌&&◌, is_some}
 use Rattle.std.specs.List.{list_any}
-use Rattle.std.proofs.lemmas.Bool.{eqb-true, eqb-false, ltb-true, ltb-false, lt-ltb}
+use Rattle.std.proofs.lemmas.Bool.{ltb-true, ltb-false, lt-ltb}
 use Rattle.gltf_json_scene.specs.declared.scene.Node.{Node}
-use Rattle.gltf_inspect_nodes.specs.Named.{children_of, all_named, is_named}
+use Rattle.gltf_inspect_nodes.specs.Named.{children_of, all_named}
 use Rattle.gltf_inspect_nodes.specs.Roots.{parents_of, led, is_child_of}
 use Rattle.gltf_inspect_loops.specs.Ancestors.{has_child, node_at, IsParent}
 use Rattle.gltf_inspect_loops.proofs.Tables.{last_in, later, if_some, or_else, parent-is, named-is}

@@ -1,5 +1,5 @@
 -- Steps by a function, many at once.
-use Rattle.std.proofs.Common.{◌≡◌, ◌≤◌, ◌+◌, ◌*◌, ◌-◌, ℕ, zero, suc, refl, sym, ◌∙◌, ap, arith}
+use Rattle.std.proofs.Common.{◌≡◌, ◌+◌, ℕ, zero, suc, refl, sym, ◌∙◌, ap, arith}
 
 -- where so many steps lead to
 unfoldable pub after : (ℕ → ℕ) → ℕ → ℕ → ℕ

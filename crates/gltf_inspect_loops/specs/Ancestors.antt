@@ -5,7 +5,7 @@ use Rattle.std.specs.Prelude.{Option, Some, None, List, [], ◌∷◌}
 use Rattle.std.specs.List.{list_any}
 use Rattle.gltf_json_scene.specs.declared.scene.Node.{Node}
 use Rattle.gltf_json_scene.specs.declared.skin.Skin.{Skin}
-use Rattle.gltf_inspect_nodes.specs.Named.{children_of}
+use Rattle.gltf_inspect_nodes.specs.Named.{children_of, joints_of}
 
 abbrev pub has_child : Node → ℕ → Bool
 has_child n c = list_any (nat_eq c) (children_of n)
@@ -38,6 +38,17 @@ pub record AreApart (ns : List Node) (joints : List ℕ) : Type 0 where
   pub one_is_node : one < length ns
   pub other_is_node : other < length ns
   pub none : (above m n : ℕ) → IsAncestor ns m above one → IsAncestor ns n above other → ⊥
+
+-- a skin names a node as its skeleton, and has a joint that is a node, and neither this one nor
+-- below it
+pub record HasJointElsewhere (ns : List Node) (skin : Skin) : Type 0 where
+  pub skeleton : ℕ
+  pub is_skeleton : skin.skeleton ≡ Some skeleton
+  pub skeleton_is_node : skeleton < length ns
+  pub joint : ℕ
+  pub joint_there : list_any (nat_eq joint) (joints_of skin) ≡ true
+  pub joint_is_node : joint < length ns
+  pub elsewhere : (n : ℕ) → IsAncestor ns n skeleton joint → ⊥
 
 -- no node is among its own ancestors
 abbrev pub HasNoLoop : List Node → Type 0

@@ -1,14 +1,18 @@
-//! Laws of loops among nodes. Each is the contract of a function that does nothing.
+//! Laws of loops among nodes, and of joints and skeletons where there is none. Each is the contract
+//! of a function that does nothing.
 ghost use Rattle.std.specs.Prelude.{List, Some, [], ◌∷◌, ◌≡◌, ◌↔◌, ◌≤◌, ℕ, suc, length, codes};
 ghost use Rattle.std.specs.List.{Contains};
 ghost use Rattle.gltf_json.specs.declared.root.Root.{Root};
 ghost use Rattle.gltf_json_record.specs.Place.{Place, named, numbered};
 ghost use Rattle.gltf_findings.specs.declared.code.Code.TheVariants.{NodeLoop, SkinNoCommonRoot};
+ghost use Rattle.gltf_findings.specs.declared.code.Code.TheVariants.{SkinSkeletonInvalid};
 ghost use Rattle.gltf_findings.specs.Checks.{findings_of};
 ghost use Rattle.gltf_inspect_nodes.specs.Roots.{roots_checks};
 ghost use Rattle.gltf_inspect_nodes.specs.Named.{joints_of};
 ghost use Rattle.gltf_json_scene.specs.declared.skin.Skin.{Skin};
+ghost use Rattle.gltf_inspect_trees.specs.Skeletons.{skeletons_checks};
 ghost use Rattle.gltf_inspect_loops.specs.Ancestors.{IsAncestor, AreApart, HasNoLoop, skin_at};
+ghost use Rattle.gltf_inspect_loops.specs.Ancestors.{HasJointElsewhere};
 
 /// In a document of no more than 2^64 nodes, a node is found to be on a loop exactly where it is
 /// among its own ancestors.
@@ -31,6 +35,20 @@ pub fn joints_are_found_exactly_where_two_are_apart()
         ↔ (i : ℕ) × (skin : Skin)
         × (path ≡ named (codes "skins") ∷ numbered i ∷ named (codes "joints") ∷ [])
         × (skin_at r.skins.items i ≡ Some skin) × AreApart r.nodes.items (joints_of skin) }
+{
+    gltf_findings::laws::a_finding_is_a_condition_that_fails()
+}
+
+/// In a document of no more than 2^64 nodes, where none is among its own ancestors, a skeleton is
+/// found to be invalid exactly where it is a node and some joint that is a node is neither this
+/// node nor below it.
+pub fn a_skeleton_is_found_exactly_where_a_joint_is_not_below_it()
+    ensures { (r : Root) (path : List Place) → length r.nodes.items ≤ 18446744073709551616
+        → HasNoLoop r.nodes.items
+        → Contains (findings_of [] (skeletons_checks r)) (path, SkinSkeletonInvalid)
+        ↔ (i : ℕ) × (skin : Skin)
+        × (path ≡ named (codes "skins") ∷ numbered i ∷ named (codes "skeleton") ∷ [])
+        × (skin_at r.skins.items i ≡ Some skin) × HasJointElsewhere r.nodes.items skin }
 {
     gltf_findings::laws::a_finding_is_a_condition_that_fails()
 }

@@ -7,7 +7,6 @@ pub returns : goal.returns
 returns c = λ r path few no_loop.
     let law = c.a_finding_is_a_condition_that_fails.ensures
     (roots_checks r) path SkinNoCommonRoot in (
-      λ found. (let it = found_joints r path few no_loop (law.0 found) in
-          (it.at, it.skin, it.there, it.is_skin, it.apart)),
+      λ found. found_joints r path few no_loop (law.0 found),
       λ it. law.1 (joints_found r path it.0 it.1 it.2 it.3 it.4),
     )
