@@ -66,24 +66,24 @@ module _ (us vs : List (Option (List ℕ))) (r s : Root) (m : IsDetached us vs r
                             keep (codes "scene") refl refl _ _ m.before.1.1.1.1.1.1.1.1.1.1.1.1.0,
                             (
                               keep (codes "scenes") refl refl _ _
-                              m.before.1.1.1.1.1.1.1.1.1.1.1.1.1.0,
+                                  m.before.1.1.1.1.1.1.1.1.1.1.1.1.1.0,
                               (
                                 keep (codes "skins") refl refl _ _
-                                m.before.1.1.1.1.1.1.1.1.1.1.1.1.1.1.0,
+                                    m.before.1.1.1.1.1.1.1.1.1.1.1.1.1.1.0,
                                 (
                                   keep (codes "textures") refl refl _ _
-                                  m.before.1.1.1.1.1.1.1.1.1.1.1.1.1.1.1.0,
+                                      m.before.1.1.1.1.1.1.1.1.1.1.1.1.1.1.1.0,
                                   (
                                     keep (codes "extensionsUsed") refl refl _ _
-                                    m.before.1.1.1.1.1.1.1.1.1.1.1.1.1.1.1.1.0,
+                                        m.before.1.1.1.1.1.1.1.1.1.1.1.1.1.1.1.1.0,
                                     (
                                       keep (codes "extensionsRequired") refl refl _ _
-                                      m.before.1.1.1.1.1.1.1.1.1.1.1.1.1.1.1.1.1.0,
+                                          m.before.1.1.1.1.1.1.1.1.1.1.1.1.1.1.1.1.1.0,
                                       (
                                         keep (codes "extensions") refl refl _ _
-                                        m.before.1.1.1.1.1.1.1.1.1.1.1.1.1.1.1.1.1.1.0,
+                                            m.before.1.1.1.1.1.1.1.1.1.1.1.1.1.1.1.1.1.1.0,
                                         keep (codes "extras") refl refl _ _
-                                        m.before.1.1.1.1.1.1.1.1.1.1.1.1.1.1.1.1.1.1.1,
+                                            m.before.1.1.1.1.1.1.1.1.1.1.1.1.1.1.1.1.1.1.1,
                                       ),
                                     ),
                                   ),

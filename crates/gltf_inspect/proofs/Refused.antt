@@ -106,10 +106,10 @@ hold-without-errors path step (rules.Both t u) e =
     sym (count-append (findings_of path (refusals step t)) (findings_of path (refusals step u)))
     ∙ e in (
       hold-without-errors path step t (none-left
-      (count_of grave.Error (findings_of path (refusals step t)))
+          (count_of grave.Error (findings_of path (refusals step t)))
           (count_of grave.Error (findings_of path (refusals step u))) both),
       hold-without-errors path step u (none-right
-      (count_of grave.Error (findings_of path (refusals step t)))
+          (count_of grave.Error (findings_of path (refusals step t)))
           (count_of grave.Error (findings_of path (refusals step u))) both),
     )
 
