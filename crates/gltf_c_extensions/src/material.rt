@@ -7,7 +7,7 @@ ghost use Rattle.gltf_c_extensions.specs.Materials.{shown_clearcoat, shown_sheen
 ghost use Rattle.gltf_c_extensions.specs.Materials.{shown_iridescence, shown_anisotropy};
 ghost use Rattle.gltf_c_extensions.specs.Materials.{shown_dispersion, shown_diffuse_transmission};
 
-use crate::reading::{Missing, read_at};
+use crate::reading::{Missing, ShownOf, shown_at};
 use crate::uses::{info_use, normal_use};
 use gltf_c_look::uses::GltfTextureUse;
 use gltf_c_scene::kind::Kind;
@@ -39,26 +39,27 @@ pub struct GltfClearcoat {
 pub fn clearcoat(alloc: Global, root: &Root, index: usize) -> Result<GltfClearcoat, Missing>
     ensures { IsClearcoat index root.now result }
 {
-    let it = read_at(
+    shown_at::<Clearcoat, GltfClearcoat>(
         alloc,
         root,
         Kind::Materials,
         index,
         "KHR_materials_clearcoat",
-    )?;
-    Ok(shown_clearcoat(&it))
+    )
 }
 
-fn shown_clearcoat(it: &Clearcoat) -> GltfClearcoat
-    ensures { result ≡ shown_clearcoat it.now }
-{
-    GltfClearcoat {
-        clearcoat_factor: it.clearcoat_factor.value(),
-        clearcoat_roughness_factor: it.clearcoat_roughness_factor.value(),
-        clearcoat: info_use(it.clearcoat_texture),
-        clearcoat_roughness: info_use(it.clearcoat_roughness_texture),
-        clearcoat_normal: normal_use(it.clearcoat_normal_texture),
-        reserved: [0; 4],
+impl ShownOf<Clearcoat> for GltfClearcoat {
+    ghost shown = { shown_clearcoat };
+
+    fn shown_of(it: &Clearcoat) -> GltfClearcoat {
+        GltfClearcoat {
+            clearcoat_factor: it.clearcoat_factor.value(),
+            clearcoat_roughness_factor: it.clearcoat_roughness_factor.value(),
+            clearcoat: info_use(it.clearcoat_texture),
+            clearcoat_roughness: info_use(it.clearcoat_roughness_texture),
+            clearcoat_normal: normal_use(it.clearcoat_normal_texture),
+            reserved: [0; 4],
+        }
     }
 }
 
@@ -82,19 +83,20 @@ pub struct GltfSheen {
 pub fn sheen(alloc: Global, root: &Root, index: usize) -> Result<GltfSheen, Missing>
     ensures { IsSheen index root.now result }
 {
-    let it = read_at(alloc, root, Kind::Materials, index, "KHR_materials_sheen")?;
-    Ok(shown_sheen(&it))
+    shown_at::<Sheen, GltfSheen>(alloc, root, Kind::Materials, index, "KHR_materials_sheen")
 }
 
-fn shown_sheen(it: &Sheen) -> GltfSheen
-    ensures { result ≡ shown_sheen it.now }
-{
-    GltfSheen {
-        sheen_color_factor: it.sheen_color_factor.values(),
-        sheen_roughness_factor: it.sheen_roughness_factor.value(),
-        sheen_color: info_use(it.sheen_color_texture),
-        sheen_roughness: info_use(it.sheen_roughness_texture),
-        reserved: [0; 4],
+impl ShownOf<Sheen> for GltfSheen {
+    ghost shown = { shown_sheen };
+
+    fn shown_of(it: &Sheen) -> GltfSheen {
+        GltfSheen {
+            sheen_color_factor: it.sheen_color_factor.values(),
+            sheen_roughness_factor: it.sheen_roughness_factor.value(),
+            sheen_color: info_use(it.sheen_color_texture),
+            sheen_roughness: info_use(it.sheen_roughness_texture),
+            reserved: [0; 4],
+        }
     }
 }
 
@@ -122,27 +124,28 @@ pub struct GltfIridescence {
 pub fn iridescence(alloc: Global, root: &Root, index: usize) -> Result<GltfIridescence, Missing>
     ensures { IsIridescence index root.now result }
 {
-    let it = read_at(
+    shown_at::<Iridescence, GltfIridescence>(
         alloc,
         root,
         Kind::Materials,
         index,
         "KHR_materials_iridescence",
-    )?;
-    Ok(shown_iridescence(&it))
+    )
 }
 
-fn shown_iridescence(it: &Iridescence) -> GltfIridescence
-    ensures { result ≡ shown_iridescence it.now }
-{
-    GltfIridescence {
-        iridescence_factor: it.iridescence_factor.value(),
-        iridescence_ior: it.iridescence_ior.value(),
-        iridescence_thickness_minimum: it.iridescence_thickness_minimum.value(),
-        iridescence_thickness_maximum: it.iridescence_thickness_maximum.value(),
-        iridescence: info_use(it.iridescence_texture),
-        iridescence_thickness: info_use(it.iridescence_thickness_texture),
-        reserved: [0; 4],
+impl ShownOf<Iridescence> for GltfIridescence {
+    ghost shown = { shown_iridescence };
+
+    fn shown_of(it: &Iridescence) -> GltfIridescence {
+        GltfIridescence {
+            iridescence_factor: it.iridescence_factor.value(),
+            iridescence_ior: it.iridescence_ior.value(),
+            iridescence_thickness_minimum: it.iridescence_thickness_minimum.value(),
+            iridescence_thickness_maximum: it.iridescence_thickness_maximum.value(),
+            iridescence: info_use(it.iridescence_texture),
+            iridescence_thickness: info_use(it.iridescence_thickness_texture),
+            reserved: [0; 4],
+        }
     }
 }
 
@@ -164,24 +167,25 @@ pub struct GltfAnisotropy {
 pub fn anisotropy(alloc: Global, root: &Root, index: usize) -> Result<GltfAnisotropy, Missing>
     ensures { IsAnisotropy index root.now result }
 {
-    let it = read_at(
+    shown_at::<Anisotropy, GltfAnisotropy>(
         alloc,
         root,
         Kind::Materials,
         index,
         "KHR_materials_anisotropy",
-    )?;
-    Ok(shown_anisotropy(&it))
+    )
 }
 
-fn shown_anisotropy(it: &Anisotropy) -> GltfAnisotropy
-    ensures { result ≡ shown_anisotropy it.now }
-{
-    GltfAnisotropy {
-        anisotropy_strength: it.anisotropy_strength.value(),
-        anisotropy_rotation: it.anisotropy_rotation.value(),
-        anisotropy: info_use(it.anisotropy_texture),
-        reserved: [0; 4],
+impl ShownOf<Anisotropy> for GltfAnisotropy {
+    ghost shown = { shown_anisotropy };
+
+    fn shown_of(it: &Anisotropy) -> GltfAnisotropy {
+        GltfAnisotropy {
+            anisotropy_strength: it.anisotropy_strength.value(),
+            anisotropy_rotation: it.anisotropy_rotation.value(),
+            anisotropy: info_use(it.anisotropy_texture),
+            reserved: [0; 4],
+        }
     }
 }
 
@@ -200,22 +204,23 @@ pub struct GltfDispersion {
 pub fn dispersion(alloc: Global, root: &Root, index: usize) -> Result<GltfDispersion, Missing>
     ensures { IsDispersion index root.now result }
 {
-    let it = read_at(
+    shown_at::<Dispersion, GltfDispersion>(
         alloc,
         root,
         Kind::Materials,
         index,
         "KHR_materials_dispersion",
-    )?;
-    Ok(shown_dispersion(&it))
+    )
 }
 
-fn shown_dispersion(it: &Dispersion) -> GltfDispersion
-    ensures { result ≡ shown_dispersion it.now }
-{
-    GltfDispersion {
-        dispersion: it.dispersion.value(),
-        reserved: [0; 4],
+impl ShownOf<Dispersion> for GltfDispersion {
+    ghost shown = { shown_dispersion };
+
+    fn shown_of(it: &Dispersion) -> GltfDispersion {
+        GltfDispersion {
+            dispersion: it.dispersion.value(),
+            reserved: [0; 4],
+        }
     }
 }
 
@@ -244,24 +249,25 @@ pub fn diffuse_transmission(
 ) -> Result<GltfDiffuseTransmission, Missing>
     ensures { IsDiffuseTransmission index root.now result }
 {
-    let it = read_at(
+    shown_at::<DiffuseTransmission, GltfDiffuseTransmission>(
         alloc,
         root,
         Kind::Materials,
         index,
         "KHR_materials_diffuse_transmission",
-    )?;
-    Ok(shown_diffuse_transmission(&it))
+    )
 }
 
-fn shown_diffuse_transmission(it: &DiffuseTransmission) -> GltfDiffuseTransmission
-    ensures { result ≡ shown_diffuse_transmission it.now }
-{
-    GltfDiffuseTransmission {
-        diffuse_transmission_factor: it.diffuse_transmission_factor.value(),
-        diffuse_transmission_color_factor: it.diffuse_transmission_color_factor.values(),
-        diffuse_transmission: info_use(it.diffuse_transmission_texture),
-        diffuse_transmission_color: info_use(it.diffuse_transmission_color_texture),
-        reserved: [0; 4],
+impl ShownOf<DiffuseTransmission> for GltfDiffuseTransmission {
+    ghost shown = { shown_diffuse_transmission };
+
+    fn shown_of(it: &DiffuseTransmission) -> GltfDiffuseTransmission {
+        GltfDiffuseTransmission {
+            diffuse_transmission_factor: it.diffuse_transmission_factor.value(),
+            diffuse_transmission_color_factor: it.diffuse_transmission_color_factor.values(),
+            diffuse_transmission: info_use(it.diffuse_transmission_texture),
+            diffuse_transmission_color: info_use(it.diffuse_transmission_color_texture),
+            reserved: [0; 4],
+        }
     }
 }

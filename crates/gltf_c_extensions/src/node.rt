@@ -3,7 +3,7 @@ ghost use Rattle.std.specs.Prelude.{◌≡◌};
 ghost use Rattle.gltf_c_extensions.specs.Nodes.{IsInstancing, IsVisibility};
 ghost use Rattle.gltf_c_extensions.specs.Nodes.{shown_instancing, shown_visibility};
 
-use crate::reading::{Missing, read_at};
+use crate::reading::{Missing, ShownOf, shown_at};
 use gltf_c_scene::kind::Kind;
 use gltf_c_scene::numbers::{index_or_none, one_or_zero};
 use gltf_extension_records::node::{MeshGpuInstancing, NodeVisibility};
@@ -40,18 +40,25 @@ pub struct GltfVisibility {
 pub fn instancing(alloc: Global, root: &Root, index: usize) -> Result<GltfInstancing, Missing>
     ensures { IsInstancing index root.now result }
 {
-    let it = read_at(alloc, root, Kind::Nodes, index, "EXT_mesh_gpu_instancing")?;
-    Ok(shown_instancing(&it))
+    shown_at::<MeshGpuInstancing, GltfInstancing>(
+        alloc,
+        root,
+        Kind::Nodes,
+        index,
+        "EXT_mesh_gpu_instancing",
+    )
 }
 
-fn shown_instancing(it: &MeshGpuInstancing) -> GltfInstancing
-    ensures { result ≡ shown_instancing it.now }
-{
-    GltfInstancing {
-        translation: index_or_none(it.attributes.translation),
-        rotation: index_or_none(it.attributes.rotation),
-        scale: index_or_none(it.attributes.scale),
-        reserved: [0; 5],
+impl ShownOf<MeshGpuInstancing> for GltfInstancing {
+    ghost shown = { shown_instancing };
+
+    fn shown_of(it: &MeshGpuInstancing) -> GltfInstancing {
+        GltfInstancing {
+            translation: index_or_none(it.attributes.translation),
+            rotation: index_or_none(it.attributes.rotation),
+            scale: index_or_none(it.attributes.scale),
+            reserved: [0; 5],
+        }
     }
 }
 
@@ -59,16 +66,23 @@ fn shown_instancing(it: &MeshGpuInstancing) -> GltfInstancing
 pub fn visibility(alloc: Global, root: &Root, index: usize) -> Result<GltfVisibility, Missing>
     ensures { IsVisibility index root.now result }
 {
-    let it = read_at(alloc, root, Kind::Nodes, index, "KHR_node_visibility")?;
-    Ok(shown_visibility(&it))
+    shown_at::<NodeVisibility, GltfVisibility>(
+        alloc,
+        root,
+        Kind::Nodes,
+        index,
+        "KHR_node_visibility",
+    )
 }
 
-fn shown_visibility(it: &NodeVisibility) -> GltfVisibility
-    ensures { result ≡ shown_visibility it.now }
-{
-    GltfVisibility {
-        visible: one_or_zero(it.visible),
-        reserved_word: 0,
-        reserved: [0; 3],
+impl ShownOf<NodeVisibility> for GltfVisibility {
+    ghost shown = { shown_visibility };
+
+    fn shown_of(it: &NodeVisibility) -> GltfVisibility {
+        GltfVisibility {
+            visible: one_or_zero(it.visible),
+            reserved_word: 0,
+            reserved: [0; 3],
+        }
     }
 }

@@ -2,7 +2,7 @@
 ghost use Rattle.std.specs.Prelude.{◌≡◌};
 ghost use Rattle.serde_json.specs.View.{view};
 ghost use Rattle.gltf_c_look.specs.Json.{extension_at};
-ghost use Rattle.gltf_c_extensions.specs.Reading.{IsValid, IsRead};
+ghost use Rattle.gltf_c_extensions.specs.Reading.{IsValid, IsRead, IsShown};
 
 use gltf_c_look::json::extension_at;
 use gltf_c_scene::kind::Kind;
@@ -52,7 +52,7 @@ fn read_valid<R: FromValue + Validate>(
 }
 
 /// The reading of an extension of the record of a kind at an index.
-pub(crate) fn read_at<R: FromValue + Validate>(
+fn read_at<R: FromValue + Validate>(
     alloc: Global,
     root: &Root,
     kind: Kind,
@@ -64,5 +64,30 @@ pub(crate) fn read_at<R: FromValue + Validate>(
     match extension_at(root, kind, index, name) {
         Some(value) => read_valid(alloc, root, value),
         None => Err(Missing::Absent),
+    }
+}
+
+/// A struct that C sees of a reading.
+pub(crate) trait ShownOf<R> {
+    /// The struct of a reading.
+    ghost shown: { R → Self };
+
+    fn shown_of(it: &R) -> Self
+        ensures { result ≡ shown it.now };
+}
+
+/// What C sees of an extension of the record of a kind at an index.
+pub(crate) fn shown_at<R: FromValue + Validate, S: ShownOf<R>>(
+    alloc: Global,
+    root: &Root,
+    kind: Kind,
+    index: usize,
+    name: &str,
+) -> Result<S, Missing>
+    ensures { IsShown R.kind R.rules S.shown kind name.now index root.now result }
+{
+    match read_at(alloc, root, kind, index, name) {
+        Ok(it) => Ok(S::shown_of(&it)),
+        Err(missing) => Err(missing),
     }
 }

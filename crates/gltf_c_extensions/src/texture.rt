@@ -2,7 +2,7 @@
 ghost use Rattle.std.specs.Prelude.{◌≡◌};
 ghost use Rattle.gltf_c_extensions.specs.Textures.{IsBasisu, IsWebp, shown_texture_source};
 
-use crate::reading::{Missing, read_at};
+use crate::reading::{Missing, ShownOf, shown_at};
 use gltf_c_scene::kind::Kind;
 use gltf_c_scene::numbers::index_or_none;
 use gltf_extension_records::texture::TextureSource;
@@ -23,23 +23,35 @@ pub struct GltfTextureSource {
 pub fn basisu(alloc: Global, root: &Root, index: usize) -> Result<GltfTextureSource, Missing>
     ensures { IsBasisu index root.now result }
 {
-    let it = read_at(alloc, root, Kind::Textures, index, "KHR_texture_basisu")?;
-    Ok(shown_texture_source(&it))
+    shown_at::<TextureSource, GltfTextureSource>(
+        alloc,
+        root,
+        Kind::Textures,
+        index,
+        "KHR_texture_basisu",
+    )
 }
 
 /// The image of the texture at an index in the format WebP (`EXT_texture_webp`).
 pub fn webp(alloc: Global, root: &Root, index: usize) -> Result<GltfTextureSource, Missing>
     ensures { IsWebp index root.now result }
 {
-    let it = read_at(alloc, root, Kind::Textures, index, "EXT_texture_webp")?;
-    Ok(shown_texture_source(&it))
+    shown_at::<TextureSource, GltfTextureSource>(
+        alloc,
+        root,
+        Kind::Textures,
+        index,
+        "EXT_texture_webp",
+    )
 }
 
-fn shown_texture_source(it: &TextureSource) -> GltfTextureSource
-    ensures { result ≡ shown_texture_source it.now }
-{
-    GltfTextureSource {
-        image: index_or_none(it.source),
-        reserved: [0; 3],
+impl ShownOf<TextureSource> for GltfTextureSource {
+    ghost shown = { shown_texture_source };
+
+    fn shown_of(it: &TextureSource) -> GltfTextureSource {
+        GltfTextureSource {
+            image: index_or_none(it.source),
+            reserved: [0; 3],
+        }
     }
 }

@@ -4,7 +4,7 @@ ghost use Rattle.gltf_handles.specs.Sizes.{code_of};
 ghost use Rattle.gltf_c_extensions.specs.Views.{IsMeshopt, shown_meshopt};
 ghost use Rattle.gltf_c_extensions.specs.Views.{mode_number, filter_number};
 
-use crate::reading::{Missing, read_at};
+use crate::reading::{Missing, ShownOf, shown_at};
 use gltf_c_scene::kind::Kind;
 use gltf_extension_records::view::{MeshoptCompression, MeshoptFilter, MeshoptMode};
 use gltf_json::Root;
@@ -37,28 +37,29 @@ pub struct GltfMeshopt {
 pub fn meshopt(alloc: Global, root: &Root, index: usize) -> Result<GltfMeshopt, Missing>
     ensures { IsMeshopt index root.now result }
 {
-    let it = read_at(
+    shown_at::<MeshoptCompression, GltfMeshopt>(
         alloc,
         root,
         Kind::BufferViews,
         index,
         "EXT_meshopt_compression",
-    )?;
-    Ok(shown_meshopt(&it))
+    )
 }
 
-fn shown_meshopt(it: &MeshoptCompression) -> GltfMeshopt
-    ensures { result ≡ shown_meshopt it.now }
-{
-    GltfMeshopt {
-        buffer: it.buffer.value(),
-        byte_offset: it.byte_offset as usize,
-        byte_length: it.byte_length as usize,
-        byte_stride: it.byte_stride as usize,
-        count: it.count as usize,
-        mode: mode_number(it.mode),
-        filter: filter_number(it.filter),
-        reserved: [0; 2],
+impl ShownOf<MeshoptCompression> for GltfMeshopt {
+    ghost shown = { shown_meshopt };
+
+    fn shown_of(it: &MeshoptCompression) -> GltfMeshopt {
+        GltfMeshopt {
+            buffer: it.buffer.value(),
+            byte_offset: it.byte_offset as usize,
+            byte_length: it.byte_length as usize,
+            byte_stride: it.byte_stride as usize,
+            count: it.count as usize,
+            mode: mode_number(it.mode),
+            filter: filter_number(it.filter),
+            reserved: [0; 2],
+        }
     }
 }
 
