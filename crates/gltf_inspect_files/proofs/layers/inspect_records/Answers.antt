@@ -1,5 +1,5 @@
-use Rattle.std.proofs.Common.{◌≡◌, ◌≢◌, [], inl, subst}
-use Rattle.std.specs.Prelude.{IfNone}
+use Rattle.std.proofs.Common.{◌≡◌, ◌≢◌, ◌∙◌, [], inl, subst, sym, ap}
+use Rattle.std.specs.Prelude.{IfNone, IfSome}
 use Rattle.gltf_buffers.specs.Shown.{blob_bytes}
 use Rattle.gltf_validation.specs.Documents.{Faults}
 use Rattle.gltf_inspect_files.specs.Reports.{records_findings}
@@ -19,3 +19,10 @@ returns-in-None g c = λ bytes document only.
       same = subst (λ r. c.in_ok-records.records ≡ records_findings r) c.into_json-root.ensures
           c.in_ok-records.ensures;
     })
+
+pub inspect_valid-requires-clause-records : goal.inspect_valid-requires-clause-records
+inspect_valid-requires-clause-records g c =
+    let root = c.into_json-root.result in
+    let valid = subst (λ o. IfSome o (λ d. (d ≡ root) × (Faults root ≡ []))) c.in-Some.is
+    c.in_ok-document.ensures.valid in
+    c.in_ok-records.ensures ∙ ap records_findings (sym valid.0)
