@@ -1,8 +1,8 @@
 //! A report as JSON, with what the document holds.
-use crate::message::message;
 use gltf_findings::report::Report;
 use gltf_json::root::Root;
 use gltf_json_geometry::semantic::Semantic;
+use gltf_messages::message;
 use serde_json::{Value, json, put};
 use std::alloc::{AllocError, Global};
 

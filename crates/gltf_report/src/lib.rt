@@ -2,9 +2,7 @@
 #![tactic(auto)]
 
 pub mod json;
-mod kinds;
 mod layout;
-mod message;
 pub mod page;
 mod picture;
 mod table;

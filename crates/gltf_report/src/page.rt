@@ -1,6 +1,5 @@
 //! A report as one page of HTML, which links to nothing.
 use crate::layout::{HEAD, TAIL};
-use crate::message::message;
 use crate::picture::{add_number, picture};
 use crate::tables::{PARTS, table};
 use crate::text::shown_pointer;
@@ -10,6 +9,7 @@ use gltf_findings::code::Severity;
 use gltf_findings::report::Report;
 use gltf_html::escape::{add_data, add_text};
 use gltf_json::root::Root;
+use gltf_messages::message;
 use serde_json::Value;
 use std::alloc::{AllocError, Global};
 

@@ -1,11 +1,11 @@
 //! A report as text.
-use crate::message::message;
 use crate::tables::{PARTS, table};
 use gltf::Error;
 use gltf_findings::code::Severity;
 use gltf_findings::report::Report;
 use gltf_json::root::Root;
 use gltf_json_record::path::Path;
+use gltf_messages::message;
 use serde_json::Value;
 use std::alloc::{AllocError, Global};
 use std::io::{self, Write};

@@ -42,7 +42,7 @@ fn compared(found: u64, wanted: Wanted) -> Option<Numbers> {
 /// The text of a finding at a place, with its numbers where there is a document and it is about
 /// numbers of records, and with its kinds where there is the JSON value of the file and it is about
 /// the kind of a part. Fails where there is no memory.
-pub(crate) fn message(
+pub fn message(
     alloc: Global,
     root: Option<&Root>,
     value: Option<&Value>,

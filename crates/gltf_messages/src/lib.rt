@@ -1,0 +1,8 @@
+//! What the messages of a report say: the sentence of a code, with what was found and what was
+//! wanted.
+#![tactic(auto)]
+
+mod kinds;
+mod message;
+
+pub use message::message;
