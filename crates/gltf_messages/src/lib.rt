@@ -3,6 +3,4 @@
 #![tactic(auto)]
 
 mod kinds;
-mod message;
-
-pub use message::message;
+pub mod message;

@@ -2,7 +2,7 @@
 use gltf_findings::report::Report;
 use gltf_json::root::Root;
 use gltf_json_geometry::semantic::Semantic;
-use gltf_messages::message;
+use gltf_messages::message::message;
 use serde_json::{Value, json, put};
 use std::alloc::{AllocError, Global};
 

@@ -9,7 +9,7 @@ use gltf_findings::code::Severity;
 use gltf_findings::report::Report;
 use gltf_html::escape::{add_data, add_text};
 use gltf_json::root::Root;
-use gltf_messages::message;
+use gltf_messages::message::message;
 use serde_json::Value;
 use std::alloc::{AllocError, Global};
 

@@ -5,7 +5,7 @@ use gltf_findings::code::Severity;
 use gltf_findings::report::Report;
 use gltf_json::root::Root;
 use gltf_json_record::path::Path;
-use gltf_messages::message;
+use gltf_messages::message::message;
 use serde_json::Value;
 use std::alloc::{AllocError, Global};
 use std::io::{self, Write};
