@@ -477,7 +477,7 @@ def of_indices(name, *found, infos=0, mode="TRIANGLES"):
 # Extensions that a file uses, one of which is required.
 USED = {"extensionsUsed": ["KHR_materials_unlit", "KHR_materials_sheen", "STUDIO"],
         "extensionsRequired": ["KHR_materials_unlit"]}
-UNKNOWN = [("UNSUPPORTED_EXTENSION", f"/extensionsUsed/{i}") for i in (1, 2)]
+UNREAD = [("UNSUPPORTED_EXTENSION", f"/extensionsUsed/{i}") for i in (1, 2)]
 EXTENDED = "EXTENSIONS\n# name                required read\n" \
     "0 KHR_materials_unlit true     document\n" \
     "1 KHR_materials_sheen false    handles\n" \
@@ -552,9 +552,9 @@ SHOWS += [
     of_indices("thin.gltf", ("ACCESSOR_INDEX_TRIANGLE_DEGENERATE", INDICES), infos=1),
     of_indices("strip.gltf", mode="TRIANGLE_STRIP"),
     (["inspect", "extended.gltf"], 0,
-     told("extended.gltf", *UNKNOWN, infos=2, holds=tables(EXTENSIONS=EXTENDED)), ""),
+     told("extended.gltf", *UNREAD, infos=2, holds=tables(EXTENSIONS=EXTENDED)), ""),
     (["inspect", "--json", "extended.gltf"], 0,
-     told_json("extended.gltf", *UNKNOWN, infos=2, info=EXTENDED_INFO), ""),
+     told_json("extended.gltf", *UNREAD, infos=2, info=EXTENDED_INFO), ""),
     (["inspect", "--", "--dashed.gltf"], 0, told("--dashed.gltf", holds=tables()), ""),
     (["inspect", "--json", "--", "empty.gltf", "--dashed.gltf"], 0,
      told_json("empty.gltf", info=INFO) + told_json("--dashed.gltf", info=INFO), ""),
