@@ -49,7 +49,8 @@ pub(crate) fn raw_document_of(
     ensures only { IfOk result (λ read. IsOnlyDocument (cow_slice_items bytes.entry) read.0
         (blob_bytes read.1)) }
     ensures refused { IfErr result (OutOfMemoryOr (RefusesRecords (cow_slice_items bytes.entry))) }
-    ensures exact { IfErr result (λ e. e ≢ Memory → IsNoDocument (cow_slice_items bytes.entry)) }
+    ensures exact { IfErr result
+        (λ e. e ≢ Memory → IsNoDocument (cow_slice_items bytes.entry)) }
 {
     let (root, blob) = root_of(alloc, bytes)?;
     let blob = owned_blob(alloc, blob)?;
@@ -63,7 +64,8 @@ fn root_of(alloc: Global, bytes: CowSlice<'_, u8>) -> Result<(Root, Option<CowSl
     ensures only { IfOk result (λ read. IsOnlyDocument (cow_slice_items bytes.entry) read.0
         (items_of read.1)) }
     ensures refused { IfErr result (OutOfMemoryOr (RefusesRecords (cow_slice_items bytes.entry))) }
-    ensures exact { IfErr result (λ e. e ≢ Memory → IsNoDocument (cow_slice_items bytes.entry)) }
+    ensures exact { IfErr result
+        (λ e. e ≢ Memory → IsNoDocument (cow_slice_items bytes.entry)) }
 {
     let (text, blob) = parts_of(alloc, bytes)?;
     let root = deserialize::from_slice(alloc, text.as_slice())?;
@@ -83,7 +85,8 @@ fn parts_of(
         → (text ≡ cow_slice_items parts.0) × (blob ≡ items_of parts.1)) }
     ensures refused { IfErr result
         (OutOfMemoryOr (RefusesContainer (cow_slice_items bytes.entry))) }
-    ensures exact { IfErr result (λ e. e ≢ Memory → (text : List ℕ) (blob : Option (List ℕ))
+    ensures exact { IfErr result (λ e. e ≢ Memory
+        → (text : List ℕ) (blob : Option (List ℕ))
         → AreParts (cow_slice_items bytes.entry) text blob → ⊥) }
 {
     if bytes.as_slice().starts_with(b"glTF") {

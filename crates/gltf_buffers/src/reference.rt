@@ -1,5 +1,6 @@
 //! What a URI leads to, and the blob.
-ghost use Rattle.std.specs.Prelude.{◌≡◌, Ok, Err, IfOk, IfErr, OnOk, OnErr, Some, None, is_some};
+ghost use Rattle.std.specs.Prelude.{◌≡◌, Ok, Err, IfOk, IfErr, OnOk, OnErr, Some, None};
+ghost use Rattle.std.specs.Prelude.{is_some};
 ghost use Rattle.std.specs.Prelude.{if◌then◌else◌, option_copied};
 ghost use Rattle.gltf_buffers.specs.Buffers.{IsMeant, IsDataOf, LeadsTo, blob_or_fault};
 ghost use Rattle.gltf_buffers.specs.Buffers.{filled_bytes};

@@ -1,5 +1,6 @@
 //! The bytes of images that have URIs.
-ghost use Rattle.std.specs.Prelude.{◌≡◌, ◌++◌, ℕ, List, Ok, IfOk, IfErr, OnOk, option_copied};
+ghost use Rattle.std.specs.Prelude.{◌≡◌, ◌++◌, ℕ, List, Ok, IfOk, IfErr, OnOk};
+ghost use Rattle.std.specs.Prelude.{option_copied};
 ghost use Rattle.std.specs.Prelude.{false, codes};
 ghost use Rattle.serde_json.specs.View.{view, items_view};
 ghost use Rattle.gltf_buffers.specs.Shown.{bytes_of_each};

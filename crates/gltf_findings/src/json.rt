@@ -72,7 +72,8 @@ impl Report {
 
     /// The text of that JSON, on one line. Read back, it is the report again.
     pub fn json_text(&self, alloc: Global, uri: &str) -> Result<String, AllocError>
-        ensures { IfOk result (λ s. read (string_bytes s) ≡ Some (report_data uri.now self.now)) }
+        ensures { IfOk result (λ s. read (string_bytes s)
+            ≡ Some (report_data uri.now self.now)) }
     {
         let value = self.to_json(alloc, uri)?;
         let text = value.to_string(alloc)?;

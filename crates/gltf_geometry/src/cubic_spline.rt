@@ -1,6 +1,7 @@
 //! The keyframes of cubic splines.
 
-ghost use Rattle.std.specs.Prelude.{◌≡◌, ◌≢◌, ◌+◌, ◌*◌, ◌%◌, ◌<◌, Some, length, slice_get};
+ghost use Rattle.std.specs.Prelude.{◌≡◌, ◌≢◌, ◌+◌, ◌*◌, ◌%◌, ◌<◌, Some};
+ghost use Rattle.std.specs.Prelude.{length, slice_get};
 ghost use Rattle.std.specs.Prelude.{MatchOption};
 ghost use Rattle.gltf_geometry.specs.Items.{items_left};
 ghost use Rattle.gltf_geometry.specs.Splines.{keyframes};

@@ -15,7 +15,8 @@ ghost use Rattle.gltf_inspect.specs.Documents.{root_checks};
 /// and is false.
 pub fn a_code_is_found_exactly_where_its_condition_fails()
     ensures { (r : Root) (path : List Place) (code : Code)
-        → Contains (findings_of [] (root_checks r)) (path, code) ↔ Fails (root_checks r) path code }
+        → Contains (findings_of [] (root_checks r)) (path, code)
+        ↔ Fails (root_checks r) path code }
 {
     gltf_findings::laws::a_finding_is_a_condition_that_fails()
 }

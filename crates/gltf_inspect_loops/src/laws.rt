@@ -1,6 +1,7 @@
 //! Laws of loops among nodes, and of joints and skeletons where there is none. Each is the contract
 //! of a function that does nothing.
-ghost use Rattle.std.specs.Prelude.{List, Some, [], ◌∷◌, ◌≡◌, ◌↔◌, ◌≤◌, ℕ, suc, length, codes};
+ghost use Rattle.std.specs.Prelude.{List, Some, [], ◌∷◌, ◌≡◌, ◌↔◌, ◌≤◌};
+ghost use Rattle.std.specs.Prelude.{ℕ, suc, length, codes};
 ghost use Rattle.std.specs.List.{Contains};
 ghost use Rattle.gltf_json.specs.declared.root.Root.{Root};
 ghost use Rattle.gltf_json_record.specs.Place.{Place, named, numbered};

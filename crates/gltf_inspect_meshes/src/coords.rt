@@ -102,7 +102,8 @@ fn fits_normal(
     attributes: &BTreeMap<Semantic, Index<kinds::Accessor>>,
     normal: Option<&NormalTexture>,
 ) -> bool
-    ensures { result ≡ holds_of (fits_normal attributes.now.entries) (option_copied normal.entry) }
+    ensures { result
+        ≡ holds_of (fits_normal attributes.now.entries) (option_copied normal.entry) }
 {
     match normal {
         Some(it) => it.extensions.is_some() || has_coords(attributes, it.tex_coord),
@@ -172,7 +173,8 @@ fn fits_volume(
     attributes: &BTreeMap<Semantic, Index<kinds::Accessor>>,
     volume: Option<&extended::Volume>,
 ) -> bool
-    ensures { result ≡ holds_of (fits_volume attributes.now.entries) (option_copied volume.entry) }
+    ensures { result
+        ≡ holds_of (fits_volume attributes.now.entries) (option_copied volume.entry) }
 {
     match volume {
         Some(it) => fits_info(attributes, it.thickness_texture.as_ref()),

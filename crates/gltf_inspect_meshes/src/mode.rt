@@ -34,7 +34,8 @@ pub(crate) fn tell_mode(
 }
 
 fn drawn(accessors: &[Accessor], primitive: &Primitive) -> Option<u64>
-    ensures { result ≡ drawn accessors.now primitive.now.indices primitive.now.attributes.entries }
+    ensures { result
+        ≡ drawn accessors.now primitive.now.indices primitive.now.attributes.entries }
 {
     match primitive.indices {
         Some(index) => count_at(accessors, index.value()),

@@ -1,5 +1,6 @@
 //! Many steps to the parent at once.
-ghost use Rattle.std.specs.Prelude.{◌≡◌, ◌/◌, OnOk, IfOk, nat_eq, get_or, if◌then◌else◌, map};
+ghost use Rattle.std.specs.Prelude.{◌≡◌, ◌/◌, OnOk, IfOk, nat_eq, get_or};
+ghost use Rattle.std.specs.Prelude.{if◌then◌else◌, map};
 ghost use Rattle.gltf_inspect_nodes.specs.Roots.{led, are_fixed};
 ghost use Rattle.gltf_inspect_trees.specs.Climbs.{climb_of, first_climb, doubled, once, raised};
 ghost use Rattle.gltf_inspect_trees.specs.Climbs.{own_depths, deeper, climbed, reaches, moved};

@@ -1,6 +1,8 @@
 //! The indices that sparse accessors store (glTF 2.0, sections 5.2 and 5.3).
-ghost use Rattle.std.specs.Prelude.{◌≡◌, ◌+◌, ◌-◌, ◌*◌, ◌^◌, ◌<◌, ◌≤◌, nat_le, map};
-ghost use Rattle.std.specs.Prelude.{OnOk, IfSome, Some, None, SomeIff, if◌then◌else◌, slice_get};
+ghost use Rattle.std.specs.Prelude.{◌≡◌, ◌+◌, ◌-◌, ◌*◌, ◌^◌, ◌<◌};
+ghost use Rattle.std.specs.Prelude.{◌≤◌, nat_le, map};
+ghost use Rattle.std.specs.Prelude.{OnOk, IfSome, Some, None, SomeIff, if◌then◌else◌};
+ghost use Rattle.std.specs.Prelude.{slice_get};
 ghost use Rattle.std.specs.List.{list_any};
 ghost use Rattle.std.specs.Option.{option_copied};
 ghost use Rattle.gltf.specs.Shown.{bytes_of_each};
