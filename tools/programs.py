@@ -690,7 +690,7 @@ def ends_where_full(program, room, words, taken):
 
 
 def names_its_output(program, room):
-    """Whether a report that cannot be written is told of as that, and not as a fault of its file."""
+    """Whether a report that cannot be written is an error of the output, and not of its file."""
     with open("/dev/full", "wb") as full:
         how = {"cwd": room, "stdout": full, "stderr": subprocess.PIPE}
         ran = subprocess.run([program, *UNWRITTEN], preexec_fn=started(), **how)

@@ -32,9 +32,9 @@ sys.path.insert(0, str(c_tests.TESTS_OF_C))
 
 import expected
 
-# What the crate does not tell, of lines of expected.py: only that of used samplers, of what a
-# material or node states what the crate `gltf` tells, and no packet of the document itself.
-UNTOLD = re.compile(r"buffers \d+ waits:|animations \d+ samplers:|animationSamplers \d+ \d+ EXT_"
+# What the crate does not show, of lines of expected.py: only that of used samplers, of what a
+# material or node states what the crate `gltf` shows, and no packet of the document itself.
+UNSHOWN = re.compile(r"buffers \d+ waits:|animations \d+ samplers:|animationSamplers \d+ \d+ EXT_"
                     r"|root 0 status of packet:")
 # The factors of the extensions of a material, by the bit of the extension.
 FACTORS = {2: "diffuse_factor specular_glossiness_factor glossiness_factor",
@@ -202,10 +202,10 @@ expected.as_float = as_float
 
 
 def wanted_of(file, printed):
-    """The lines of expected.py that the crate tells of a file."""
+    """The lines of expected.py that the crate shows of a file."""
     expected.lines.clear()
     expected.print_file(file)
-    lines, told, bits = "\n".join(expected.lines).splitlines(), [], {}
+    lines, shown, bits = "\n".join(expected.lines).splitlines(), [], {}
     has_default = any(line.startswith("default ") for line in printed)
     for line in lines:
         about, _, value = line.partition(": ")
@@ -216,15 +216,15 @@ def wanted_of(file, printed):
         if member == "has":
             bits[record] = int(value) & 127
             line = f"{about}: {bits[record]}"
-        if UNTOLD.match(line) or (line.startswith("default ") and not has_default):
+        if UNSHOWN.match(line) or (line.startswith("default ") and not has_default):
             continue
-        if is_told(record, member, bits):
-            told.append(expected.meaning(line))
-    return told
+        if is_shown(record, member, bits):
+            shown.append(expected.meaning(line))
+    return shown
 
 
-def is_told(record, member, bits):
-    """Whether the crate tells of a member: a node has a matrix or its parts, and a material the
+def is_shown(record, member, bits):
+    """Whether the crate shows a member: a node has a matrix or its parts, and a material the
     factors of the extensions that it has."""
     if record.startswith("nodes") and member in ("matrix", "translation", "rotation", "scale"):
         return (member == "matrix") == bool(bits[record] & 1)
@@ -233,7 +233,7 @@ def is_told(record, member, bits):
 
 
 def listed(file):
-    """What the crate tells of a file."""
+    """What the crate shows of a file."""
     return c.ran(OUT / "debug" / "examples" / "list", file, env=known()).splitlines()
 
 

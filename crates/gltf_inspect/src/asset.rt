@@ -13,7 +13,7 @@ use gltf_json_scene::asset::Asset;
 use gltf_validation::location::Location;
 use std::alloc::AllocError;
 
-/// Tells what is found in the versions of an asset.
+/// Reports what is found in the versions of an asset.
 pub(crate) fn tell_asset(
     asset: &Asset,
     location: &Location<'_>,

@@ -41,7 +41,7 @@ pub(crate) fn is_bounded(accessor: &Accessor) -> bool
     accessor.min.is_some() && accessor.max.is_some()
 }
 
-/// Tells what is found in each attribute, in the order of their meanings.
+/// Reports what is found in each attribute, in the order of their meanings.
 pub(crate) fn tell_attributes(
     accessors: &[Accessor],
     attributes: &BTreeMap<Semantic, Index<kinds::Accessor>>,

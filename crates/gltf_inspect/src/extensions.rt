@@ -11,7 +11,7 @@ use gltf_validation::location::Location;
 use gltf_validation::root::is_supported;
 use std::alloc::{AllocError, Global};
 
-/// Tells each used extension that is not known.
+/// Reports each used extension that is not known.
 pub(crate) fn tell_used(
     used: &[String],
     location: &Location<'_>,
@@ -27,7 +27,7 @@ pub(crate) fn tell_used(
     Ok(())
 }
 
-/// Tells each required extension that is not among the used ones.
+/// Reports each required extension that is not among the used ones.
 pub(crate) fn tell_required(
     alloc: Global,
     used: &[String],

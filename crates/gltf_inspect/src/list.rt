@@ -16,7 +16,7 @@ pub(crate) trait Inspect {
     /// The checks of a value, in this document.
     ghost checks: { Root → Self → Checks };
 
-    /// Tells what is found in a value, in order. Takes memory only for a finding.
+    /// Reports what is found in a value, in order. Takes memory only for a finding.
     fn inspect(
         &self,
         root: &Root,
@@ -27,7 +27,7 @@ pub(crate) trait Inspect {
             ≡ told_after findings.old (places_of location.now) (checks root.now self.now)) };
 }
 
-/// Tells what is found in each element of a list.
+/// Reports what is found in each element of a list.
 pub(crate) fn inspect_each<T: Inspect>(
     values: &[T],
     root: &Root,
@@ -43,7 +43,7 @@ pub(crate) fn inspect_each<T: Inspect>(
     Ok(())
 }
 
-/// Tells what is found in each element of the list at a member.
+/// Reports what is found in each element of the list at a member.
 pub(crate) fn inspect_list<T: Inspect>(
     values: &[T],
     name: &'static str,

@@ -14,7 +14,7 @@ use gltf_json_scene::scene::Node;
 use gltf_validation::location::Location;
 use std::alloc::{AllocError, Global};
 
-/// Tells each child that an earlier child is too. Takes a byte a node.
+/// Reports each child that an earlier child is too. Takes a byte a node.
 pub(crate) fn tell_parents(
     alloc: Global,
     nodes: &[Node],

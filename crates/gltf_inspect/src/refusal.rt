@@ -10,7 +10,7 @@ use gltf_json_record::path::{Path, Step};
 use gltf_validation::error::Error;
 use std::alloc::{AllocError, Global};
 
-/// Tells each broken rule.
+/// Reports each broken rule.
 pub(crate) fn tell_refusals(
     alloc: Global,
     faults: &[(Path, Error)],

@@ -13,7 +13,7 @@ use gltf_uses::{Kind, unused};
 use gltf_validation::location::Location;
 use std::alloc::{AllocError, Global};
 
-/// Tells each object that no member names. Takes a byte an object.
+/// Reports each object that no member names. Takes a byte an object.
 pub(crate) fn tell_unused(
     alloc: Global,
     root: &Root,
@@ -63,7 +63,7 @@ fn tell_later(
     tell_list(alloc, root, Kind::Light, "lights", &extension, findings)
 }
 
-/// Tells the objects of one list, which stands at the member of this name.
+/// Reports the objects of one list, which stands at the member of this name.
 fn tell_list(
     alloc: Global,
     root: &Root,

@@ -1,4 +1,4 @@
-//! What has extensions, and what is told of them.
+//! What has extensions, and what is reported of them.
 ghost use Rattle.std.specs.Prelude.{◌≡◌, OnOk, codes};
 ghost use Rattle.std.specs.Option.{option_copied};
 ghost use Rattle.gltf_validation.specs.Locations.{places_of};
@@ -23,7 +23,7 @@ pub(crate) trait Extended {
     /// The checks of a value, where these names are declared.
     ghost checks: { Names → Self → Checks };
 
-    /// Tells each extension that is used in a value and not among the declared ones, in order.
+    /// Reports each extension that is used in a value and not among the declared ones, in order.
     fn tell(
         &self,
         used: &NameSet,

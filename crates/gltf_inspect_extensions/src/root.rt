@@ -18,10 +18,10 @@ use gltf_json::root::Root;
 use gltf_validation::location::Location;
 use std::alloc::{AllocError, Global};
 
-/// Tells each extension that is used in a record of a document and not among its `extensionsUsed`:
-/// in the asset, the document itself, and each element of its lists. What is in records of which
-/// the reader keeps no extensions, as channels of animations, is not looked at. Takes memory for
-/// the declared names and for a finding, and fails where there is none.
+/// Reports each extension that is used in a record of a document and not among its
+/// `extensionsUsed`: in the asset, the document itself, and each element of its lists. What is in
+/// records of which the reader keeps no extensions, as channels of animations, is not looked at.
+/// Takes memory for the declared names and for a finding, and fails where there is none.
 pub fn inspect_extensions(
     alloc: Global,
     root: &Root,

@@ -127,7 +127,7 @@ struct Drawn {
     triangles: bool,
 }
 
-/// Tells what is found in the indices at an accessor, read as numbers of this type.
+/// Reports what is found in the indices at an accessor, read as numbers of this type.
 fn tell_numbers<T: Number>(
     document: &Document,
     buffers: &[Data],
@@ -226,7 +226,7 @@ fn tell_primitives(
     Ok(())
 }
 
-/// Tells what is found in the indices of each mesh.
+/// Reports what is found in the indices of each mesh.
 pub(crate) fn tell_meshes(
     document: &Document,
     buffers: &[Data],

@@ -29,7 +29,7 @@ use gltf_validation::location::Location;
 use std::alloc::AllocError;
 use std::collections::BTreeMap;
 
-/// Tells a primitive without a set of texture coordinates that its material uses.
+/// Reports a primitive without a set of texture coordinates that its material uses.
 pub(crate) fn tell_coords(
     root: &Root,
     primitive: &Primitive,

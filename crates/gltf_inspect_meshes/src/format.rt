@@ -30,7 +30,7 @@ pub(crate) fn declares_quantization(root: &Root) -> bool
     is_among("KHR_mesh_quantization", root.extensions_used.as_slice())
 }
 
-/// Tells what is found in the format of each attribute, in the order of their meanings.
+/// Reports what is found in the format of each attribute, in the order of their meanings.
 pub(crate) fn tell_formats(
     root: &Root,
     quantized: bool,

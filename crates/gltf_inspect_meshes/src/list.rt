@@ -17,7 +17,7 @@ pub(crate) trait Inspect {
     /// The checks of a value, in this document, which may declare `KHR_mesh_quantization`.
     ghost checks: { Root → Bool → Self → Checks };
 
-    /// Tells what is found in a value, in order. Takes memory only for a finding.
+    /// Reports what is found in a value, in order. Takes memory only for a finding.
     fn inspect(
         &self,
         root: &Root,
@@ -30,7 +30,7 @@ pub(crate) trait Inspect {
             (checks root.now is_quantized self.now)) };
 }
 
-/// Tells what is found in each element of a list.
+/// Reports what is found in each element of a list.
 pub(crate) fn inspect_each<T: Inspect>(
     values: &[T],
     root: &Root,
@@ -47,7 +47,7 @@ pub(crate) fn inspect_each<T: Inspect>(
     Ok(())
 }
 
-/// Tells what is found in each element of the list at a member.
+/// Reports what is found in each element of the list at a member.
 pub(crate) fn inspect_list<T: Inspect>(
     values: &[T],
     name: &'static str,

@@ -11,7 +11,7 @@ use gltf_json::root::Root;
 use gltf_validation::location::Location;
 use std::alloc::AllocError;
 
-/// Tells what is found in the meshes of a document, in order: the sets and formats of attributes,
+/// Reports what is found in the meshes of a document, in order: the sets and formats of attributes,
 /// what is drawn, texture coordinates, morph targets and weights. Takes memory only for a finding,
 /// and fails where there is none.
 pub fn inspect_meshes(

@@ -13,7 +13,7 @@ use gltf_json_record::validation::Checked;
 use gltf_validation::location::Location;
 use std::alloc::AllocError;
 
-/// Tells whether what is drawn does not fit the mode.
+/// Reports whether what is drawn does not fit the mode.
 pub(crate) fn tell_mode(
     accessors: &[Accessor],
     primitive: &Primitive,

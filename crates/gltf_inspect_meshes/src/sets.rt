@@ -14,7 +14,7 @@ use gltf_validation::location::Location;
 use std::alloc::AllocError;
 use std::collections::BTreeMap;
 
-/// Tells what is found in the numbers of the sets.
+/// Reports what is found in the numbers of the sets.
 pub(crate) fn tell_sets(
     attributes: &BTreeMap<Semantic, Index<kinds::Accessor>>,
     location: &Location<'_>,

@@ -17,7 +17,7 @@ use gltf_json_record::kinds;
 use gltf_validation::location::Location;
 use std::alloc::AllocError;
 
-/// Tells what is found in each morph target of a primitive.
+/// Reports what is found in each morph target of a primitive.
 pub(crate) fn tell_targets(
     accessors: &[Accessor],
     primitive: &Primitive,

@@ -21,14 +21,14 @@ pub(crate) trait Entry {
     /// The number.
     ghost key: { Self → ℕ };
 
-    /// What is told of an element, by whether it is the first with its number.
+    /// What is reported of an element, by whether it is the first with its number.
     ghost told: { Bool → Checks };
 
     /// The number.
     fn key(&self) -> usize
         ensures { result ≡ key self.now };
 
-    /// Tells that an element is not the first with its number, where it is not.
+    /// Reports that an element is not the first with its number, where it is not.
     fn tell(
         &self,
         is_first: bool,

@@ -19,7 +19,7 @@ use gltf_json_scene::scene::{Node, Scene};
 use gltf_validation::location::Location;
 use std::alloc::{AllocError, Global};
 
-/// Tells what is found in the graph of nodes, in order: nodes of scenes that are children, empty
+/// Reports what is found in the graph of nodes, in order: nodes of scenes that are children, empty
 /// nodes, lists that name a node twice, and channels whose target an earlier channel has. Takes
 /// four bytes a node, and memory for a finding; fails where there is none.
 pub fn inspect_graph(

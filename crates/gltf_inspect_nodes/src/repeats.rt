@@ -15,8 +15,8 @@ use gltf_json_animation::animation::Animation;
 use gltf_validation::location::Location;
 use std::alloc::AllocError;
 
-/// Tells each node that the list at this member of an element names twice. No node is marked before
-/// and after.
+/// Reports each node that the list at this member of an element names twice. No node is marked
+/// before and after.
 pub(crate) fn tell_each<T: Names>(
     marks: &mut Vec<bool>,
     values: &[T],
@@ -37,7 +37,7 @@ pub(crate) fn tell_each<T: Names>(
     Ok(())
 }
 
-/// Tells each element of a list whose number an earlier one has. Nothing is marked before and
+/// Reports each element of a list whose number an earlier one has. Nothing is marked before and
 /// after.
 pub(crate) fn tell_repeats<E: Entry>(
     marks: &mut Vec<bool>,
@@ -73,7 +73,7 @@ fn tell_marked<E: Entry>(
     Ok(())
 }
 
-/// Tells each target that an earlier channel of its animation has. Nothing is marked before.
+/// Reports each target that an earlier channel of its animation has. Nothing is marked before.
 pub(crate) fn tell_targets(
     marks: &mut Vec<bool>,
     animations: &[Animation],

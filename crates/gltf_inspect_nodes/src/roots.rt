@@ -21,7 +21,7 @@ use gltf_json_scene::skin::Skin;
 use gltf_validation::location::Location;
 use std::alloc::{AllocError, Global};
 
-/// Tells each node that stands on a loop, and each skin whose joints have no common root. Takes
+/// Reports each node that stands on a loop, and each skin whose joints have no common root. Takes
 /// time n log n for so many nodes, 18 bytes a node, and memory for a finding; fails where there is
 /// none.
 pub fn inspect_roots(
@@ -91,7 +91,7 @@ fn tell_marked(
     Ok(())
 }
 
-/// Tells each skin whose joints lead to several roots.
+/// Reports each skin whose joints lead to several roots.
 fn tell_skins(
     ends: &[usize],
     skins: &[Skin],

@@ -25,7 +25,7 @@ use gltf_validation::location::Location;
 use std::alloc::{AllocError, Global};
 use std::collections::BTreeMap;
 
-/// Tells each view of vertices or of their indices that has no target. Takes a byte a view, and
+/// Reports each view of vertices or of their indices that has no target. Takes a byte a view, and
 /// memory for a finding; fails where there is none.
 pub fn inspect_views(
     alloc: Global,

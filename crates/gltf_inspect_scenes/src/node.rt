@@ -54,7 +54,7 @@ fn has_joints(attributes: &BTreeMap<Semantic, Index<kinds::Accessor>>) -> bool
     false
 }
 
-/// Tells what is found in each node, of its skin and of its weights.
+/// Reports what is found in each node, of its skin and of its weights.
 pub(crate) fn tell_nodes(
     root: &Root,
     skinned: &[bool],

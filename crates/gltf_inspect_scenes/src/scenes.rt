@@ -11,7 +11,7 @@ use gltf_json::root::Root;
 use gltf_validation::location::Location;
 use std::alloc::{AllocError, Global};
 
-/// Tells what is found in the nodes and animations of a document, in order: skins of nodes and
+/// Reports what is found in the nodes and animations of a document, in order: skins of nodes and
 /// their weights, animated weights, and the outputs of samplers. Takes a byte a mesh, and memory
 /// for a finding; fails where there is none.
 pub fn inspect_scenes(

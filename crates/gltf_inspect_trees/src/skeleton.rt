@@ -20,7 +20,7 @@ use gltf_json_scene::skin::Skin;
 use gltf_validation::location::Location;
 use std::alloc::{AllocError, Global};
 
-/// Tells each skin with a joint that is neither its skeleton nor below it, where no node is on a
+/// Reports each skin with a joint that is neither its skeleton nor below it, where no node is on a
 /// loop. Takes time n log d for n nodes and joints at a depth up to d, and memory for as many
 /// numbers where a skin has a skeleton; and memory for a finding. Fails where there is none.
 pub fn inspect_skeletons(

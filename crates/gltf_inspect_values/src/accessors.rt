@@ -20,7 +20,7 @@ use gltf_json_record::validation::Checked;
 use gltf_validation::location::Location;
 use std::alloc::AllocError;
 
-/// Tells whether a float of an accessor is infinite or not a number.
+/// Reports whether a float of an accessor is infinite or not a number.
 fn tell_floats(
     place: Place<'_>,
     accessor: &Accessor,
@@ -64,7 +64,7 @@ fn tell_accessor(
     tell_sparse(place, accessor, location, findings)
 }
 
-/// Tells what is found in the values of each accessor.
+/// Reports what is found in the values of each accessor.
 pub(crate) fn tell_accessors(
     document: &Document,
     buffers: &[Data],

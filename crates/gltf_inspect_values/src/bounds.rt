@@ -78,7 +78,7 @@ fn elements(bound: &Option<Value>) -> &[Value]
     }
 }
 
-/// Tells whether a number is the least of a column, and whether another is below it.
+/// Reports whether a number is the least of a column, and whether another is below it.
 fn tell_least(
     place: Place<'_>,
     accessor: &Accessor,
@@ -99,7 +99,7 @@ fn tell_least(
     findings.tell(!below, Code::ElementOutOfMinBound, location)
 }
 
-/// Tells whether a number is the greatest of a column, and whether another is above it.
+/// Reports whether a number is the greatest of a column, and whether another is above it.
 fn tell_greatest(
     place: Place<'_>,
     accessor: &Accessor,
@@ -120,7 +120,7 @@ fn tell_greatest(
     findings.tell(!above, Code::ElementOutOfMaxBound, location)
 }
 
-/// Tells what is found in what is stated for a column.
+/// Reports what is found in what is stated for a column.
 fn tell_column(
     bound: Bound,
     place: Place<'_>,
@@ -223,7 +223,7 @@ fn are_looked_at(place: Place<'_>, accessor: &Accessor) -> bool
         && any_item(place, accessor, Question::Exists)
 }
 
-/// Tells what is found in the bounds of an accessor, where it has items without padding.
+/// Reports what is found in the bounds of an accessor, where it has items without padding.
 pub(crate) fn tell_bounds(
     place: Place<'_>,
     accessor: &Accessor,

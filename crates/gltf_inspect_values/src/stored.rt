@@ -157,7 +157,7 @@ fn any_past<T: Number>(mut items: ItemIter<'_, T>, count: u64) -> bool
     false
 }
 
-/// Tells what is found in the stored indices of an accessor of so many items.
+/// Reports what is found in the stored indices of an accessor of so many items.
 fn tell_stored<T: Number>(
     items: Option<ItemIter<'_, T>>,
     count: u64,
@@ -204,7 +204,7 @@ fn tell_typed(
     }
 }
 
-/// Tells what is found in the stored indices of an accessor, where it has some.
+/// Reports what is found in the stored indices of an accessor, where it has some.
 pub(crate) fn tell_sparse(
     place: Place<'_>,
     accessor: &Accessor,

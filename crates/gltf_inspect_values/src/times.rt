@@ -105,7 +105,7 @@ fn are_not_later(items: Option<Iter<'_, F32>>) -> bool
     }
 }
 
-/// Tells what is found in the times at an accessor.
+/// Reports what is found in the times at an accessor.
 fn tell_times(
     document: &Document,
     buffers: &[Data],
@@ -141,7 +141,7 @@ fn tell_samplers(
     Ok(())
 }
 
-/// Tells what is found in the times of each animation.
+/// Reports what is found in the times of each animation.
 pub(crate) fn tell_animations(
     document: &Document,
     buffers: &[Data],

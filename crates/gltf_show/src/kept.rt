@@ -10,7 +10,7 @@ const LONGEST: usize = 16_777_216;
 /// What is kept of a file.
 #[derive(Clone, Copy)]
 pub(crate) enum Part {
-    /// What tells its version: of a container its first eight bytes, else its text.
+    /// What its version is read from: of a container its first eight bytes, else its text.
     Version,
     /// Its JSON text.
     Text,

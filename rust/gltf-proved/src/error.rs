@@ -206,8 +206,8 @@ impl Error {
         }
     }
 
-    /// What is wrong and where, as the library tells it; None of [`Error::Io`], [`Error::NoMemory`]
-    /// and [`Error::BufferLength`], which are not about a member.
+    /// What is wrong and where, as the library reports it; None of [`Error::Io`],
+    /// [`Error::NoMemory`] and [`Error::BufferLength`], which are not about a member.
     pub fn fault(&self) -> Option<&Fault> {
         match self {
             Error::Io(_) | Error::NoMemory | Error::BufferLength { .. } => None,

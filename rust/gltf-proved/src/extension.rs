@@ -238,7 +238,7 @@ impl<'a> View<'a> {
 /// `EXT_mesh_gpu_instancing`: instances of the mesh of a node.
 ///
 /// Each of its accessors has an item for each instance. No rule says that it is there, or that
-/// their counts and types are the right ones: the accessors tell both.
+/// their counts and types are the right ones: the accessors say both.
 #[derive(Clone)]
 pub struct Instancing<'a> {
     document: &'a Document,
