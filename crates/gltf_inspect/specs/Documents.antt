@@ -1,40 +1,20 @@
 -- All checks of a document, in order.
 use Rattle.std.specs.Prelude.{length, codes, []}
 use Rattle.gltf_json.specs.declared.root.Root.{Root}
-use Rattle.gltf_findings.specs.Checks.{Checks, ◌&◌, member, list_checks}
-use Rattle.gltf_inspect.specs.Accessors.{accessor_checks}
-use Rattle.gltf_inspect.specs.Animations.{animation_checks}
-use Rattle.gltf_inspect.specs.Cameras.{camera_checks}
+use Rattle.gltf_findings.specs.Checks.{Checks, ◌&◌, member}
 use Rattle.gltf_inspect.specs.Extensions.{used_checks, required_checks}
-use Rattle.gltf_inspect.specs.Materials.{material_checks}
-use Rattle.gltf_inspect.specs.Meshes.{mesh_checks}
 use Rattle.gltf_inspect_extensions.specs.Documents.{undeclared_checks}
 use Rattle.gltf_inspect_meshes.specs.Meshes.{meshes_checks}
 use Rattle.gltf_inspect_nodes.specs.Graphs.{graph_checks}
 use Rattle.gltf_inspect_nodes.specs.Roots.{roots_checks}
 use Rattle.gltf_inspect_nodes.specs.ViewTargets.{view_targets_checks}
+use Rattle.gltf_inspect_records.specs.Records.{record_checks}
 use Rattle.gltf_inspect_scenes.specs.Scenes.{scenes_checks}
 use Rattle.gltf_inspect_trees.specs.Skeletons.{skeletons_checks}
 use Rattle.gltf_inspect.specs.Parents.{parents_checks}
 use Rattle.gltf_inspect.specs.Refusals.{root_refusals}
-use Rattle.gltf_inspect.specs.Scenes.{node_checks, skin_checks}
 use Rattle.gltf_inspect.specs.Unused.{root_unused_checks}
 use Rattle.gltf_inspect.specs.Versions.{asset_checks}
-use Rattle.gltf_inspect.specs.Views.{buffer_checks, view_checks, image_checks}
-
--- of each record by itself, and of what it names
-abbrev pub record_checks : Root → Checks
-record_checks r =
-    member (codes "accessors") (list_checks (accessor_checks r) r.accessors.items)
-    & member (codes "animations") (list_checks (animation_checks r) r.animations.items)
-    & member (codes "buffers") (list_checks (λ b. buffer_checks b) r.buffers.items)
-    & member (codes "bufferViews") (list_checks (view_checks r) r.buffer_views.items)
-    & member (codes "cameras") (list_checks (λ c. camera_checks c) r.cameras.items)
-    & member (codes "images") (list_checks (image_checks r) r.images.items)
-    & member (codes "materials") (list_checks (λ m. material_checks m) r.materials.items)
-    & member (codes "meshes") (list_checks (mesh_checks r) r.meshes.items)
-    & member (codes "nodes") (list_checks (λ n. node_checks n) r.nodes.items)
-    & member (codes "skins") (list_checks (skin_checks r) r.skins.items)
 
 -- of several records at once
 abbrev pub document_checks : Root → Checks

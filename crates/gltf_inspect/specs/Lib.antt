@@ -1,15 +1,7 @@
 pub mod Refusals
 pub mod Extensions
 pub mod Versions
-pub mod Views
-pub mod Accessors
-pub mod Cameras
-pub mod Materials
-pub mod Attributes
-pub mod Meshes
-pub mod Scenes
 pub mod Parents
 pub mod Marks
-pub mod Animations
 pub mod Unused
 pub mod Documents

@@ -4,12 +4,11 @@ ghost use Rattle.gltf_validation.specs.Locations.{places_of};
 ghost use Rattle.gltf_validation.specs.Documents.{counts_of, root_rules};
 ghost use Rattle.gltf_validation.specs.Rules.{broken, checks_at};
 ghost use Rattle.gltf_findings.specs.Checks.{told_after, findings_of};
-ghost use Rattle.gltf_inspect.specs.Documents.{record_checks, document_checks, root_checks};
+ghost use Rattle.gltf_inspect.specs.Documents.{document_checks, root_checks};
 ghost use Rattle.gltf_inspect.specs.Refusals.{root_refusals};
 
 use crate::asset::tell_asset;
 use crate::extensions::{tell_required, tell_used};
-use crate::list::inspect_list;
 use crate::parents::tell_parents;
 use crate::refusal::tell_refusals;
 use crate::unused::tell_unused;
@@ -21,6 +20,7 @@ use gltf_inspect_meshes::meshes::inspect_meshes;
 use gltf_inspect_nodes::graph::inspect_graph;
 use gltf_inspect_nodes::roots::inspect_roots;
 use gltf_inspect_nodes::view::inspect_views;
+use gltf_inspect_records::records::inspect_records;
 use gltf_inspect_scenes::scenes::inspect_scenes;
 use gltf_inspect_trees::skeleton::inspect_skeletons;
 use gltf_json::root::Root;
@@ -76,50 +76,6 @@ fn broken_rules(alloc: Global, root: &Root) -> Result<Vec<(Path, Error)>, AllocE
         ≡ broken (checks_at [] (root_rules (counts_of root.now) root.now))) }
 {
     faults_of(alloc, root, &Counts::of(root))
-}
-
-fn inspect_records(
-    root: &Root,
-    location: &Location<'_>,
-    findings: &mut Findings,
-) -> Result<(), AllocError>
-    ensures { OnOk result (findings.new ≡ told_after findings.old (places_of location.now)
-        (record_checks root.now)) }
-{
-    inspect_list(
-        root.accessors.as_slice(),
-        "accessors",
-        root,
-        location,
-        findings,
-    )?;
-    inspect_list(
-        root.animations.as_slice(),
-        "animations",
-        root,
-        location,
-        findings,
-    )?;
-    inspect_list(root.buffers.as_slice(), "buffers", root, location, findings)?;
-    inspect_list(
-        root.buffer_views.as_slice(),
-        "bufferViews",
-        root,
-        location,
-        findings,
-    )?;
-    inspect_list(root.cameras.as_slice(), "cameras", root, location, findings)?;
-    inspect_list(root.images.as_slice(), "images", root, location, findings)?;
-    inspect_list(
-        root.materials.as_slice(),
-        "materials",
-        root,
-        location,
-        findings,
-    )?;
-    inspect_list(root.meshes.as_slice(), "meshes", root, location, findings)?;
-    inspect_list(root.nodes.as_slice(), "nodes", root, location, findings)?;
-    inspect_list(root.skins.as_slice(), "skins", root, location, findings)
 }
 
 fn inspect_document(

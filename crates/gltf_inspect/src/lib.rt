@@ -2,19 +2,10 @@
 //! records, whether the rules of loading hold or not.
 #![tactic(auto)]
 
-mod accessor;
-mod animation;
 mod asset;
-mod attributes;
-mod camera;
 mod extensions;
 pub mod inspect;
 pub mod laws;
-mod list;
-mod material;
-mod mesh;
 mod parents;
 mod refusal;
-mod scene;
 mod unused;
-mod view;

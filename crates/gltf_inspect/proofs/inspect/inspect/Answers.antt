@@ -1,6 +1,7 @@
 use Rattle.std.proofs.Common.{[], ap, ◌∙◌, codes}
 use Rattle.gltf_findings.specs.Checks.{told_after, member}
-use Rattle.gltf_inspect.specs.Documents.{root_checks, record_checks, document_checks}
+use Rattle.gltf_inspect.specs.Documents.{root_checks, document_checks}
+use Rattle.gltf_inspect_records.specs.Records.{record_checks}
 use Rattle.gltf_inspect.specs.Refusals.{root_refusals}
 use Rattle.gltf_inspect.specs.Unused.{root_unused_checks}
 use Rattle.gltf_inspect.specs.Versions.{asset_checks}

@@ -3,7 +3,8 @@ use Rattle.std.specs.Prelude.{codes}
 use Rattle.gltf_json_record.specs.Place.{numbered}
 use Rattle.gltf_validation.specs.Documents.{counts_of, root_rules}
 use Rattle.gltf_findings.specs.Checks.{◌&◌, findings_of, member}
-use Rattle.gltf_inspect.specs.Documents.{record_checks, document_checks}
+use Rattle.gltf_inspect.specs.Documents.{document_checks}
+use Rattle.gltf_inspect_records.specs.Records.{record_checks}
 use Rattle.gltf_inspect.specs.Refusals.{root_refusals}
 use Rattle.gltf_inspect.specs.Versions.{asset_checks}
 use Rattle.gltf_inspect.specs.Unused.{root_unused_checks}

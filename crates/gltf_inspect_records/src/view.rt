@@ -2,8 +2,8 @@
 ghost use Rattle.std.specs.Prelude.{◌≡◌, OnOk, slice_get};
 ghost use Rattle.gltf_validation.specs.Locations.{places_of};
 ghost use Rattle.gltf_findings.specs.Checks.{told_after, optional_checks};
-ghost use Rattle.gltf_inspect.specs.Views.{buffer_checks, view_checks, image_checks, stride_checks};
-ghost use Rattle.gltf_inspect.specs.Views.{within_checks};
+ghost use Rattle.gltf_inspect_records.specs.Views.{buffer_checks, view_checks, image_checks, stride_checks};
+ghost use Rattle.gltf_inspect_records.specs.Views.{within_checks};
 
 use crate::list::Inspect;
 use gltf_findings::code::Code;

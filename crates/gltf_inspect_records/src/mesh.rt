@@ -2,9 +2,9 @@
 ghost use Rattle.std.specs.Prelude.{◌≡◌, OnOk};
 ghost use Rattle.gltf_validation.specs.Locations.{places_of};
 ghost use Rattle.gltf_findings.specs.Checks.{told_after, optional_checks};
-ghost use Rattle.gltf_inspect.specs.Meshes.{is_unsigned, is_scalar, indices_checks};
-ghost use Rattle.gltf_inspect.specs.Meshes.{primitive_checks, mesh_checks, has_attributes};
-ghost use Rattle.gltf_inspect.specs.Meshes.{all_attributes_checks, indices_index_checks};
+ghost use Rattle.gltf_inspect_records.specs.Meshes.{is_unsigned, is_scalar, indices_checks};
+ghost use Rattle.gltf_inspect_records.specs.Meshes.{primitive_checks, mesh_checks, has_attributes};
+ghost use Rattle.gltf_inspect_records.specs.Meshes.{all_attributes_checks, indices_index_checks};
 
 use crate::attributes::tell_attributes;
 use crate::list::{Inspect, inspect_each};

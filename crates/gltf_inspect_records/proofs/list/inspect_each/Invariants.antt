@@ -1,7 +1,7 @@
 use Rattle.std.proofs.Common.{◌≡◌, drop}
 use Rattle.gltf_validation.specs.Locations.{places_of}
 use Rattle.gltf_findings.specs.Checks.{told_after, elements_checks}
-use Rattle.gltf_inspect.proofs.list.inspect_each.Given as goal
+use Rattle.gltf_inspect_records.proofs.list.inspect_each.Given as goal
 
 -- what is left of the walk, after what was reported so far, is the whole of it
 abbrev pub invariant-loop-i : goal.invariant-loop-i

@@ -1,6 +1,6 @@
 //! Materials (glTF 2.0, section 3.9).
 ghost use Rattle.std.specs.Prelude.{◌≡◌};
-ghost use Rattle.gltf_inspect.specs.Materials.{is_mask, material_checks};
+ghost use Rattle.gltf_inspect_records.specs.Materials.{is_mask, material_checks};
 
 use crate::list::Inspect;
 use gltf_findings::code::Code;

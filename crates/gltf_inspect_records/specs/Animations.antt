@@ -16,8 +16,8 @@ use Rattle.gltf_findings.specs.declared.code.Code.TheVariants.{InputTooFewElemen
 use Rattle.gltf_findings.specs.Checks.{Checks, Condition, ◌&◌, member, optional_checks, list_checks}
 use Rattle.gltf_inspect_meshes.specs.Facts.{has_elements, is_bounded}
 use Rattle.gltf_inspect_scenes.specs.Outputs.{is_weights, is_spline}
-use Rattle.gltf_inspect.specs.Meshes.{is_scalar}
-use Rattle.gltf_inspect.specs.Scenes.{is_float}
+use Rattle.gltf_inspect_records.specs.Meshes.{is_scalar}
+use Rattle.gltf_inspect_records.specs.Scenes.{is_float}
 
 -- "when a node is targeted for animation (referenced by an animation.channel.target), only TRS
 -- properties MAY be present; matrix MUST NOT be present" (5.25)

@@ -3,8 +3,8 @@ ghost use Rattle.std.specs.Prelude.{◌≡◌, OnOk};
 ghost use Rattle.gltf_validation.specs.Locations.{places_of};
 ghost use Rattle.gltf_findings.specs.Checks.{told_after};
 ghost use Rattle.gltf_inspect_meshes.specs.Facts.{is_bounded};
-ghost use Rattle.gltf_inspect.specs.Attributes.{vertex_count, attribute_checks};
-ghost use Rattle.gltf_inspect.specs.Attributes.{attributes_checks};
+ghost use Rattle.gltf_inspect_records.specs.Attributes.{vertex_count, attribute_checks};
+ghost use Rattle.gltf_inspect_records.specs.Attributes.{attributes_checks};
 
 use gltf_findings::code::Code;
 use gltf_findings::findings::Findings;

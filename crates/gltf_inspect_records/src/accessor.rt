@@ -2,9 +2,9 @@
 ghost use Rattle.std.specs.Prelude.{◌≡◌, ◌<◌, OnOk, slice_get};
 ghost use Rattle.gltf_validation.specs.Locations.{places_of};
 ghost use Rattle.gltf_findings.specs.Checks.{told_after, optional_checks};
-ghost use Rattle.gltf_inspect.specs.Accessors.{may_be_normalized, in_view_checks};
-ghost use Rattle.gltf_inspect.specs.Accessors.{part_checks, sparse_checks, accessor_checks};
-ghost use Rattle.gltf_inspect.specs.Accessors.{base_checks};
+ghost use Rattle.gltf_inspect_records.specs.Accessors.{may_be_normalized, in_view_checks};
+ghost use Rattle.gltf_inspect_records.specs.Accessors.{part_checks, sparse_checks, accessor_checks};
+ghost use Rattle.gltf_inspect_records.specs.Accessors.{base_checks};
 
 use crate::list::Inspect;
 use gltf_findings::code::Code;

@@ -17,7 +17,7 @@ use Rattle.gltf_findings.specs.declared.code.Code.TheVariants.{IndicesInvalidFor
 use Rattle.gltf_findings.specs.declared.code.Code.TheVariants.{IndicesWithByteStride}
 use Rattle.gltf_findings.specs.Checks.{Checks, Condition, ◌&◌, member, optional_checks, list_checks}
 use Rattle.gltf_inspect_meshes.specs.Facts.{has_elements}
-use Rattle.gltf_inspect.specs.Attributes.{attributes_checks}
+use Rattle.gltf_inspect_records.specs.Attributes.{attributes_checks}
 use Rattle.gltf_inspect_meshes.specs.Meanings.{first_of}
 
 abbrev pub is_unsigned : Checked ComponentType → Bool

@@ -2,8 +2,8 @@
 ghost use Rattle.std.specs.Prelude.{◌≡◌, OnOk};
 ghost use Rattle.gltf_validation.specs.Locations.{places_of};
 ghost use Rattle.gltf_findings.specs.Checks.{told_after};
-ghost use Rattle.gltf_inspect.specs.Animations.{channel_checks};
-ghost use Rattle.gltf_inspect.specs.Animations.{input_checks, sampler_checks, animation_checks};
+ghost use Rattle.gltf_inspect_records.specs.Animations.{channel_checks};
+ghost use Rattle.gltf_inspect_records.specs.Animations.{input_checks, sampler_checks, animation_checks};
 
 use crate::attributes::is_bounded;
 use crate::list::{Inspect, inspect_each};

@@ -2,8 +2,8 @@
 ghost use Rattle.std.specs.Prelude.{◌≡◌, OnOk};
 ghost use Rattle.gltf_validation.specs.Locations.{places_of};
 ghost use Rattle.gltf_findings.specs.Checks.{told_after, optional_checks};
-ghost use Rattle.gltf_inspect.specs.Cameras.{camera_checks, number_of, is_farther};
-ghost use Rattle.gltf_inspect.specs.Cameras.{orthographic_checks, perspective_checks};
+ghost use Rattle.gltf_inspect_records.specs.Cameras.{camera_checks, number_of, is_farther};
+ghost use Rattle.gltf_inspect_records.specs.Cameras.{orthographic_checks, perspective_checks};
 
 use crate::list::Inspect;
 use gltf_findings::code::Code;

@@ -1,8 +1,8 @@
 use Rattle.std.proofs.Common.{◌≡◌}
 use Rattle.gltf_validation.specs.Locations.{places_of}
 use Rattle.gltf_findings.specs.Checks.{told_after}
-use Rattle.gltf_inspect.specs.Attributes.{entries_checks}
-use Rattle.gltf_inspect.proofs.attributes.tell_attributes.Given as goal
+use Rattle.gltf_inspect_records.specs.Attributes.{entries_checks}
+use Rattle.gltf_inspect_records.proofs.attributes.tell_attributes.Given as goal
 
 -- what is left of the walk, after what was reported so far, is the whole of it
 abbrev pub invariant-loop-semantic : goal.invariant-loop-semantic

@@ -2,8 +2,8 @@
 ghost use Rattle.std.specs.Prelude.{◌≡◌, OnOk, length};
 ghost use Rattle.gltf_validation.specs.Locations.{places_of};
 ghost use Rattle.gltf_findings.specs.Checks.{told_after, optional_checks};
-ghost use Rattle.gltf_inspect.specs.Scenes.{node_checks, is_float, is_matrix, matrices_checks};
-ghost use Rattle.gltf_inspect.specs.Scenes.{skin_checks, matrices_index_checks};
+ghost use Rattle.gltf_inspect_records.specs.Scenes.{node_checks, is_float, is_matrix, matrices_checks};
+ghost use Rattle.gltf_inspect_records.specs.Scenes.{skin_checks, matrices_index_checks};
 
 use crate::list::Inspect;
 use gltf_findings::code::Code;

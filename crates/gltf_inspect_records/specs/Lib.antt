@@ -1,0 +1,9 @@
+pub mod Views
+pub mod Accessors
+pub mod Cameras
+pub mod Materials
+pub mod Attributes
+pub mod Meshes
+pub mod Scenes
+pub mod Animations
+pub mod Records

@@ -1,0 +1,13 @@
+//! What the standard forbids in each record of a document by itself, and in what it names.
+#![tactic(auto)]
+
+mod accessor;
+mod animation;
+mod attributes;
+mod camera;
+mod list;
+mod material;
+mod mesh;
+pub mod records;
+mod scene;
+mod view;
