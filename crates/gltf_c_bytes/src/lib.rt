@@ -1,6 +1,5 @@
-//! What an open file holds besides its records, for version 2 of the library for C: buffers,
-//! accessors and images as structs, where their bytes lie, the items of accessors as bytes, and
-//! lists of numbers.
+//! What an open file holds besides its records, for C: buffers, accessors and images as structs,
+//! where their bytes lie, the items of accessors as bytes, and lists of numbers.
 #![tactic(auto)]
 
 pub mod info;

@@ -1,1 +1,2 @@
 pub mod Terminated
+pub mod Behind

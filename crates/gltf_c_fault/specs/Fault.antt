@@ -1,5 +1,5 @@
 -- Why a file is refused, as C sees it.
-use Rattle.std.specs.Prelude.{◌≡◌, ◌⊎◌, ℕ, min, List, [], ◌∷◌, length, replicate}
+use Rattle.std.specs.Prelude.{◌≡◌, ℕ, min, List, [], ◌∷◌, length, replicate}
 use Rattle.gltf_glb.specs.declared.error.Error.{Error}
 use Rattle.gltf_glb.specs.declared.error.Error.TheVariants.{Base64, Binary, BufferLength}
 use Rattle.gltf_glb.specs.declared.error.Error.TheVariants.{Deserialize, Io, Validation, Memory}
@@ -86,11 +86,6 @@ place_of ExternalReferenceInSliceImport = []
 place_of UnsupportedScheme = []
 place_of Memory = []
 
--- the JSON Pointer of a place; or an empty text, where there was no memory for it
-abbrev pub ShowsPlace : List Place → List ℕ → Type 0
-ShowsPlace place shown =
-    (shown ≡ text_in_room (pointer_text place) (replicate 128 0)) ⊎ (shown ≡ replicate 128 0)
-
 -- what is said of an error
 pub record IsFault (e : Error) (f : GltfFault) : Type 0 where
   pub status : f.status ≡ code (status_of e)
@@ -99,5 +94,5 @@ pub record IsFault (e : Error) (f : GltfFault) : Type 0 where
   pub expected : f.expected ≡ (numbers_of e).expected
   pub actual : f.actual ≡ (numbers_of e).actual
   pub reserved : f.reserved ≡ replicate 4 0
-  pub path : ShowsPlace (place_of e) f.path
+  pub path : f.path ≡ text_in_room (pointer_text (place_of e)) (replicate 128 0)
   pub text : Tells e (replicate 512 0) f.text

@@ -1,6 +1,6 @@
 -- Text for C, in a room that it gave.
-use Rattle.std.specs.Prelude.{◌≡◌, ◌⊎◌, ℕ, suc, ◌-◌, min, List, [], ◌∷◌, ◌++◌, length, take, drop}
-use Rattle.std.specs.Prelude.{IfSome, codes}
+use Rattle.std.specs.Prelude.{◌≡◌, ◌⊎◌, ℕ, suc, ◌-◌, min, List, [], ◌∷◌}
+use Rattle.std.specs.Prelude.{◌++◌, length, take, drop, IfSome, codes}
 use Rattle.gltf_glb.specs.Texts.{error_text}
 use Rattle.gltf_glb.specs.declared.error.Error.{Error}
 
@@ -15,6 +15,13 @@ text_in_room text [] = []
 text_in_room text (x ∷ room) =
     take (shown_length text (x ∷ room)) text
     ++ (0 ∷ drop (suc (shown_length text (x ∷ room))) (x ∷ room))
+
+-- where a text is at the front of a room, of which so many bytes have room, it is there with more
+-- text behind it now; whatever text that is, and whatever was in the room before it
+abbrev pub Appends : List ℕ → List ℕ → ℕ → List ℕ → ℕ → Type 0
+Appends more old used new used' =
+    (text room : List ℕ) → old ≡ text_in_room text room → used ≡ shown_length text room
+    → (new ≡ text_in_room (text ++ more) room) × (used' ≡ shown_length (text ++ more) room)
 
 abbrev pub no_memory_for_text : List ℕ
 no_memory_for_text = codes "there is no memory for the message"

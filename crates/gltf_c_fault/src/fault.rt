@@ -1,17 +1,19 @@
 //! Why a file is refused, and where the fault is.
-ghost use Rattle.std.specs.Prelude.{◌≡◌, ℕ, IfOk, List, replicate, string_bytes};
+ghost use Rattle.std.specs.Prelude.{◌≡◌, ℕ, List, map, replicate};
+ghost use Rattle.gltf_json_record.specs.Place.{place_of};
 ghost use Rattle.gltf_json_record.specs.Pointer.{pointer_text};
-ghost use Rattle.gltf_c_fault.specs.Fault.{no_fault, IsFault, place_of, first_place, numbers_of};
-ghost use Rattle.gltf_c_fault.specs.Fault.{rules_of, ShowsPlace};
-ghost use Rattle.gltf_c_fault.specs.Message.{Tells};
+ghost use Rattle.gltf_c_fault.specs.Fault.{no_fault, IsFault, first_place, numbers_of, rules_of};
+ghost use Rattle.gltf_c_fault.specs.Fault as fault;
+ghost use Rattle.gltf_c_fault.specs.Message.{Tells, text_in_room};
 
-use crate::message::{put, tell};
+use crate::message::tell;
+use crate::pointer::put_pointer;
 use crate::status::Status;
 use gltf_glb::Error;
 use gltf_json_record::error::Error as JsonError;
-use gltf_json_record::path::Path;
+use gltf_json_record::path::{Path, Step};
 use gltf_validation::error::Error as Broken;
-use std::alloc::{AllocError, Global};
+use std::alloc::Global;
 
 /// What stands for a buffer where none is at fault.
 pub const NONE: usize = usize::MAX;
@@ -33,7 +35,7 @@ pub struct GltfFault {
     /// 0.
     pub reserved: [usize; 4],
     /// The JSON Pointer of the part of the document that is at fault (RFC 6901), cut to fit, with a
-    /// zero byte after it. Empty where no part is known, and where there is no memory for it.
+    /// zero byte after it. Empty where no part is known.
     pub path: [u8; 128],
     /// The message, cut to fit, with a zero byte after it.
     pub text: [u8; 512],
@@ -63,8 +65,7 @@ struct Numbers {
     actual: usize,
 }
 
-/// What is said of an error of the loader. Where there is no memory for the path it is empty, and
-/// where there is none for the text, that says so.
+/// What is said of an error of the loader. Where there is no memory for the text, that says so.
 pub fn fault_of(alloc: Global, error: &Error) -> GltfFault
     ensures { IsFault error.now result }
 {
@@ -73,7 +74,7 @@ pub fn fault_of(alloc: Global, error: &Error) -> GltfFault
         expected,
         actual,
     } = numbers_of(error);
-    let path = path_of(alloc, error);
+    let path = path_of(error);
     let text = text_of(alloc, error);
     GltfFault {
         status: Status::of(error).code(),
@@ -119,34 +120,32 @@ fn numbers_of(error: &Error) -> Numbers
 }
 
 /// The JSON Pointer of the place of an error in its room.
-fn path_of(alloc: Global, error: &Error) -> [u8; 128]
-    ensures { ShowsPlace (place_of error.now) result }
+fn path_of(error: &Error) -> [u8; 128]
+    ensures { result ≡ text_in_room (pointer_text (fault.place_of error.now)) (replicate 128 0) }
 {
     let mut room = [0; 128];
-    if let Ok(pointer) = pointer_of(alloc, error) {
-        put(pointer.as_str().as_bytes(), &mut room);
-    }
+    put_pointer(steps_of(error), &mut room);
     room
 }
 
-/// The JSON Pointer of the place of an error.
-fn pointer_of(alloc: Global, error: &Error) -> Result<String, AllocError>
-    ensures { IfOk result (λ text. string_bytes text ≡ pointer_text (place_of error.now)) }
+/// The steps to the place of an error.
+fn steps_of(error: &Error) -> &[Step]
+    ensures { map place_of result.now ≡ fault.place_of error.now }
 {
     match error {
-        Error::Validation(broken) => first_pointer(alloc, broken),
-        Error::Deserialize(JsonError::Record { path, .. }) => path.pointer(alloc),
-        _ => Ok(String::new(alloc)),
+        Error::Validation(broken) => first_steps(broken),
+        Error::Deserialize(JsonError::Record { path, .. }) => path.steps(),
+        _ => &[],
     }
 }
 
-/// The JSON Pointer of the place of the first rule that is broken.
-fn first_pointer(alloc: Global, broken: &[(Path, Broken)]) -> Result<String, AllocError>
-    ensures { IfOk result (λ text. string_bytes text ≡ pointer_text (first_place broken.now)) }
+/// The steps to the place of the first rule that is broken.
+fn first_steps(broken: &[(Path, Broken)]) -> &[Step]
+    ensures { map place_of result.now ≡ first_place broken.now }
 {
     match broken.first() {
-        Some((path, _)) => path.pointer(alloc),
-        None => Ok(String::new(alloc)),
+        Some((path, _)) => path.steps(),
+        None => &[],
     }
 }
 

@@ -1,6 +1,5 @@
 //! Materials, textures, samplers, cameras, lights and views of a document as plain structs for C,
-//! and the further texts and the JSON of records. They are for version 2 of the library for C, and
-//! no library stands on them yet. Nothing here has a pointer.
+//! and the further texts and the JSON of records. Nothing here has a pointer.
 //!
 //! A member of numbers has the default of the standard where it is absent, and also where it is no
 //! number, or no list of as many numbers: no rule refuses such a file.
