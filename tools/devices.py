@@ -6,6 +6,7 @@ error; what a program writes is whole or not there.
 
 A row whose device cannot be had on this machine is reported as not tried, and counts neither as
 passed nor as failed. The last line is `N passed, M failed`."""
+import json
 import os
 import pathlib
 import resource
@@ -40,18 +41,20 @@ FILES = {"in.glb": SMALL, "large.glb": LARGE, "cut.glb": LARGE, "locked": SMALL,
          "outside.gltf": OUTSIDE, "outside.bin": bytes(LENGTH), "short.glb": SMALL[:24],
          "empty.glb": b""}
 # What stands where a program is to write: links to devices, and what is no file.
-LINKS = {"full.glb": "/dev/full", "null.glb": "/dev/null", "lost.glb": "missing/out.glb"}
+ENDINGS = (".glb", ".gltf")
+LINKS = {"full": "/dev/full", "null": "/dev/null", "lost": "missing/out"}
 
 
 class Call:
-    """A call of a program on a file: its words, and whether it writes to `out.glb`."""
+    """A call of a program on a file: its words, and the ending of the file that it writes, if it
+    writes one."""
 
-    def __init__(self, name, *words, writes=False, status=1):
-        self.name, self.words, self.writes, self.status = name, words, writes, status
-        self.shown = " ".join([name, *words])
+    def __init__(self, name, *words, ending=None, status=1):
+        self.name, self.words, self.ending, self.status = name, words, ending, status
+        self.shown = " ".join([name, *words, *([f"to {ending}"] if ending else [])])
 
-    def on(self, file, to="out.glb"):
-        return [*self.words, file, *([to] if self.writes else [])]
+    def on(self, file, to="out"):
+        return [*self.words, file, *([to + self.ending] if self.ending else [])]
 
 
 # The status is that of a call that cannot do its work: `inspect` has 1 for files with errors.
@@ -59,10 +62,11 @@ CALLS = (
     Call("gltf_show", "check"),
     Call("gltf_show", "inspect", status=2),
     Call("gltf_show", "inspect", "--json", status=2),
-    Call("gltf_repack", writes=True),
-    Call("gltf_convert", writes=True),
+    Call("gltf_repack", ending=".glb"),
+    Call("gltf_convert", ending=".glb"),
+    Call("gltf_convert", ending=".gltf"),
 )
-WRITERS = [call for call in CALLS if call.writes]
+WRITERS = [call for call in CALLS if call.ending]
 
 
 class Results:
@@ -137,10 +141,17 @@ def feeds(pipe, data):
     return subprocess.Popen(words, stderr=subprocess.DEVNULL)
 
 
+def taken(room):
+    """The files that a call wrote, by name. They are removed."""
+    written = {file.name: file.read_bytes() for file in room.glob("out.*")}
+    for name in written:
+        (room / name).unlink()
+    return written
+
+
 def answer(got, name, room):
     """The status of a call, what it prints but for the file's name, and what it writes."""
-    written = (room / "out.glb").read_bytes() if (room / "out.glb").exists() else None
-    (room / "out.glb").unlink(missing_ok=True)
+    written = taken(room)
     texts = [text.replace(name.encode(), b"NAME") for text in (got.stdout, got.stderr)]
     return got.returncode, *texts, written
 
@@ -180,7 +191,7 @@ def cut(call, file, shrinks, room, library):
         reads = int(counted) if counted.strip().isdigit() else 0
         got.stderr = error
         found = answer(got, file, room)
-        refused = found[0] == 1 and found[1] + found[2] != b"" and found[3] is None
+        refused = found[0] == 1 and found[1] + found[2] != b"" and not found[3]
         good = number <= reads and (refused or number > 1 and found == own)
     whole.write_bytes(bytes_of)
     RESULTS.row(f"{call.shown} {file}, of which {shrinks} is cut at each of {reads} reads", good,
@@ -189,14 +200,18 @@ def cut(call, file, shrinks, room, library):
 
 # ---- What is printed.
 
+def is_container(data):
+    return data[:4] == b"glTF" and int.from_bytes(data[8:12], "little") == len(data)
+
+
 def kept(call, room):
-    """Whether the file that a call wrote is whole, or was not asked for. It is removed."""
-    out = room / "out.glb"
-    good = out.exists() == call.writes and not (room / "out.glb.part").exists()
-    good = good and (not call.writes or out.read_bytes()[:4] == b"glTF"
-                     and int.from_bytes(out.read_bytes()[8:12], "little") == out.stat().st_size)
-    out.unlink(missing_ok=True)
-    return good
+    """Whether the file that a call wrote is whole, and is alone, or was not asked for. It is
+    removed."""
+    written = taken(room)
+    if call.ending is None:
+        return not written
+    whole = is_container if call.ending == ".glb" else json.loads
+    return [*written] == [f"out{call.ending}"] and bool(whole(written[f"out{call.ending}"]))
 
 
 def to_full(call, room):
@@ -229,44 +244,46 @@ def to_nothing(call, room):
         got = subprocess.run(["sh", "-c", closed.format(stream), PROGRAMS[call.name],
                               *call.on(file)], cwd=room, stdout=subprocess.DEVNULL,
                              stderr=subprocess.PIPE, preexec_fn=started(), timeout=SECONDS)
-        good = kept(call, room) if file == "in.glb" else not (room / "out.glb").exists()
+        good = kept(call, room) if file == "in.glb" else not taken(room)
         good = good and got.returncode == status
         RESULTS.row(f"{call.shown} {file} {stream}", good, got)
 
 
 # ---- What is written.
 
+def put(place, files):
+    """Writes files that anybody may write."""
+    for name, data in files.items():
+        (place / name).write_bytes(data)
+        (place / name).chmod(0o666)
+
+
 def writes_nowhere(call, to, room):
     """A file that cannot be written: 1, a line, and the folder is as it was."""
     before = state(room)
     got = ran(call, call.on("in.glb", to), room)
     good = got.returncode == 1 and got.stderr.count(b"\n") == 1 and state(room) == before
-    RESULTS.row(f"{call.shown} in.glb {to[:20]}", good, got)
+    RESULTS.row(f"{call.shown} in.glb {to[:20]}{call.ending}", good, got)
 
 
 def too_long(call, room):
     """A file that may not get as long as it has to: 1, or the signal that says so. A file of its
     name stays as it was, and the first one is removed; where the signal stops the program, it is
     left behind, as the usage says."""
-    for there in (None, b"before"):
+    for before in ({}, {f"out{call.ending}": b"before"}):
         for ignores in ((signal.SIGXFSZ,), ()):
-            if there is not None:
-                (room / "out.glb").write_bytes(there)
-                (room / "out.glb").chmod(0o666)
+            put(room, before)
             got = ran(call, call.on("large.glb"), room,
                       {"file_size": 50_000, "ignores": ignores})
-            part = room / "out.glb.part"
-            left = part.exists()
-            part.unlink(missing_ok=True)
-            out = (room / "out.glb").read_bytes() if (room / "out.glb").exists() else None
-            (room / "out.glb").unlink(missing_ok=True)
-            good = out == there and (
-                got.returncode == 1 and not left and got.stderr.count(b"\n") == 1 if ignores
+            left = taken(room)
+            whole = {name: data for name, data in left.items() if not name.endswith(".part")}
+            good = whole == before and (
+                got.returncode == 1 and left == before and got.stderr.count(b"\n") == 1 if ignores
                 else got.returncode in (1, -signal.SIGXFSZ))
             how = "ignored" if ignores else "not ignored"
-            where = "no file" if there is None else "a file"
+            where = "a file" if before else "no file"
             RESULTS.row(f"{call.shown} of more bytes than it may write over {where}, SIGXFSZ {how}",
-                        good, got)
+                        good, (got, left.keys()))
 
 
 class Disk:
@@ -297,19 +314,17 @@ class Disk:
 def on_full_disk(call, room):
     """A disk that is too small: 1, and neither the name nor its first one is left behind; a file
     that is there stays as it was."""
-    for there in (None, b"before"):
-        what = f"{call.shown} on a full disk over {'no file' if there is None else 'a file'}"
+    for before in ({}, {f"out{call.ending}": b"before"}):
+        what = f"{call.shown} on a full disk over {'a file' if before else 'no file'}"
         with Disk(room) as disk:
             if disk is None:
                 RESULTS.not_tried(what, "no disk can be mounted here")
                 continue
-            if there is not None:
-                (disk / "out.glb").write_bytes(there)
-                (disk / "out.glb").chmod(0o666)
-            got = ran(call, call.on("large.glb", "disk/out.glb"), room)
+            put(disk, before)
+            got = ran(call, call.on("large.glb", "disk/out"), room)
             left = {file.name: file.read_bytes() for file in disk.iterdir()}
             good = got.returncode == 1 and got.stderr.count(b"\n") == 1
-            RESULTS.row(what, good and left == ({} if there is None else {"out.glb": there}), got)
+            RESULTS.row(what, good and left == before, got)
 
 
 def on_read_only_disk(call, room):
@@ -317,7 +332,7 @@ def on_read_only_disk(call, room):
         if disk is None:
             RESULTS.not_tried(f"{call.shown} on a disk that is read-only", "none can be mounted")
             return
-        got = ran(call, call.on("in.glb", "disk/out.glb"), room)
+        got = ran(call, call.on("in.glb", "disk/out"), room)
         good = got.returncode == 1 and got.stderr.count(b"\n") == 1
         RESULTS.row(f"{call.shown} on a disk that is read-only", good, got)
 
@@ -337,16 +352,16 @@ def prints_to_full_disk(call, room):
 
 
 def fill(room):
-    for name, data in FILES.items():
-        (room / name).write_bytes(data)
-        (room / name).chmod(0o666)
-    for name, target in LINKS.items():
-        (room / name).symlink_to(target)
+    put(room, FILES)
+    for ending in ENDINGS:
+        for name, target in LINKS.items():
+            (room / f"{name}{ending}").symlink_to(target)
     (room / "locked").chmod(0)
-    for name, mode in {"folder": 0o777, "folder.glb": 0o777, "closed": 0o555}.items():
+    folders = {"folder": 0o777, "closed": 0o555, **{f"folder{it}": 0o777 for it in ENDINGS}}
+    for name, mode in folders.items():
         (room / name).mkdir()
         (room / name).chmod(mode)
-    for name in ("pipe", "pipe.glb"):
+    for name in ("pipe", *(f"pipe{it}" for it in ENDINGS)):
         os.mkfifo(room / name)
         (room / name).chmod(0o666)
     room.chmod(0o777)
@@ -369,8 +384,7 @@ def read_rows(call, room, library):
 
 
 def write_rows(call, room):
-    for to in ("folder.glb", "closed/out.glb", "missing/out.glb", f"{LONG}.glb", "full.glb",
-               "null.glb", "lost.glb", "pipe.glb"):
+    for to in ("folder", "closed/out", "missing/out", LONG, *LINKS, "pipe"):
         writes_nowhere(call, to, room)
     too_long(call, room)
     on_full_disk(call, room)

@@ -8,7 +8,7 @@
   answer, or says that memory ran out.
 
 Where a call says so, its status is that of a call that cannot do its work, the file that it was to
-write is what it was before, and no other file is left behind.
+write is what it was before, and no other file is left behind: of several files, none is written.
 
     memory.py           the growths of the files of `examples/`, and the limits
     memory.py --long    also those of files with nearly every kind of record, and finer steps
@@ -28,7 +28,8 @@ import crates
 import preload
 from programs import document
 
-BEFORE = b"what was there before"
+# The files that are written, if the call writes some, and what they are before.
+BEFORE = {"out.glb": b"what was there before", "out.gltf": b"the text that was there before"}
 PAGE = 4096
 # The words of each call, and its status where it cannot do its work.
 CALLS = {
@@ -39,14 +40,15 @@ CALLS = {
     "inspect --json": ("gltf_show", ["inspect", "IN", "--json"], 2),
     "inspect --html": ("gltf_show", ["inspect", "IN", "--html"], 2),
     "gltf_repack": ("gltf_repack", ["IN", "out.glb"], 1),
-    "gltf_convert": ("gltf_convert", ["IN", "out.glb"], 1),
+    "gltf_convert to .glb": ("gltf_convert", ["IN", "out.glb"], 1),
+    "gltf_convert to .gltf": ("gltf_convert", ["IN", "out.gltf"], 1),
 }
 # How `main` ends where there is no memory for the words themselves: with 1.
 ENDED = (b"Memory", b"OutOfMemory")
 
 
 class Answer:
-    """What a call did: its status, what it printed, and what is in its folder after it."""
+    """What a call did: its status, what it printed, and the files of its folder after it."""
 
     def __init__(self, call, file, limit=None, library=None, growth=0):
         name, words, self.failed = CALLS[call]
@@ -58,11 +60,10 @@ class Answer:
         if limit:
             how["preexec_fn"] = lambda: resource.setrlimit(resource.RLIMIT_AS, (limit, limit))
         with tempfile.TemporaryDirectory() as room:
-            out = pathlib.Path(room, "out.glb")
-            out.write_bytes(BEFORE)
+            for file_name, data in BEFORE.items():
+                pathlib.Path(room, file_name).write_bytes(data)
             done = subprocess.run([crates.program(name), *words], cwd=room, **how)
-            self.written = out.read_bytes() if out.exists() else None
-            self.files = sorted(os.listdir(room))
+            self.files = {it.name: it.read_bytes() for it in pathlib.Path(room).iterdir()}
         self.status, self.out, self.error = done.returncode, done.stdout, done.stderr
         self.growths = None
         if library:
@@ -70,16 +71,16 @@ class Answer:
             self.growths = int(counted) if counted.strip().isdigit() else None
 
     def key(self):
-        return self.status, self.out, self.error, self.written, self.files
+        return self.status, self.out, self.error, self.files
 
     def ran_out(self):
         """Whether it says that memory ran out, and has left all as it was."""
         said = b"out of memory" in self.error and self.status == self.failed
         ended = self.status == 1 and any(word in self.error for word in ENDED)
-        return (said or ended) and self.written == BEFORE and self.files == ["out.glb"]
+        return (said or ended) and self.files == BEFORE
 
     def __repr__(self):
-        return f"{self.status} {self.out[-80:]!r} {self.error[-200:]!r} {self.files}"
+        return f"{self.status} {self.out[-80:]!r} {self.error[-200:]!r} {sorted(self.files)}"
 
 
 def of_growths(call, file, library):
