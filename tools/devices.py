@@ -172,7 +172,7 @@ def from_null(call, room):
     """A device without bytes is read as an empty file."""
     wanted = answer(ran(call, call.on("empty.glb"), room), "empty.glb", room)
     found = answer(ran(call, call.on("/dev/null"), room), "/dev/null", room)
-    RESULTS.row(f"{call.shown} /dev/null", found == wanted and found[0] == 1, (wanted, found))
+    RESULTS.row(f"{call.shown} /dev/null", found == wanted, (wanted, found))
 
 
 def cut(call, file, shrinks, room, library):
