@@ -34,8 +34,9 @@ CALLS = {
     "inspect": ("gltf_show", "inspect", "FILE"),
     "inspect --json": ("gltf_show", "inspect", "FILE", "--json"),
     "inspect --html": ("gltf_show", "inspect", "FILE", "--html"),
-    "gltf_repack": ("gltf_repack", "FILE", "OUT.glb"),
-    "gltf_convert": ("gltf_convert", "FILE", "OUT.glb"),
+    "gltf_repack": ("gltf_repack", "FILE", "out.glb"),
+    "gltf_convert to .glb": ("gltf_convert", "FILE", "out.glb"),
+    "gltf_convert to .gltf": ("gltf_convert", "FILE", "out.gltf"),
 }
 
 
@@ -98,17 +99,16 @@ def files(room):
 
 
 def ran(call, file, room, kib):
-    """The status and the output of a call with so much stack."""
+    """The status and the output of a call with so much stack, and the files that it wrote."""
     name, *words = call
-    out = room / "out.glb"
-    words = [{"FILE": os.fspath(file), "OUT.glb": os.fspath(out)}.get(word, word)
-             for word in words]
+    words = [os.fspath(file) if word == "FILE" else word for word in words]
     limit = (kib * 1024, kib * 1024)
     how = {"preexec_fn": lambda: resource.setrlimit(resource.RLIMIT_STACK, limit), "env": {},
            "capture_output": True, "cwd": room, "timeout": 120}
     done = subprocess.run([crates.program(name), *words], **how)
-    written = out.read_bytes() if out.exists() else None
-    out.unlink(missing_ok=True)
+    written = {out.name: out.read_bytes() for out in room.glob("out*")}
+    for out in written:
+        (room / out).unlink()
     return done.returncode, done.stdout, done.stderr, written
 
 
