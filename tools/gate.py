@@ -39,6 +39,10 @@ PARTS = (
     ["python3", "tools/python.py"],
     ["python3", "tools/rust.py"],
     ["python3", "tools/many.py"],
+    ["python3", "tools/packages.py"],
+    ["python3", "tools/devices.py"],
+    ["python3", "tools/memory.py"],
+    ["python3", "tools/stack.py"],
     ["python3", "tools/fuzz.py", "--regressions"],
 )
 # The most memory that a check was seen to take, and some more.
