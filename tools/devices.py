@@ -46,23 +46,25 @@ LINKS = {"full": "/dev/full", "null": "/dev/null", "lost": "missing/out"}
 
 
 class Call:
-    """A call of a program on a file: its words, and the ending of the file that it writes, if it
-    writes one."""
+    """A call of a program on a file: its words, the ending of the file that it writes, if it writes
+    one, its status where it cannot do its work, and that of a file without bytes."""
 
-    def __init__(self, name, *words, ending=None, status=1):
-        self.name, self.words, self.ending, self.status = name, words, ending, status
+    def __init__(self, name, *words, ending=None, status=1, empty=1):
+        self.name, self.words, self.ending = name, words, ending
+        self.status, self.empty = status, empty
         self.shown = " ".join([name, *words, *([f"to {ending}"] if ending else [])])
 
     def on(self, file, to="out"):
         return [*self.words, file, *([to + self.ending] if self.ending else [])]
 
 
-# The status is that of a call that cannot do its work: `inspect` has 1 for files with errors.
+# `inspect` has 1 for files with errors. `gltf_repack` does not read the text that it puts into a
+# container, and so takes an empty one.
 CALLS = (
     Call("gltf_show", "check"),
     Call("gltf_show", "inspect", status=2),
     Call("gltf_show", "inspect", "--json", status=2),
-    Call("gltf_repack", ending=".glb"),
+    Call("gltf_repack", ending=".glb", empty=0),
     Call("gltf_convert", ending=".glb"),
     Call("gltf_convert", ending=".gltf"),
 )
@@ -172,7 +174,8 @@ def from_null(call, room):
     """A device without bytes is read as an empty file."""
     wanted = answer(ran(call, call.on("empty.glb"), room), "empty.glb", room)
     found = answer(ran(call, call.on("/dev/null"), room), "/dev/null", room)
-    RESULTS.row(f"{call.shown} /dev/null", found == wanted, (wanted, found))
+    good = found == wanted and found[0] == call.empty
+    RESULTS.row(f"{call.shown} /dev/null", good, (wanted, found))
 
 
 def cut(call, file, shrinks, room, library):
@@ -204,14 +207,21 @@ def is_container(data):
     return data[:4] == b"glTF" and int.from_bytes(data[8:12], "little") == len(data)
 
 
+def is_text(data):
+    try:
+        return "asset" in json.loads(data)
+    except ValueError:
+        return False
+
+
 def kept(call, room):
     """Whether the file that a call wrote is whole, and is alone, or was not asked for. It is
     removed."""
     written = taken(room)
     if call.ending is None:
         return not written
-    whole = is_container if call.ending == ".glb" else json.loads
-    return [*written] == [f"out{call.ending}"] and bool(whole(written[f"out{call.ending}"]))
+    whole = {".glb": is_container, ".gltf": is_text}[call.ending]
+    return [*written] == [f"out{call.ending}"] and whole(written[f"out{call.ending}"])
 
 
 def to_full(call, room):
