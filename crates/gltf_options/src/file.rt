@@ -1,5 +1,6 @@
 //! A document and its blob, with the names of `extensionsRequired` that the caller handles.
 ghost use Rattle.std.specs.Prelude.{◌≢◌, IfOk, IfErr, MatchResult};
+ghost use Rattle.std.specs.Cow.{cow_slice_items};
 ghost use Rattle.gltf_glb.specs.declared.error.Error.TheVariants.{Memory};
 ghost use Rattle.gltf.specs.Errors.{OutOfMemoryOr};
 ghost use Rattle.gltf.specs.Reader.{Gives};
@@ -16,6 +17,7 @@ use gltf::{Gltf, Result};
 use gltf_json::laws::what_shows_the_same_is_alike_in_each_member;
 use gltf_rules::laws::what_shows_the_same_breaks_the_same_rules;
 use std::alloc::Global;
+use std::borrow::CowSlice;
 use std::io::Read;
 
 /// A file whose document breaks no rule without the names that the caller handles.
@@ -48,6 +50,48 @@ pub fn from_slice_with(alloc: Global, slice: &[u8], options: &Options<'_>) -> Re
     what_shows_the_same_is_alike_in_each_member();
     what_shows_the_same_breaks_the_same_rules();
     let raw = Gltf::from_slice_without_validation(alloc, slice)?;
+    without_names(alloc, raw, options)
+}
+
+/// [`from_slice_with`] of bytes that are lent or given up. The blob of a container is copied where
+/// they are lent, and handed on in the memory that they had where they are given up.
+pub fn from_bytes_with(
+    alloc: Global,
+    bytes: CowSlice<'_, u8>,
+    options: &Options<'_>,
+) -> Result<Opened>
+    ensures valid { IfOk result (λ file. IsValidBesides (listed options.now)
+        (cow_slice_items bytes.entry) file.gltf.document (texts file.also_required.items)
+        (blob_bytes file.gltf.blob)) }
+    ensures only { IfOk result (λ file. IsOnlyBesides (listed options.now)
+        (cow_slice_items bytes.entry) file.gltf.document (texts file.also_required.items)
+        (blob_bytes file.gltf.blob)) }
+    ensures refused { IfErr result (OutOfMemoryOr
+        (RefusesDocumentBesides (listed options.now) (cow_slice_items bytes.entry))) }
+    ensures exact { IfErr result (λ e. e ≢ Memory
+        → IsNoValidBesides (listed options.now) (cow_slice_items bytes.entry)) }
+{
+    match bytes {
+        CowSlice::Borrowed(slice) => from_slice_with(alloc, slice, options),
+        CowSlice::Owned(vec) => from_vec_with(alloc, vec, options),
+    }
+}
+
+/// [`from_slice_with`] of bytes that are given up.
+fn from_vec_with(alloc: Global, bytes: Vec<u8>, options: &Options<'_>) -> Result<Opened>
+    ensures valid { IfOk result (λ file. IsValidBesides (listed options.now) bytes.items
+        file.gltf.document (texts file.also_required.items) (blob_bytes file.gltf.blob)) }
+    ensures only { IfOk result (λ file. IsOnlyBesides (listed options.now) bytes.items
+        file.gltf.document (texts file.also_required.items) (blob_bytes file.gltf.blob)) }
+    ensures refused { IfErr result
+        (OutOfMemoryOr (RefusesDocumentBesides (listed options.now) bytes.items)) }
+    ensures exact { IfErr result (λ e. e ≢ Memory
+        → IsNoValidBesides (listed options.now) bytes.items) }
+{
+    // Laws that the proof stands on; the calls do nothing.
+    what_shows_the_same_is_alike_in_each_member();
+    what_shows_the_same_breaks_the_same_rules();
+    let raw = Gltf::from_vec_without_validation(alloc, bytes)?;
     without_names(alloc, raw, options)
 }
 

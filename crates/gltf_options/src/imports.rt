@@ -16,7 +16,7 @@ ghost use Rattle.gltf_options.specs.Import.{AcceptsBesides, IsOnlyImportBesides}
 ghost use Rattle.gltf_options.specs.Import.{RefusesImportBesides, IsNotAcceptedBesides};
 ghost use Rattle.gltf_options.specs.Names.{texts};
 
-use crate::file::{Opened, from_slice_with};
+use crate::file::{Opened, from_bytes_with};
 use crate::options::Options;
 use gltf::buffer::Data;
 use gltf::{Document, Folder, Gltf, Name, NamedBytes, Result, base_of};
@@ -57,12 +57,34 @@ pub fn import_slice_with(alloc: Global, bytes: &[u8], options: &Options<'_>) -> 
     import_bytes(alloc, CowSlice::Borrowed(bytes), &mut NoNames, options)
 }
 
+/// [`import_slice_with`] of bytes that are lent or given up. The blob of a container is copied where
+/// they are lent, and handed on in the memory that they had where they are given up.
+pub fn import_bytes_with(
+    alloc: Global,
+    bytes: CowSlice<'_, u8>,
+    options: &Options<'_>,
+) -> Result<Imported>
+    ensures accepted { IfOk result (λ read. AcceptsBesides (listed options.now) Nowhere
+        (cow_slice_items bytes.entry) read.document (texts read.also_required.items)
+        (bytes_of_each read.buffers.items)) }
+    ensures only { IfOk result (λ read. IsOnlyImportBesides (listed options.now) Nowhere
+        (cow_slice_items bytes.entry) read.document (texts read.also_required.items)
+        (bytes_of_each read.buffers.items)) }
+    ensures refused { IfErr result (OutOfMemoryOr
+        (RefusesImportBesides (listed options.now) Nowhere (cow_slice_items bytes.entry))) }
+    ensures exact { IfErr result (λ e. e ≢ Memory
+        → IsNotAcceptedBesides (listed options.now) Nowhere (cow_slice_items bytes.entry)) }
+{
+    import_bytes(alloc, bytes, &mut NoNames, options)
+}
+
 /// [`gltf::import_from`] for a caller who handles further extensions (glTF 2.0, section 3.12).
 ///
 /// The same names are asked of the source, in the same order. The answer is that of
 /// [`import_slice_with`] over the bytes of the file, with the bytes that the source gives for the
 /// names; [`gltf::Error::Io`] says that the source failed at the last name that was asked for, and
-/// each other answer that it failed at none. A blob is copied once.
+/// each other answer that it failed at none. The bytes of the file are handed on, so that a blob is
+/// not copied.
 pub fn import_from_with<S: NamedBytes>(
     alloc: Global,
     source: &mut S,
@@ -132,8 +154,7 @@ fn import_bytes<N: Ask>(
 {
     // A law that the proof stands on; the call does nothing.
     what_shows_the_same_is_alike_in_each_member();
-    let opened = from_slice_with(alloc, bytes.as_slice(), options)?;
-    drop(bytes);
+    let opened = from_bytes_with(alloc, bytes, options)?;
     let Opened {
         gltf: Gltf { document, blob },
         also_required,

@@ -13,6 +13,6 @@ mod options;
 mod split;
 
 pub use besides::without_names;
-pub use file::{Opened, from_reader_with, from_slice_with};
-pub use imports::{Imported, import_from_with, import_slice_with, import_with};
+pub use file::{Opened, from_bytes_with, from_reader_with, from_slice_with};
+pub use imports::{Imported, import_bytes_with, import_from_with, import_slice_with, import_with};
 pub use options::Options;

@@ -10,7 +10,7 @@ use Rattle.gltf_options.proofs.imports.import_bytes.Goals as goal
 pub returns-in_err-opened-clause-exact : goal.returns-in_err-opened-clause-exact
 returns-in_err-opened-clause-exact g c = λ known.
     let passed = err_from_is_err_and c.from_residual.result c.from_residual.ensures.1 in
-    let exact = rw c.as_slice.ensures.value at c.in_err-opened.ensures.exact in
+    let exact = c.in_err-opened.ensures.exact in
     rw (passed.1, passed.2) (λ other fine. not_accepted_of_none (listed c.args.options.now)
     (g.N.Ask.names c.args.names.now) (cow_slice_items c.args.bytes) (exact other))
 
@@ -24,7 +24,7 @@ returns-in_err-buffers-clause-refused g c =
     (cow_slice_items c.args.bytes) file.gltf.document (texts file.also_required.items)
     (blob_bytes file.gltf.blob) (g.N.Ask.failures c.args.names.now)
     (g.N.Ask.failures c.read_buffers.new.names) c.in_err-buffers.field-0.0
-    (rw c.as_slice.ensures.value at c.in_ok-opened.ensures.valid)
+    c.in_ok-opened.ensures.valid
     (rw (c.deref.ensures.value, c.as_json.ensures) at c.in_err-buffers.ensures.err))
 
 pub returns-in_err-buffers-clause-exact : goal.returns-in_err-buffers-clause-exact
@@ -38,7 +38,7 @@ returns-in_err-buffers-clause-exact g c = λ known.
     (blob_bytes file.gltf.blob) (g.N.Ask.failures c.args.names.now)
     (g.N.Ask.failures c.read_buffers.new.names) c.in_err-buffers.field-0.0
     c.what_shows_the_same_is_alike_in_each_member.ensures known
-    (rw c.as_slice.ensures.value at c.in_ok-opened.ensures.only)
+    c.in_ok-opened.ensures.only
     (rw (c.deref.ensures.value, c.as_json.ensures) at c.in_err-buffers.ensures.err))
 
 pub returns-clause-only : goal.returns-clause-only
@@ -48,5 +48,5 @@ returns-clause-only g c = λ known.
     (cow_slice_items c.args.bytes) file.gltf.document (texts file.also_required.items)
     (blob_bytes file.gltf.blob) (bytes_of_each c.in_ok-buffers.buffers.items)
     c.what_shows_the_same_is_alike_in_each_member.ensures known
-    (rw c.as_slice.ensures.value at c.in_ok-opened.ensures.only)
+    c.in_ok-opened.ensures.only
     (rw (c.deref.ensures.value, c.as_json.ensures) at c.in_ok-buffers.ensures.ok)

@@ -1,0 +1,9 @@
+use Rattle.std.specs.Cow.{cow_slice_items}
+use Rattle.gltf_options.specs.Besides.{listed}
+use Rattle.gltf_options.proofs.WithBuffers.{nowhere_exact}
+use Rattle.gltf_options.proofs.imports.import_bytes_with.Goals as goal
+
+pub returns-clause-exact : goal.returns-clause-exact
+returns-clause-exact c =
+    nowhere_exact (listed c.args.options.now) (cow_slice_items c.args.bytes) _ _
+    c.import_bytes.result c.import_bytes.ensures.refused (c.import_bytes.ensures.exact tt)
