@@ -1,3 +1,4 @@
 pub mod Marking
 pub mod Viewed
 pub mod Looped
+pub mod Fixed

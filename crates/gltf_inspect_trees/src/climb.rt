@@ -2,7 +2,7 @@
 ghost use Rattle.std.specs.Prelude.{◌≡◌, ◌/◌, OnOk, IfOk, nat_eq, get_or};
 ghost use Rattle.std.specs.Prelude.{if◌then◌else◌, map};
 ghost use Rattle.gltf_inspect_nodes.specs.Roots.{led, are_fixed};
-ghost use Rattle.gltf_inspect_trees.specs.Climbs.{climb_of, first_climb, doubled, once, raised};
+ghost use Rattle.gltf_inspect_trees.specs.Climbs.{climb_of, first_climb, doubled, raised};
 ghost use Rattle.gltf_inspect_trees.specs.Climbs.{own_depths, deeper, climbed, reaches, moved};
 
 use gltf_inspect_nodes::roots::{are_fixed, led, mapped};
@@ -38,25 +38,17 @@ impl Climbs {
         Ok(climbs)
     }
 
-    #[tactic(auto, using(crate::proofs::Raised::raised_none, crate::proofs::Raised::raised_more))]
+    #[tactic(auto, using(crate::proofs::Raised::raised_none))]
     fn climb_up(&mut self, alloc: Global) -> Result<(), AllocError>
         ensures { OnOk result (climb_of self.new ≡ raised 64 (climb_of self.old)) }
     {
         for round in 0..64_usize {
-            self.once(alloc)?;
+            if self.is_done() {
+                return Ok(());
+            }
+            self.double(alloc)?;
         }
         Ok(())
-    }
-
-    /// Twice as many steps, where they lead anywhere else.
-    #[tactic(auto, unfolding(crate::specs::Climbs::once))]
-    fn once(&mut self, alloc: Global) -> Result<(), AllocError>
-        ensures { OnOk result (climb_of self.new ≡ once (climb_of self.old)) }
-    {
-        if self.is_done() {
-            return Ok(());
-        }
-        self.double(alloc)
     }
 
     /// Whether more steps lead nowhere else.

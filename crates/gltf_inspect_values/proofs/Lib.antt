@@ -2,3 +2,9 @@ pub mod Each
 pub mod Neighbours
 pub mod Short
 pub mod Sizes
+pub mod After
+pub mod Within
+pub mod Floats
+pub mod Extremes
+pub mod Columns
+pub mod Asked

@@ -20,23 +20,22 @@ abbrev pub at_column : {X : Type 0} → ℕ → (List ℕ → X) → ℕ → Lis
 at_column n value c item =
     if nat_le (n * c + n) (length item) then Some (value (drop (n * c) item)) else None
 
+-- the number that component c of an item is, where what its bytes spell is such a number
+abbrev pub number_at : {X : Type 0} → ℕ → (List ℕ → X) → (X → Float) → ℕ → List ℕ → Option Float
+number_at n value number c item = option_map number (at_column n value c item)
+
 -- the number that component c of an item is: a whole number of at most four bytes, which is a
 -- double exactly, or a float
 abbrev pub component : Checked ComponentType → ℕ → List ℕ → Option Float
 component Invalid c item = None
 component (Valid I8) c item =
-    option_map (λ z. of_int binary64 z)
-    (at_column 1 (λ bytes. cast_signed w8 (little_number 1 bytes)) c item)
-component (Valid U8) c item =
-    option_map (λ n. of_int binary64 (pos n)) (at_column 1 (little_number 1) c item)
+    number_at 1 (λ bytes. cast_signed w8 (little_number 1 bytes)) (λ z. of_int binary64 z) c item
+component (Valid U8) c item = number_at 1 (little_number 1) (λ n. of_int binary64 (pos n)) c item
 component (Valid I16) c item =
-    option_map (λ z. of_int binary64 z)
-    (at_column 2 (λ bytes. cast_signed w16 (little_number 2 bytes)) c item)
-component (Valid U16) c item =
-    option_map (λ n. of_int binary64 (pos n)) (at_column 2 (little_number 2) c item)
-component (Valid U32) c item =
-    option_map (λ n. of_int binary64 (pos n)) (at_column 4 (little_number 4) c item)
-component (Valid F32) c item = option_map float_of (at_column 4 (take 4) c item)
+    number_at 2 (λ bytes. cast_signed w16 (little_number 2 bytes)) (λ z. of_int binary64 z) c item
+component (Valid U16) c item = number_at 2 (little_number 2) (λ n. of_int binary64 (pos n)) c item
+component (Valid U32) c item = number_at 4 (little_number 4) (λ n. of_int binary64 (pos n)) c item
+component (Valid F32) c item = number_at 4 (take 4) float_of c item
 
 -- a number is there, and is below x; above it; the same, as 0 and -0 are. What is not a number is
 -- neither

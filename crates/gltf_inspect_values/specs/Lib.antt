@@ -1,7 +1,8 @@
 pub mod Components
-pub mod Questions
 pub mod Items
 pub mod Bounds
+pub mod Extents
+pub mod Summaries
 pub mod Falls
 pub mod Stored
 pub mod Times

@@ -1,19 +1,17 @@
 //! Stated minima and maxima (glTF 2.0, section 3.6.2.5, "Accessors Bounds").
-ghost use Rattle.std.specs.Prelude.{◌≡◌, OnOk, map, take, slice_get};
+ghost use Rattle.std.specs.Prelude.{◌≡◌, OnOk, map, take};
 ghost use Rattle.serde_json.specs.View.{view};
-ghost use Rattle.gltf.specs.Shown.{bytes_of_each};
 ghost use Rattle.gltf_validation.specs.Locations.{places_of};
 ghost use Rattle.gltf_findings.specs.Checks.{told_after};
-ghost use Rattle.gltf_inspect_values.specs.Bounds.{rounded, stated, elements, number_checks};
-ghost use Rattle.gltf_inspect_values.specs.Bounds.{column_checks, each_checks, bound_checks};
+ghost use Rattle.gltf_inspect_values.specs.Bounds.{rounded, stated, elements, each_checks};
 ghost use Rattle.gltf_inspect_values.specs.Bounds.{are_bytes, are_halves, is_padded};
-ghost use Rattle.gltf_inspect_values.specs.Bounds.{are_looked_at, bounds_checks};
-ghost use Rattle.gltf_inspect_values.specs.Items.{item_bytes};
+ghost use Rattle.gltf_inspect_values.specs.Extents.{extent_checks, value_checks, extents_checks};
+ghost use Rattle.gltf_inspect_values.specs.Summaries.{stated_checks, both_checks};
+ghost use Rattle.gltf_inspect_values.specs.Summaries.{has_bounds, found_checks};
 ghost use Rattle.gltf_inspect_values.specs.declared.bounds.Bound.TheVariants.{Least, Greatest};
 
-use crate::component::Column;
-use crate::question::Question;
-use crate::walk::{Place, any_item};
+use crate::extent::{Extent, greatest_is, least_is, listed};
+use crate::summary::Summary;
 use gltf_findings::code::Code;
 use gltf_findings::findings::Findings;
 use gltf_json_geometry::accessor::{Accessor, ComponentType, Type};
@@ -80,91 +78,89 @@ fn elements(bound: &Option<Value>) -> &[Value]
 
 /// Reports whether a number is the least of a column, and whether another is below it.
 fn tell_least(
-    place: Place<'_>,
-    accessor: &Accessor,
-    column: Column,
+    extent: Extent,
     number: f64,
     location: &Location<'_>,
     findings: &mut Findings,
 ) -> Result<(), AllocError>
-    ensures { let p = place.entry in
-        OnOk result (findings.new ≡ told_after findings.old (places_of location.now)
-        (number_checks Least column.kind
-        (item_bytes p.document.now (slice_get (bytes_of_each p.buffers.now)) p.index
-        accessor.now) column.index number)) }
+    ensures { OnOk result (findings.new ≡ told_after findings.old (places_of location.now)
+        (extent_checks Least extent number)) }
 {
-    let below = any_item(place, accessor, Question::Below(column, number));
-    let is_least = !below && any_item(place, accessor, Question::Equal(column, number));
-    findings.tell(is_least, Code::MinMismatch, location)?;
+    let below = extent.least < number;
+    findings.tell(least_is(extent, number), Code::MinMismatch, location)?;
     findings.tell(!below, Code::ElementOutOfMinBound, location)
 }
 
 /// Reports whether a number is the greatest of a column, and whether another is above it.
 fn tell_greatest(
-    place: Place<'_>,
-    accessor: &Accessor,
-    column: Column,
+    extent: Extent,
     number: f64,
     location: &Location<'_>,
     findings: &mut Findings,
 ) -> Result<(), AllocError>
-    ensures { let p = place.entry in
-        OnOk result (findings.new ≡ told_after findings.old (places_of location.now)
-        (number_checks Greatest column.kind
-        (item_bytes p.document.now (slice_get (bytes_of_each p.buffers.now)) p.index
-        accessor.now) column.index number)) }
+    ensures { OnOk result (findings.new ≡ told_after findings.old (places_of location.now)
+        (extent_checks Greatest extent number)) }
 {
-    let above = any_item(place, accessor, Question::Above(column, number));
-    let is_greatest = !above && any_item(place, accessor, Question::Equal(column, number));
-    findings.tell(is_greatest, Code::MaxMismatch, location)?;
+    let above = number < extent.greatest;
+    findings.tell(greatest_is(extent, number), Code::MaxMismatch, location)?;
     findings.tell(!above, Code::ElementOutOfMaxBound, location)
 }
 
-/// Reports what is found in what is stated for a column.
+/// Reports what is found in what is stated for a column of this extent.
+fn tell_value(
+    bound: Bound,
+    kind: Checked<ComponentType>,
+    extent: Extent,
+    value: &Value,
+    location: &Location<'_>,
+    findings: &mut Findings,
+) -> Result<(), AllocError>
+    ensures { OnOk result (findings.new ≡ told_after findings.old (places_of location.now)
+        (value_checks bound kind extent (view value.now))) }
+{
+    let Some(number) = stated(kind, value) else {
+        return Ok(());
+    };
+    match bound {
+        Bound::Least => tell_least(extent, number, location, findings),
+        Bound::Greatest => tell_greatest(extent, number, location, findings),
+    }
+}
+
+/// The same for a column by its index.
 fn tell_column(
     bound: Bound,
-    place: Place<'_>,
-    accessor: &Accessor,
+    kind: Checked<ComponentType>,
+    extents: &[Extent],
     index: usize,
     value: &Value,
     location: &Location<'_>,
     findings: &mut Findings,
 ) -> Result<(), AllocError>
-    ensures { let p = place.entry in
-        OnOk result (findings.new ≡ told_after findings.old (places_of location.now)
-        (column_checks bound accessor.now.component_type
-        (item_bytes p.document.now (slice_get (bytes_of_each p.buffers.now)) p.index
-        accessor.now) index (view value.now))) }
+    ensures { OnOk result (findings.new ≡ told_after findings.old (places_of location.now)
+        (extents_checks bound kind extents.now index (view value.now))) }
 {
-    let kind = accessor.component_type;
-    let Some(number) = stated(kind, value) else {
-        return Ok(());
-    };
-    let column = Column { kind, index };
-    match bound {
-        Bound::Least => tell_least(place, accessor, column, number, location, findings),
-        Bound::Greatest => tell_greatest(place, accessor, column, number, location, findings),
+    match extents.get(index) {
+        None => Ok(()),
+        Some(extent) => tell_value(bound, kind, *extent, value, location, findings),
     }
 }
 
 /// The same of each column.
 fn tell_columns(
     bound: Bound,
-    place: Place<'_>,
-    accessor: &Accessor,
+    kind: Checked<ComponentType>,
+    extents: &[Extent],
     values: &[Value],
     location: &Location<'_>,
     findings: &mut Findings,
 ) -> Result<(), AllocError>
-    ensures { let p = place.entry in
-        OnOk result (findings.new ≡ told_after findings.old (places_of location.now)
-        (each_checks (λ c v. column_checks bound accessor.now.component_type
-        (item_bytes p.document.now (slice_get (bytes_of_each p.buffers.now)) p.index
-        accessor.now) c (view v)) 0 values.now)) }
+    ensures { OnOk result (findings.new ≡ told_after findings.old (places_of location.now)
+        (each_checks (λ c v. extents_checks bound kind extents.now c (view v)) 0 values.now)) }
 {
     for (i, value) in values.iter().enumerate() {
         let at = Location::Item(&*location, i);
-        tell_column(bound, place, accessor, i, value, &at, findings)?;
+        tell_column(bound, kind, extents, i, value, &at, findings)?;
     }
     Ok(())
 }
@@ -172,19 +168,16 @@ fn tell_columns(
 /// The same of what a member states.
 fn tell_bound(
     bound: Bound,
-    place: Place<'_>,
-    accessor: &Accessor,
+    kind: Checked<ComponentType>,
+    extents: &[Extent],
     member: &Option<Value>,
     location: &Location<'_>,
     findings: &mut Findings,
 ) -> Result<(), AllocError>
-    ensures { let p = place.entry in
-        OnOk result (findings.new ≡ told_after findings.old (places_of location.now)
-        (bound_checks bound accessor.now.component_type
-        (item_bytes p.document.now (slice_get (bytes_of_each p.buffers.now)) p.index
-        accessor.now) member.now)) }
+    ensures { OnOk result (findings.new ≡ told_after findings.old (places_of location.now)
+        (stated_checks bound kind extents.now member.now)) }
 {
-    tell_columns(bound, place, accessor, elements(member), location, findings)
+    tell_columns(bound, kind, extents, elements(member), location, findings)
 }
 
 fn are_bytes(kind: Checked<ComponentType>) -> bool
@@ -213,41 +206,43 @@ fn is_padded(kind: Checked<ComponentType>, shape: Checked<Type>) -> bool
     }
 }
 
-fn are_looked_at(place: Place<'_>, accessor: &Accessor) -> bool
-    ensures { let p = place.entry in
-        result ≡ are_looked_at accessor.now
-        (item_bytes p.document.now (slice_get (bytes_of_each p.buffers.now)) p.index
-        accessor.now) }
-{
-    !is_padded(accessor.component_type, accessor.type_)
-        && any_item(place, accessor, Question::Exists)
-}
-
-/// Reports what is found in the bounds of an accessor, where it has items without padding.
-pub(crate) fn tell_bounds(
-    place: Place<'_>,
+/// Reports what is found in the bounds of an accessor whose columns have these extents.
+fn tell_stated(
     accessor: &Accessor,
+    extents: &[Extent],
     location: &Location<'_>,
     findings: &mut Findings,
 ) -> Result<(), AllocError>
-    ensures { let p = place.entry in
-        OnOk result (findings.new ≡ told_after findings.old (places_of location.now)
-        (bounds_checks accessor.now
-        (item_bytes p.document.now (slice_get (bytes_of_each p.buffers.now)) p.index
-        accessor.now))) }
+    ensures { OnOk result (findings.new ≡ told_after findings.old (places_of location.now)
+        (both_checks accessor.now extents.now)) }
 {
-    if !are_looked_at(place, accessor) {
-        return Ok(());
-    }
+    let kind = accessor.component_type;
     let at = Location::Member(location, "min");
-    tell_bound(Bound::Least, place, accessor, &accessor.min, &at, findings)?;
+    tell_bound(Bound::Least, kind, extents, &accessor.min, &at, findings)?;
     let at = Location::Member(location, "max");
-    tell_bound(
-        Bound::Greatest,
-        place,
-        accessor,
-        &accessor.max,
-        &at,
-        findings,
-    )
+    tell_bound(Bound::Greatest, kind, extents, &accessor.max, &at, findings)
+}
+
+fn has_bounds(accessor: &Accessor, exist: bool) -> bool
+    ensures { result ≡ has_bounds accessor.now exist }
+{
+    !is_padded(accessor.component_type, accessor.type_) && exist
+}
+
+/// The same, where the accessor has items without padding.
+pub(crate) fn tell_bounds(
+    accessor: &Accessor,
+    found: &Summary,
+    location: &Location<'_>,
+    findings: &mut Findings,
+) -> Result<(), AllocError>
+    ensures { OnOk result (findings.new ≡ told_after findings.old (places_of location.now)
+        (found_checks accessor.now found.now)) }
+{
+    if has_bounds(accessor, found.exist) {
+        let extents = listed(&found.columns);
+        tell_stated(accessor, &extents, location, findings)
+    } else {
+        Ok(())
+    }
 }

@@ -1,15 +1,140 @@
 //! The components of an item (glTF 2.0, section 3.6.2.2, "Accessor Data Types").
-ghost use Rattle.std.specs.Prelude.{◌≡◌, ◌≤◌};
-ghost use Rattle.gltf_inspect_values.specs.Components.{at_column, component, has_infinite};
-ghost use Rattle.gltf_inspect_values.specs.Components.{is_above, is_below, is_equal};
-ghost use Rattle.gltf_inspect_values.specs.Components.{is_infinite};
+ghost use Rattle.std.specs.Prelude.{◌≡◌, ◌≤◌, ℕ, pos, List, Bool, false};
+ghost use Rattle.std.specs.Float.{Float, binary64};
+ghost use Rattle.std.specs.Float.Ieee.{of_int};
+ghost use Rattle.std.proofs.Common.{arith};
+ghost use Rattle.gltf_items.specs.Floats.{float_of};
+ghost use Rattle.gltf_inspect_values.specs.Components.{at_column, number_at, is_infinite};
+ghost use Rattle.gltf_inspect_values.specs.Components.{has_infinite};
 
+use byteorder::{ByteOrder, LE};
 use gltf_items::{F32, Item};
-use gltf_json_geometry::accessor::ComponentType;
-use gltf_json_record::validation::Checked;
 use std::num::{f32_to_f64_with_nan, nearest_i64_to_f64, nearest_u64_to_f64};
 
+/// What components are read as.
+pub(crate) trait Component: Item {
+    /// The number that a component is.
+    ghost number: { Self → Float };
+
+    /// Whether a component of an item with these bytes is infinite or not a number.
+    ghost any_infinite: { List ℕ → Bool };
+
+    /// The number that it is: a double holds each of them exactly.
+    fn number(self) -> f64
+        ensures { result ≡ number self };
+
+    /// Whether a component of an item is infinite or not a number.
+    fn is_infinite(item: &[u8]) -> bool
+        ensures { result ≡ any_infinite item.now };
+
+    /// A component has at most four bytes.
+    ghost is_short: { Self.size ≤ 4 };
+}
+
+impl Component for i8 {
+    ghost number = { λ z. of_int binary64 z };
+
+    ghost any_infinite = { λ item. false };
+
+    ghost is_short = { Prim.omega arith };
+
+    fn number(self) -> f64 {
+        nearest_i64_to_f64(self as i64)
+    }
+
+    fn is_infinite(_item: &[u8]) -> bool {
+        false
+    }
+}
+
+impl Component for u8 {
+    ghost number = { λ n. of_int binary64 (pos n) };
+
+    ghost any_infinite = { λ item. false };
+
+    ghost is_short = { Prim.omega arith };
+
+    fn number(self) -> f64 {
+        nearest_u64_to_f64(self as u64)
+    }
+
+    fn is_infinite(_item: &[u8]) -> bool {
+        false
+    }
+}
+
+impl Component for i16 {
+    ghost number = { λ z. of_int binary64 z };
+
+    ghost any_infinite = { λ item. false };
+
+    ghost is_short = { Prim.omega arith };
+
+    fn number(self) -> f64 {
+        nearest_i64_to_f64(self as i64)
+    }
+
+    fn is_infinite(_item: &[u8]) -> bool {
+        false
+    }
+}
+
+impl Component for u16 {
+    ghost number = { λ n. of_int binary64 (pos n) };
+
+    ghost any_infinite = { λ item. false };
+
+    ghost is_short = { Prim.omega arith };
+
+    fn number(self) -> f64 {
+        nearest_u64_to_f64(self as u64)
+    }
+
+    fn is_infinite(_item: &[u8]) -> bool {
+        false
+    }
+}
+
+impl Component for u32 {
+    ghost number = { λ n. of_int binary64 (pos n) };
+
+    ghost any_infinite = { λ item. false };
+
+    ghost is_short = { Prim.omega arith };
+
+    fn number(self) -> f64 {
+        nearest_u64_to_f64(self as u64)
+    }
+
+    fn is_infinite(_item: &[u8]) -> bool {
+        false
+    }
+}
+
+impl Component for F32 {
+    ghost number = { float_of };
+
+    ghost any_infinite = { has_infinite };
+
+    ghost is_short = { Prim.omega arith };
+
+    fn number(self) -> f64 {
+        let bits = LE::read_u32(&self.to_bytes());
+        if bits % 0x8000_0000 <= 0x7f80_0000 {
+            let number = f32::from_bits(bits);
+            number as f64
+        } else {
+            f32_to_f64_with_nan(self.to_f32())
+        }
+    }
+
+    fn is_infinite(item: &[u8]) -> bool {
+        has_infinite(item)
+    }
+}
+
 /// What stands in a column of an item, where the item has so many.
+#[inline(always)]
 fn at_column<T: Item>(item: &[u8], column: usize) -> Option<T>
     requires { T.size ≤ 4 }
     ensures { result ≡ at_column T.size T.value column item.now }
@@ -24,90 +149,26 @@ fn at_column<T: Item>(item: &[u8], column: usize) -> Option<T>
     }
 }
 
-/// The number in a column of an item.
-fn component(kind: Checked<ComponentType>, column: usize, item: &[u8]) -> Option<f64>
-    ensures { result ≡ component kind column item.now }
+/// The number in a column of an item, where the item has so many.
+#[inline(always)]
+pub(crate) fn number_at<T: Component>(item: &[u8], column: usize) -> Option<f64>
+    ensures { result ≡ number_at T.size T.value T.number column item.now }
 {
-    let Checked::Valid(kind) = kind else {
-        return None;
-    };
-    match kind {
-        ComponentType::I8 => {
-            let number: i8 = at_column(item, column)?;
-            Some(nearest_i64_to_f64(number as i64))
-        }
-        ComponentType::U8 => {
-            let number: u8 = at_column(item, column)?;
-            Some(nearest_u64_to_f64(number as u64))
-        }
-        ComponentType::I16 => {
-            let number: i16 = at_column(item, column)?;
-            Some(nearest_i64_to_f64(number as i64))
-        }
-        ComponentType::U16 => {
-            let number: u16 = at_column(item, column)?;
-            Some(nearest_u64_to_f64(number as u64))
-        }
-        ComponentType::U32 => {
-            let number: u32 = at_column(item, column)?;
-            Some(nearest_u64_to_f64(number as u64))
-        }
-        ComponentType::F32 => {
-            let number: F32 = at_column(item, column)?;
-            Some(f32_to_f64_with_nan(number.to_f32()))
-        }
-    }
+    let component: T = at_column(item, column)?;
+    Some(component.number())
 }
 
-/// A column of the items of an accessor.
-#[derive(Clone, Copy)]
-pub(crate) struct Column {
-    /// The type of its numbers.
-    pub(crate) kind: Checked<ComponentType>,
-    /// Which one it is.
-    pub(crate) index: usize,
-}
-
-/// Whether the number in a column is below another.
-pub(crate) fn is_below(column: Column, number: f64, item: &[u8]) -> bool
-    ensures { result ≡ is_below number (component column.kind column.index item.now) }
-{
-    match component(column.kind, column.index, item) {
-        Some(found) => found < number,
-        None => false,
-    }
-}
-
-/// Whether the number in a column is above another.
-pub(crate) fn is_above(column: Column, number: f64, item: &[u8]) -> bool
-    ensures { result ≡ is_above number (component column.kind column.index item.now) }
-{
-    match component(column.kind, column.index, item) {
-        Some(found) => number < found,
-        None => false,
-    }
-}
-
-/// Whether the number in a column is the same as another.
-pub(crate) fn is_equal(column: Column, number: f64, item: &[u8]) -> bool
-    ensures { result ≡ is_equal number (component column.kind column.index item.now) }
-{
-    match component(column.kind, column.index, item) {
-        Some(found) => found == number,
-        None => false,
-    }
-}
-
-/// Whether the exponent of a float is all ones: the eight bits after the sign.
+/// Whether the exponent of a float is all ones: the eight bits after the sign. Few floats have the
+/// first seven, so that these are looked at first.
 fn is_infinite(third: u8, fourth: u8) -> bool
     ensures { result ≡ is_infinite third fourth }
 {
-    128 <= third && fourth % 128 == 127
+    fourth % 128 == 127 && 128 <= third
 }
 
 /// Whether some float of an item is infinite or not a number.
 #[tactic(auto, using(crate::proofs::Short::short_has_none))]
-pub(crate) fn has_infinite(item: &[u8]) -> bool
+fn has_infinite(item: &[u8]) -> bool
     ensures { result ≡ has_infinite item.now }
 {
     let mut rest = item;

@@ -21,8 +21,9 @@ use std::alloc::{AllocError, Global};
 /// the condition of that code stands at that path and is false. Items are looked at where the
 /// accessor has a view and can be read, and stored indices where these can be read.
 ///
-/// It takes time in proportion to the items of all accessors, of which each is passed over at most
-/// sixty-six times, and memory for the findings alone. Fails where there is no memory.
+/// It takes time in proportion to the items of all accessors, of which each is passed over once at
+/// most, and to the times of all samplers, of which each is passed over twice, and memory for the
+/// findings alone. Fails where there is no memory.
 pub fn inspect_values(
     alloc: Global,
     document: &Document,

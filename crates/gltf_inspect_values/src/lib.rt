@@ -5,10 +5,11 @@
 mod accessors;
 mod bounds;
 mod component;
+mod extent;
 pub mod inspect;
 mod item;
 pub mod laws;
-mod question;
 mod stored;
+mod summary;
 mod times;
 mod walk;

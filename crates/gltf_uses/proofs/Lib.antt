@@ -1,6 +1,7 @@
 pub mod Folds
 pub mod Paths
 pub mod Unmarked
+pub mod AllMarks
 pub mod Free
 pub mod SameAnimations
 pub mod SameGeometry

@@ -1,5 +1,5 @@
--- The walk that marks the elements of a list leaves those without a mark that no member names.
-use Rattle.std.proofs.Common.{◌≡◌, ◌≢◌, ◌⊎◌, ℕ, suc, ◌+◌, ◌<◌, Bool, true, false, cond}
+-- The walk that marks the elements of a list marks those that some member names.
+use Rattle.std.proofs.Common.{◌≡◌, ◌≢◌, ◌⊎◌, ℕ, zero, suc, ◌+◌, ◌<◌, Bool, true, false, cond}
 use Rattle.std.proofs.Common.{if◌then◌else◌, List, [], ◌∷◌, map, length, get_or, refl, sym, ap, ◌∙◌}
 use Rattle.std.proofs.Common.{inl, inr, arith}
 use Rattle.std.specs.Prelude.{◌==◌, ◌&&◌, ◌||◌, not, slice_set}
@@ -10,6 +10,7 @@ use Rattle.std.proofs.lemmas.List.{length-set, get_or-set_same, get_or-set_other
 use Rattle.gltf_uses.specs.declared.kind.Kind.{Kind}
 use Rattle.gltf_uses.specs.Kinds.{number}
 use Rattle.gltf_uses.specs.References.{Marked, names, marks_after, is_empty}
+use Rattle.gltf_uses.specs.Usage.{unset, unset_from}
 use Rattle.gltf_uses.specs.Uses.{Held}
 use Rattle.gltf_uses.proofs.Folds.{after_each}
 
@@ -86,43 +87,50 @@ marks_each m (h ∷ hs) k inside =
     ∙ ap (λ b. b || not (is_unused m.kind hs k)) (step_mark m h k inside)
     ∙ both_marks m.kind k (get_or m.marks k false) h hs
 
--- the numbers of the marks that are not set, from number i on
-abbrev pub unmarked_from : ℕ → List Bool → List ℕ
-unmarked_from i [] = []
-unmarked_from i (m ∷ ms) = if m then unmarked_from (i + 1) ms else i ∷ unmarked_from (i + 1) ms
-
-unmarked_are : (test : ℕ → Bool) (a : ℕ) (ms : List Bool)
-    → ((k : ℕ) → k < length ms → get_or ms k false ≡ not (test (a + k)))
-    → unmarked_from a ms ≡ filter test (range_with_len a (length ms))
-unmarked_are test a [] told = refl
-unmarked_are test a (m ∷ ms) told =
-    let later : unmarked_from (a + 1) ms ≡ filter test (range_with_len (a + 1) (length ms)) =
-    unmarked_are test (a + 1) ms (λ k inside.
+marks_are : (test : ℕ → Bool) (a : ℕ) (ms : List Bool)
+    → ((k : ℕ) → k < length ms → get_or ms k false ≡ test (a + k))
+    → ms ≡ map test (range_with_len a (length ms))
+marks_are test a [] told = refl
+marks_are test a (m ∷ ms) told =
+    let later : ms ≡ map test (range_with_len (a + 1) (length ms)) =
+    marks_are test (a + 1) ms (λ k inside.
     let shifted : a + suc k ≡ (a + 1) + k = omega arith in
-    told (suc k) (omega arith) ∙ ap (λ (n : ℕ). not (test n)) shifted) in
-    let first : m ≡ not (test a) =
-    told 0 (omega arith) ∙ ap (λ (n : ℕ). not (test n)) (omega arith) in
-    let tested : unmarked_from a (m ∷ ms)
-    ≡ (if not (test a) then unmarked_from (a + 1) ms else a ∷ unmarked_from (a + 1) ms) =
-    ap (λ b. if b then unmarked_from (a + 1) ms else a ∷ unmarked_from (a + 1) ms) first in
-    let rest : List ℕ = filter test (range_with_len (a + 1) (length ms)) in
-    tested
-    ∙ ap (λ xs. if not (test a) then xs else a ∷ xs) later
-    ∙ elim (test a) as (λ b. (if not b then rest else a ∷ rest) ≡ cond b (a ∷ rest) rest)
-    [ true ↦ refl | false ↦ refl ]
+    told (suc k) (omega arith) ∙ ap test shifted) in
+    let first : m ≡ test a = told 0 (omega arith) ∙ ap test (omega arith) in
+    ap (λ (b : Bool). b ∷ ms) first ∙ ap (λ (bs : List Bool). test a ∷ bs) later
 
--- from marks none of which is set, those are left whose elements no member names
-pub unused_are : (m : Marked) (hs : List Held) (n : ℕ) → length m.marks ≡ n
+-- from marks none of which is set, those are set whose elements some member names
+pub used_are : (m : Marked) (hs : List Held) (n : ℕ) → length m.marks ≡ n
     → ((k : ℕ) → k < n → get_or m.marks k false ≡ false)
-    → unmarked_from 0 (after_each marks_after m hs).marks
-    ≡ filter (is_unused m.kind hs) (range_with_len 0 n)
-unused_are m hs n count none =
+    → (after_each marks_after m hs).marks
+    ≡ map (λ i. not (is_unused m.kind hs i)) (range_with_len 0 n)
+used_are m hs n count none =
     let all : List Bool = (after_each marks_after m hs).marks in
     let same : length all ≡ n = length_each m hs ∙ count in
-    unmarked_are (is_unused m.kind hs) 0 all (λ k inside.
+    marks_are (λ i. not (is_unused m.kind hs i)) 0 all (λ k inside.
     let within : k < n = rw same at inside in
     let at : k ≡ 0 + k = omega arith in
     marks_each m hs k (rw count within)
     ∙ ap (λ b. b || not (is_unused m.kind hs k)) (none k within)
     ∙ ap (λ (i : ℕ). not (is_unused m.kind hs i)) at)
-    ∙ ap (λ (i : ℕ). filter (is_unused m.kind hs) (range_with_len 0 i)) same
+    ∙ ap (λ (i : ℕ). map (λ k. not (is_unused m.kind hs k)) (range_with_len 0 i)) same
+
+-- the marks that are not set are those of the elements that pass the test
+pub unset_are : (test : ℕ → Bool) (a n : ℕ)
+    → unset_from a (map (λ i. not (test i)) (range_with_len a n)) ≡ filter test (range_with_len a n)
+unset_are test a zero = refl
+unset_are test a (suc n) =
+    let rest : List ℕ = filter test (range_with_len (a + 1) n) in
+    let later : unset_from (a + 1) (map (λ i. not (test i)) (range_with_len (a + 1) n)) ≡ rest =
+    unset_are test (a + 1) n in
+    ap (λ (xs : List ℕ). if not (test a) then xs else a ∷ xs) later
+    ∙ elim (test a) as (λ b. (if not b then rest else a ∷ rest) ≡ cond b (a ∷ rest) rest)
+    [ true ↦ refl | false ↦ refl ]
+
+-- and those are left without a mark whose elements no member names
+pub unused_are : (m : Marked) (hs : List Held) (n : ℕ) → length m.marks ≡ n
+    → ((k : ℕ) → k < n → get_or m.marks k false ≡ false)
+    → unset (after_each marks_after m hs).marks
+    ≡ filter (is_unused m.kind hs) (range_with_len 0 n)
+unused_are m hs n count none =
+    ap unset (used_are m hs n count none) ∙ unset_are (is_unused m.kind hs) 0 n

@@ -1,5 +1,5 @@
 -- The lists that indices point into.
-use Rattle.std.specs.Prelude.{ℕ}
+use Rattle.std.specs.Prelude.{ℕ, List, [], ◌∷◌}
 use Rattle.gltf_validation.specs.declared.counts.Counts.{Counts}
 use Rattle.gltf_uses.specs.declared.kind.Kind.{Kind}
 use Rattle.gltf_uses.specs.declared.kind.Kind.TheVariants as list
@@ -19,6 +19,12 @@ number list.Scene = 9
 number list.Skin = 10
 number list.Texture = 11
 number list.View = 12
+
+-- all of them, in the order of their numbers
+abbrev pub all_kinds : List Kind
+all_kinds =
+    list.Accessor ∷ list.Buffer ∷ list.Camera ∷ list.Image ∷ list.Light ∷ list.Material ∷ list.Mesh
+    ∷ list.Node ∷ list.Sampler ∷ list.Scene ∷ list.Skin ∷ list.Texture ∷ list.View ∷ []
 
 -- the length of the list
 abbrev pub count_of : Kind → Counts → ℕ

@@ -6,5 +6,6 @@ pub mod Materials
 pub mod Scenes
 pub mod Documents
 pub mod References
+pub mod Usage
 pub mod Lengths
 pub mod Textures

@@ -1,5 +1,5 @@
 //! The lists that indices point into.
-ghost use Rattle.std.specs.Prelude.{◌≡◌, ◌==◌};
+ghost use Rattle.std.specs.Prelude.{◌≡◌, ◌==◌, ◌<◌};
 ghost use Rattle.gltf_uses.specs.Kinds.{number, count_of};
 
 use gltf_json_record::kinds;
@@ -39,6 +39,23 @@ pub enum Kind {
 }
 
 impl Kind {
+    /// All lists, in the order of their numbers.
+    pub(crate) const ALL: [Kind; 13] = [
+        Kind::Accessor,
+        Kind::Buffer,
+        Kind::Camera,
+        Kind::Image,
+        Kind::Light,
+        Kind::Material,
+        Kind::Mesh,
+        Kind::Node,
+        Kind::Sampler,
+        Kind::Scene,
+        Kind::Skin,
+        Kind::Texture,
+        Kind::View,
+    ];
+
     /// The length of the list.
     pub(crate) fn count(self, counts: &Counts) -> usize
         ensures { result ≡ count_of self counts.now }
@@ -60,8 +77,10 @@ impl Kind {
         }
     }
 
-    fn number(self) -> u8
-        ensures { result ≡ number self }
+    /// Its number, by which tables of all lists are in order.
+    pub(crate) fn number(self) -> usize
+        ensures is { result ≡ number self }
+        ensures within { result < 13 }
     {
         match self {
             Kind::Accessor => 0,

@@ -11,9 +11,11 @@ mod material_textures;
 mod root;
 mod scene;
 mod sink;
+mod usage;
 mod uses;
 mod visit;
 
 pub use kind::Kind;
 pub use material_textures::{Slot, TextureUse, textures};
+pub use usage::Usage;
 pub use uses::{references, unused};

@@ -43,7 +43,7 @@ pub fn references(
 /// be shown though no member names it.
 ///
 /// It takes one walk over the document, and memory in proportion to the length of the list. Fails
-/// where there is no memory.
+/// where there is no memory. `Usage` makes one walk for all lists.
 pub fn unused(alloc: Global, root: &Root, kind: Kind) -> Result<Vec<usize>, AllocError>
     ensures { IfOk result (λ unused. unused.items ≡ unused_of root.now kind) }
 {

@@ -7,8 +7,9 @@ use Rattle.gltf_uses.specs.Documents.{root_uses}
 use Rattle.gltf_uses.specs.Kinds.{count_of}
 use Rattle.gltf_uses.specs.References.{Marked, held, marks_after}
 use Rattle.gltf_uses.specs.References.{references_of, unused_of}
+use Rattle.gltf_uses.specs.Usage.{unset, unset_from}
 use Rattle.gltf_uses.proofs.Folds.{after_each, after_uses-each}
-use Rattle.gltf_uses.proofs.Unmarked.{unmarked_from, unused_are}
+use Rattle.gltf_uses.proofs.Unmarked.{unused_are}
 use Rattle.gltf_uses.proofs.uses.unused.Goals as goal
 
 pub returns : goal.returns
@@ -35,7 +36,7 @@ returns c =
     ∙ after_uses-each marks_after start [] (root_uses c.args.root.now)) in
     let over : drop c.loop-i.i all ≡ [] = drop_all c.loop-i.i all c.loop-i-test.false in
     sym (append-nil c.loop-i.unused.items)
-    ∙ ap (λ (ms : List Bool). c.loop-i.unused.items ++ unmarked_from c.loop-i.i ms) (sym over)
+    ∙ ap (λ (ms : List Bool). c.loop-i.unused.items ++ unset_from c.loop-i.i ms) (sym over)
     ∙ c.loop-i.invariant
-    ∙ ap (unmarked_from 0) walked
+    ∙ ap unset walked
     ∙ unused_are start (held c.args.root.now) n count none
