@@ -69,9 +69,13 @@ _gltf_repack() {
 # The flags of `gltf_convert` that fit the second name and are not there yet.
 _gltf_flags() {
     local word given=" ${COMP_WORDS[*]:3} "
-    for word in --keep-images --pretty; do
+    for word in --keep-images --drop-image-views --pretty; do
         [[ $given == *" $word "* ]] && continue
-        [[ $word == --pretty && ${COMP_WORDS[2],,} != *.gltf ]] && continue
+        [[ $word != --keep-images && ${COMP_WORDS[2],,} != *.gltf ]] && continue
+        case $word in
+            --keep-images) [[ $given == *" --drop-image-views "* ]] && continue ;;
+            --drop-image-views) [[ $given == *" --keep-images "* ]] && continue ;;
+        esac
         echo "$word"
     done
 }

@@ -124,6 +124,11 @@ NOT_CONVERTED = [
     (["payload.gltf", "out.glb"], 1, Begins("images[0].uri: ")),
     (["two.gltf", "out.glb", "--pretty"], 2, CONVERT_USAGE),
     (["two.gltf", "out.gltf", "--pretty", "--pretty"], 2, CONVERT_USAGE),
+    (["two.gltf", "out.glb", "--drop-image-views"], 2, CONVERT_USAGE),
+    (["two.gltf", "out.gltf", "--keep-images", "--drop-image-views"], 2, CONVERT_USAGE),
+    (["two.gltf", "out.gltf", "--drop-image-views", "--drop-image-views"], 2, CONVERT_USAGE),
+    (["stray.gltf", "out.gltf", "--drop-image-views"], 1,
+     "bufferViews[0]: not within its buffer\n"),
     (["no.gltf", "out.gltf"], 1, Failed("no.gltf")),
     (["lacks.gltf", "out.gltf"], 1, Failed("no.bin")),
     (["dangling.gltf", "out.gltf"], 1, DANGLING),
@@ -176,6 +181,85 @@ ODD_URI = "%C3%BC%20a%25%3Ab"
 # The type that the bytes begin as goes before that which an image names.
 ENDS = ["png", "jpg", "webp", "ktx2"]
 SPELLED = b"[1e3,1E+3,0.1,-0.0,1.5e-7,12345678901234567890,-9007199254740993,1.0]"
+# The container as JSON text: of its views the last four are of images.
+ONE_APART = ONE | {
+    "buffers": [{"byteLength": 48, "uri": "out.bin"}],
+    "images": [{"uri": f"out_image{i}.{kind}",
+                **{k: v for k, v in image.items() if k != "bufferView"}}
+               for i, (kind, image) in enumerate(zip(["png", "bin", "jpg", "bin"],
+                                                     ONE["images"]))],
+}
+ONE_BESIDE = {name: held for name, held in BESIDE.items() if "image" in name}
+# What is left without them: the second of the two views that stay ends after 13 bytes.
+ONE_LEFT = ONE_APART | {
+    "buffers": [{"byteLength": 13, "uri": "out.bin"}], "bufferViews": VIEWS[:2]}
+DROPPED = ["--drop-image-views"]
+KNOWN = {"extensionsUsed": ["KHR_texture_transform", "KHR_materials_ior"]}
+UNKNOWN = {"extensionsUsed": ["KHR_materials_ior", "STUDIO"]}
+# Two buffers of eight bytes, and the views of two images: what else names a view changes what goes.
+EIGHTS = {
+    "asset": {"version": "2.0"},
+    "buffers": [{"byteLength": 8, "uri": data("", b"01234567")},
+                {"byteLength": 8, "uri": data("", b"89abcdef")}],
+    "bufferViews": [{"buffer": 0, "byteLength": 2}, {"buffer": 1, "byteLength": 3},
+                    {"buffer": 0, "byteLength": 2, "byteOffset": 5},
+                    {"buffer": 1, "byteLength": 8}],
+    "images": [{"bufferView": i, "mimeType": "image/x-own"} for i in (3, 2)],
+}
+EIGHTS_APART = EIGHTS | {
+    "buffers": [{"byteLength": 8, "uri": f"out{i}.bin"} for i in range(2)],
+    "images": [{"uri": f"out_image{i}.bin", "mimeType": "image/x-own"} for i in range(2)],
+}
+EIGHTS_BESIDE = {"out0.bin": b"01234567", "out1.bin": b"89abcdef",
+                 "out_image0.bin": b"89abcdef", "out_image1.bin": b"56"}
+
+
+def sparse(indices, values):
+    """An accessor of one number that is stored in these views."""
+    return {"accessors": [{"componentType": 5121, "count": 1, "type": "SCALAR", "sparse": {
+        "count": 1, "indices": {"bufferView": indices, "componentType": 5121},
+        "values": {"bufferView": values}}}]}
+
+
+def eights_left(stay, lengths, **more):
+    """What is left of it: so many views, and so many bytes of each buffer."""
+    left = EIGHTS_APART | {"bufferViews": EIGHTS["bufferViews"][:stay]} | more
+    left["buffers"] = [{"byteLength": n, "uri": f"out{i}.bin"} for i, n in enumerate(lengths)]
+    if not stay:
+        del left["bufferViews"]
+    files = {f"out{i}.bin": held[:n] + bytes(-n % 4)
+             for i, (held, n) in enumerate(zip((b"01234567", b"89abcdef"), lengths))}
+    return left, EIGHTS_BESIDE | files
+
+
+BYTE = {"componentType": 5121, "count": 1, "type": "SCALAR"}
+# What names a view besides, how many views stay, and how many bytes each buffer has then.
+EIGHTS_LEFT = [
+    ({"accessors": [BYTE | {"bufferView": 0}, BYTE | {"bufferView": 1}]}, 2, (2, 3)),
+    ({"accessors": [BYTE | {"bufferView": 2}]}, 3, (8, 3)),
+    ({"accessors": [BYTE | {"bufferView": 3}]}, 4, (8, 8)),
+    (sparse(0, 2), 3, (8, 3)),
+    (sparse(2, 0), 3, (8, 3)),
+    (sparse(1, 3), 4, (8, 8)),
+    ({}, 2, (2, 3)),
+    ({"images": [{"bufferView": i, "mimeType": "image/x-own"} for i in range(4)]}, 0, (1, 1)),
+    (KNOWN, 2, (2, 3)),
+    (UNKNOWN, 4, (8, 8)),
+    ({"extensionsUsed": ["EXT_meshopt_compression"]}, 4, (8, 8)),
+]
+
+
+def eights_row(i, more, stay, lengths):
+    """The row of a call for one of these."""
+    left, files = eights_left(stay, lengths, **more)
+    if "images" in more:
+        held = [b"01", b"89a", b"56", b"89abcdef"]
+        left["images"] = [{"uri": f"out_image{k}.bin", "mimeType": "image/x-own"}
+                          for k in range(4)]
+        files |= {f"out_image{k}.bin": one for k, one in enumerate(held)}
+    return ([f"eights{i}.gltf"], "out", DROPPED, left, files)
+
+
 # The words, the name without its ending, the JSON value and the files of calls that write text.
 SPLIT = [
     (["two.gltf"], "out", [], APART, BESIDE),
@@ -188,13 +272,11 @@ SPLIT = [
                     {"byteLength": 5, "uri": ODD_URI + "1.bin"}],
         "images": [{"uri": ODD_URI + "_image0.png"}]},
      {ODD + "0.bin": JOINED[:4], ODD + "1.bin": JOINED[8:], ODD + "_image0.png": PICTURES[0]}),
-    (["alone.glb"], "out", [], ONE | {
-        "buffers": [{"byteLength": 48, "uri": "out.bin"}],
-        "images": [{"uri": f"out_image{i}.{kind}", **{k: v for k, v in image.items()
-                                                       if k != "bufferView"}}
-                   for i, (kind, image) in enumerate(zip(["png", "bin", "jpg", "bin"],
-                                                         ONE["images"]))]},
-     {"out.bin": TAKEN, **{name: held for name, held in BESIDE.items() if "image" in name}}),
+    (["alone.glb"], "out", [], ONE_APART, {"out.bin": TAKEN, **ONE_BESIDE}),
+    (["alone.glb"], "out", DROPPED, ONE_LEFT, {"out.bin": JOINED, **ONE_BESIDE}),
+    (["alone.glb"], "out", ["--pretty", *DROPPED], ONE_LEFT, {"out.bin": JOINED, **ONE_BESIDE}),
+    (["two.gltf"], "out", DROPPED, APART | {"bufferViews": TWO["bufferViews"][:2]}, BESIDE),
+    *[eights_row(i, *row) for i, row in enumerate(EIGHTS_LEFT)],
     (["begun.gltf"], "out", [], {
         "asset": {"version": "2.0"},
         "images": [{"uri": f"out_image{i}.{kind}", "mimeType": "image/x-own"}
@@ -232,6 +314,8 @@ def make_converted(room):
         "begun.gltf": programs.document(images=[
             *[{"uri": data("", picture), "mimeType": "image/x-own"} for picture in PICTURES],
             *[{"uri": data("", b"1"), "mimeType": media} for media in TYPES]]),
+        **{f"eights{i}.gltf": json.dumps(EIGHTS | row[0]).encode()
+           for i, row in enumerate(EIGHTS_LEFT)},
         "numbers.gltf": b'{"asset":{"version":"2.0","extras":' + SPELLED + b"}}",
         "taken1.bin/file": b"",
     })

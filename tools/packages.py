@@ -154,8 +154,11 @@ COMPLETED = [
     (["gltf_convert", "scene.gltf", ""], FILES),
     (["gltf_convert", "scene.gltf", "box.glb", ""], ["--keep-images"]),
     (["gltf_convert", "scene.gltf", "box.glb", "--keep-images", ""], []),
-    (["gltf_convert", "box.glb", "scene.gltf", ""], ["--keep-images", "--pretty"]),
-    (["gltf_convert", "box.glb", "scene.gltf", "--pretty", ""], ["--keep-images"]),
+    (["gltf_convert", "box.glb", "scene.gltf", ""],
+     ["--drop-image-views", "--keep-images", "--pretty"]),
+    (["gltf_convert", "box.glb", "scene.gltf", "--pretty", ""],
+     ["--drop-image-views", "--keep-images"]),
+    (["gltf_convert", "box.glb", "scene.gltf", "--drop-image-views", ""], ["--pretty"]),
     (["gltf_convert", "box.glb", "scene.gltf", "--keep-images", "--pretty", ""], []),
 ]
 # Calls the function that `complete` names for the first word, as bash calls it.

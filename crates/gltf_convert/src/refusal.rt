@@ -6,7 +6,7 @@ use std::alloc::AllocError;
 use std::{fmt, io};
 
 const USAGE: &str = "usage: gltf_convert IN OUT.glb [--keep-images]
-       gltf_convert IN OUT.gltf [--keep-images] [--pretty]
+       gltf_convert IN OUT.gltf [--keep-images|--drop-image-views] [--pretty]
 
 Writes the glTF file IN, GLB or JSON, anew. Each accessor has the same items. Unless images are
 kept, what is written needs no other file than those that are written with it.
@@ -21,6 +21,11 @@ there are several, and those of each image, in a view or with a URI, to OUT_imag
 by its index. The name ends in .png, .jpg, .webp or .ktx2 where the bytes begin so, or else the
 mimeType says so, and in .bin where neither does. With --pretty the text has line breaks and two
 spaces a step.
+
+The bytes of images in views are in the files of buffers too. With --drop-image-views the views at
+the end of the list go that images name, and that no accessor names, and each buffer of such a view
+ends where the last of the other views in it ends, but has one byte at least. All views stay where
+the file uses an extension that is not among some which name no view.
 
 Where the bytes of an image cannot be read, nothing is written. With --keep-images images are not
 touched: each one stays in its view, or keeps its URI.

@@ -13,7 +13,8 @@ use std::rt::Files;
 /// Converts the file that the first word names to the form that the name in the second ends in,
 /// where the words are the arguments after the program's name, and gives the exit status. The files
 /// are asked of the source by name. After the names, `--keep-images` says that images are not
-/// touched, and `--pretty` that JSON has line breaks.
+/// touched, `--drop-image-views` that the views go that only images name, and `--pretty` that JSON
+/// has line breaks.
 ///
 /// - 0: all files are whole, and a line on `out` for each says how long it is.
 /// - 1: the file is refused, a file could not be written, or a line could not; the reason stands on
@@ -84,6 +85,7 @@ fn write_text<'w, S: NamedBytes, O: Write>(
     let alloc = rt.alloc();
     let options = SplitOptions {
         keep_images: asked.keep_images,
+        drop_image_views: asked.drop_image_views,
         pretty: asked.pretty,
     };
     let split = split(alloc, source, asked.from, stem, &options)?;

@@ -1,5 +1,6 @@
 //! What the words ask for.
 use crate::refusal::Refusal;
+use std::mem::replace;
 
 /// What is written.
 #[derive(Clone, Copy, Debug, Drop)]
@@ -21,26 +22,29 @@ pub(crate) struct Conversion<'w> {
     pub(crate) form: Form<'w>,
     /// Whether images are not touched.
     pub(crate) keep_images: bool,
+    /// Whether the views go that only images name.
+    pub(crate) drop_image_views: bool,
     /// Whether JSON text has line breaks.
     pub(crate) pretty: bool,
 }
 
-/// What the words ask for: two names, and each flag at most once after them. `--pretty` is for JSON
-/// text alone.
+/// What the words ask for: two names, and each flag at most once after them. `--pretty` and
+/// `--drop-image-views` are for JSON text alone, and the latter for images that have files.
 pub(crate) fn request<'w>(words: &[&'w str]) -> Result<Conversion<'w>, Refusal<'w>> {
     let (from, to, flags) = match words {
         [from, to, flags @ ..] => (*from, *to, flags),
         _ => return Err(Refusal::Usage),
     };
-    let (keep_images, pretty) = match flags {
-        [] => (false, false),
-        ["--keep-images"] => (true, false),
-        ["--pretty"] => (false, true),
-        ["--keep-images", "--pretty"] | ["--pretty", "--keep-images"] => (true, true),
-        _ => return Err(Refusal::Usage),
-    };
+    let Flags {
+        keep_images,
+        drop_image_views,
+        pretty,
+    } = flags_of(flags)?;
     let form = form_of(to)?;
-    if pretty && matches!(form, Form::Container) {
+    if matches!(form, Form::Container) && (pretty || drop_image_views) {
+        return Err(Refusal::Usage);
+    }
+    if keep_images && drop_image_views {
         return Err(Refusal::Usage);
     }
     Ok(Conversion {
@@ -48,8 +52,34 @@ pub(crate) fn request<'w>(words: &[&'w str]) -> Result<Conversion<'w>, Refusal<'
         to,
         form,
         keep_images,
+        drop_image_views,
         pretty,
     })
+}
+
+/// The flags after the names.
+#[derive(Clone, Copy, Debug, Default)]
+struct Flags {
+    keep_images: bool,
+    drop_image_views: bool,
+    pretty: bool,
+}
+
+/// The flags that these words are, each at most once.
+fn flags_of<'w>(words: &[&'w str]) -> Result<Flags, Refusal<'w>> {
+    let mut flags = Flags::default();
+    for word in words {
+        let again = match *word {
+            "--keep-images" => replace(&mut flags.keep_images, true),
+            "--drop-image-views" => replace(&mut flags.drop_image_views, true),
+            "--pretty" => replace(&mut flags.pretty, true),
+            _ => return Err(Refusal::Usage),
+        };
+        if again {
+            return Err(Refusal::Usage);
+        }
+    }
+    Ok(flags)
 }
 
 /// What a name of this ending is written as. A text's files are named after it.

@@ -8,20 +8,20 @@ use Rattle.gltf_buffers.specs.Names.{Names, Held}
 use Rattle.gltf.specs.Import.{AcceptsWith}
 use Rattle.gltf_bundle.specs.Bundle.{IsBundle}
 use Rattle.gltf_split.specs.Laws.{Holds, HoldsBuffers}
-use Rattle.gltf_split.specs.Splits.{IsSplit, bytes_of_parts}
+use Rattle.gltf_split.specs.Splits.{IsSplit}
 use Rattle.gltf_split.specs.declared.splitting.Pieces.{Pieces}
 
 -- where a source has the text of a set and the files of its buffers, the container of this text has
 -- at each accessor the items of the file that the set is of, whatever it is imported as
 abbrev pub KeepsItemsThere : {X : Type 0} → Ghosts X → Type 0
 KeepsItemsThere {X} t =
-    (names : Names) (path stem : List ℕ) (keep : Bool) (set : Pieces)
-    (is : IsSplit names path stem keep set) (there : Holds) → HoldsBuffers there set
+    (names : Names) (path stem : List ℕ) (keep drop : Bool) (set : Pieces)
+    (is : IsSplit names path stem keep drop set) (there : Holds) → HoldsBuffers there set
     → (other : List ℕ) → there (File other) ≡ Some (string_bytes set.json)
     → (kept : Bool) (answer : List ℕ) → IsBundle (Held there) other kept answer
     → (over : Names) (s : Root) (others : List (List ℕ)) → AcceptsWith over answer s others
     → (index : ℕ) (result : Option (List X))
-    → ReadsAt t is.root_ (slice_get (bytes_of_parts set.buffers.items)) index result
+    → ReadsAt t is.root_ (slice_get is.whole) index result
     ↔ ReadsAt t s (slice_get others) index result
 
 -- where a source has a container, the set of it has at each accessor the items of the file that the
@@ -31,7 +31,8 @@ KeepsItemsBack {X} t =
     (names : Names) (path : List ℕ) (keep : Bool) (answer : List ℕ)
     (is : IsBundle names path keep answer) (from : Holds) (other : List ℕ)
     → from (File other) ≡ Some answer
-    → (stem : List ℕ) (kept : Bool) (set : Pieces) → IsSplit (Held from) other stem kept set
+    → (stem : List ℕ) (kept drop : Bool) (set : Pieces)
+    → IsSplit (Held from) other stem kept drop set
     → (there : Holds) → HoldsBuffers there set → (s : Root) (others : List (List ℕ))
     → AcceptsWith (Held there) (string_bytes set.json) s others
     → (index : ℕ) (result : Option (List X))

@@ -16,7 +16,7 @@ use Rattle.gltf_bundle.specs.Media.{begun_media}
 use Rattle.gltf_split.specs.Images.{AreParts, AreImages}
 use Rattle.gltf_split.specs.Laws.{names_of_buffers, names_of_images}
 use Rattle.gltf_split.specs.Laws.{IsNoneOf, AreApart, HasNamesApart}
-use Rattle.gltf_split.specs.Splits.{IsSplit, AreNamed, bytes_of_parts}
+use Rattle.gltf_split.specs.Splits.{IsSplit, AreNamed}
 use Rattle.gltf_split.specs.declared.splitting.Pieces.{Pieces}
 
 -- ---- digits
@@ -298,8 +298,8 @@ buffers_apart stem ps false is named h =
 few : {X : Type 0} (v : Vec X Global) → length v.items < 2 ^ 64
 few v = omega (arith, v.ok.0, v.ok.1, v.small)
 
-module _ (names : Names) (path stem : List ℕ) (keep : Bool) (set : Pieces)
-    (is : IsSplit names path stem keep set) where
+module _ (names : Names) (path stem : List ℕ) (keep drop : Bool) (set : Pieces)
+    (is : IsSplit names path stem keep drop set) where
   abbrev buffers : List (List ℕ)
   buffers = names_of_buffers set.buffers.items
 
@@ -316,7 +316,7 @@ module _ (names : Names) (path stem : List ℕ) (keep : Bool) (set : Pieces)
 
   images_are : AreRising (IsImageName stem) 0 images
   images_are =
-      all_images_rise names stem (bytes_of_parts set.buffers.items) is.value keep set.images.items
+      all_images_rise names stem is.whole is.value keep set.images.items
       is.images (few set.images)
 
   files_apart : AreApart (buffers ++ images)
@@ -338,5 +338,5 @@ module _ (names : Names) (path stem : List ℕ) (keep : Bool) (set : Pieces)
       (λ j y small y_is same. text_image stem j y_is.ending (same ∙ y_is.is)) 0 images images_are)
 
 pub names_apart : HasNamesApart
-names_apart names path stem keep set is =
-    (text_apart names path stem keep set is, files_apart names path stem keep set is)
+names_apart names path stem keep drop set is =
+    (text_apart names path stem keep drop set is, files_apart names path stem keep drop set is)

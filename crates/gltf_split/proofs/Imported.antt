@@ -1,9 +1,11 @@
 -- What the text of a set is imported as, over a source that has its files.
-use Rattle.std.proofs.Common.{◌≡◌, ℕ, ◌<◌, ◌-◌, ◌%◌, ◌+◌, List, [], ◌∷◌, ◌++◌, length, map, Bool}
-use Rattle.std.proofs.Common.{true, false}
+use Rattle.std.proofs.Common.{◌≡◌, ℕ, ◌<◌, ◌≤◌, ◌-◌, ◌%◌, ◌+◌, List, [], ◌∷◌, ◌++◌, length, map}
+use Rattle.std.proofs.Common.{Bool}
+use Rattle.std.proofs.Common.{true, false, Vec, Global}
 use Rattle.std.proofs.Common.{Option, Some, Ok, Err, Result, refl, sym, ap, subst, ◌∙◌, arith}
 use Rattle.std.proofs.Common.{slice_get, get_or, nat_lt, option_map, string_bytes}
 use Rattle.std.proofs.Common.{replicate, length-append, suc, zero}
+use Rattle.std.proofs.lemmas.Bool.{ltb-false}
 use Rattle.std.proofs.lemmas.List.{append-nil, length-replicate}
 use Rattle.std.proofs.lemmas.Option.{slice_get-map}
 use Rattle.std.specs.Prelude.{if◌then◌else◌}
@@ -24,10 +26,12 @@ use Rattle.gltf_detach.specs.Naming.{buffer_uris, image_uris, image_uri, uri_of_
 use Rattle.gltf_detach.specs.declared.part.Part.{Part}
 use Rattle.gltf_detached.specs.Laws.{IsDetached, NamesBuffers, NamesImages, LeadToNames, ReadsFiles}
 use Rattle.gltf_detached.specs.Laws.{HoldsPart, AreNamed, padded_part}
+use Rattle.gltf_json_scene.specs.declared.image.Image.{Image}
+use Rattle.gltf_trimmed.specs.Laws.{IsReadOver, IsReadTrimmed, AreBytesOf}
 use Rattle.gltf_bundle.specs.Bundle.{IsSource}
 use Rattle.gltf_split.specs.Laws.{Holds, HoldsBuffers, HasItsBuffers, ShowsImages}
 use Rattle.gltf_split.specs.Laws.{IsAcceptedOver, IsTakenOver}
-use Rattle.gltf_split.specs.Splits.{IsSplit, bytes_of_parts, split_value}
+use Rattle.gltf_split.specs.Splits.{IsSplit, bytes_of_parts, split_value, value_left, bytes_left}
 use Rattle.gltf_split.specs.declared.splitting.Pieces.{Pieces}
 use Rattle.gltf_split.proofs.Texts.{the_text}
 
@@ -36,22 +40,25 @@ of_some same = cc
 
 -- ---- the records
 
-module _ (names : Names) (path stem : List ℕ) (keep : Bool) (set : Pieces)
-    (is : IsSplit names path stem keep set) (s : Root) (blob : Option (List ℕ))
+module _ (names : Names) (path stem : List ℕ) (keep drop : Bool) (set : Pieces)
+    (is : IsSplit names path stem keep drop set) (s : Root) (blob : Option (List ℕ))
     (valid : IsValidDocument (string_bytes set.json) s blob) where
-  the_value : valid.document.value ≡ split_value set is.value
+  abbrev left : Data
+  left = value_left drop is.value
+
+  the_value : valid.document.value ≡ split_value set left
   the_value =
       let document = valid.document in
-      let same = the_text (string_bytes set.json) document.text blob (split_value set is.value)
+      let same = the_text (string_bytes set.json) document.text blob (split_value set left)
       is.reads.1 document.parts in
       let reads = subst (λ (t : List ℕ). Reads t document.value) same document.reads in
       of_some (sym reads.1 ∙ is.reads.1)
 
-  pub is_detached : IsDetached (buffer_uris set.buffers.items)
-      (image_uris set.images.items) is.root_ s
-  is_detached = record {
-    value = is.value;
-    before = is.source.records;
+  pub is_detached : (r : Root) → root.is left r
+      → IsDetached (buffer_uris set.buffers.items) (image_uris set.images.items) r s
+  is_detached r read = record {
+    value = left;
+    before = read;
     after = subst (λ (d : Data). root.is d s) the_value valid.document.records;
   }
 
@@ -125,62 +132,104 @@ all_padded (p ∷ ps) each =
     ∙ ap (λ (xs : List (List ℕ)). p.bytes.items ∷ xs)
     (all_padded ps (λ i h. each (suc i) (omega arith)))
 
--- the source at an index
-record SourceAt (r : Root) (i : ℕ) : Type 0 where
-  source : Source
-  there : slice_get (sources_of r) i ≡ Some source
-
-source_in : (bs : List Buffer) (i : ℕ) → i < length bs
-    → (source : Source) × (slice_get (map source_of bs) i ≡ Some source)
-source_in [] i h = absurd (omega arith)
-source_in (b ∷ bs) zero h = (source_of b, refl)
-source_in (b ∷ bs) (suc i) h = source_in bs i (omega arith)
-
-module _ (names : Names) (path : List ℕ) (value : Data) (r : Root) (ps : List Part)
-    (source : IsSource names path value r (bytes_of_parts ps)) where
-  pub own_count : length r.buffers.items ≡ length ps
-  own_count =
-      sym (length_of_map source_of r.buffers.items) ∙ sym source.data_.count
-      ∙ length_of_map (λ (p : Part). p.bytes.items) ps
-
-  pub are_padded : map padded_part ps ≡ bytes_of_parts ps
-  are_padded =
-      all_padded ps
-      (λ i h.
-      let within : i < length r.buffers.items = subst (λ (n : ℕ). i < n) (sym own_count) h in
-      let found = source_in r.buffers.items i within in
-      fours names (blob_for (sources_of r) source.blob i) i found.0
-      (get_or (bytes_of_parts ps) i [])
-      (source.data_.each i found.0
-      (subst (λ (n : ℕ). i < n) (sym (length_of_map source_of r.buffers.items)) within) found.1))
-
 buffer_there : (bs : List Buffer) (i : ℕ) → i < length bs → (b : Buffer) × (slice_get bs i ≡ Some b)
 buffer_there [] i h = absurd (omega arith)
 buffer_there (b ∷ bs) zero h = (b, refl)
 buffer_there (b ∷ bs) (suc i) h = buffer_there bs i (omega arith)
 
-within_list : (ps : List Part) (i : ℕ) (p : Part) → slice_get ps i ≡ Some p → i < length ps
+within_list : {A : Type 0} (ps : List A) (i : ℕ) (p : A) → slice_get ps i ≡ Some p → i < length ps
 within_list [] i p there = cc
 within_list (q ∷ ps) zero p there = omega arith
 within_list (q ∷ ps) (suc i) p there = let later = within_list ps i p there in omega (arith, later)
 
-pub has_its_buffers : NamesBuffers → ReadsFiles → HasItsBuffers
-has_its_buffers named files names path stem keep set is there holds s others accepts =
+at_least : (a b : ℕ) → nat_lt a b ≡ false → b ≤ a
+at_least a b is = ltb-false a b is
+
+not_less : (a b : ℕ) → b ≤ a → nat_lt a b ≡ false
+not_less a b h = grind arith
+
+-- the file is read over the bytes of its buffers
+source_over : (names : Names) (path : List ℕ) (value : Data) (r : Root) (buffers : List (List ℕ))
+    → IsSource names path value r buffers → IsReadOver value r buffers
+source_over names path value r buffers source = record {
+  is = source.records;
+  count = source.data_.count ∙ length_of_map source_of r.buffers.items;
+  each =
+      λ i b there.
+      let inside : i < length (sources_of r) =
+      subst (λ (n : ℕ). i < n) (sym (length_of_map source_of r.buffers.items))
+      (within_list r.buffers.items i b there) in
+      let was = source.data_.each i (source_of b) inside
+      (slice_get-map source_of r.buffers.items i ∙ ap (option_map source_of) there) in
+      let old_blob = blob_for (sources_of r) source.blob i in
+      let bytes = get_or buffers i [] in
+      record {
+        long =
+            at_least (length bytes) b.byte_length
+            (long names old_blob i (source_of b) bytes was);
+        fours = fours names old_blob i (source_of b) bytes was;
+      };
+}
+
+-- what is left of a document, and what it is read over
+pub record IsLeftOver (drop : Bool) (value : Data) (r : Root) (left : List (List ℕ)) : Type 0 where
+  pub root_ : Root
+  pub over : IsReadOver (value_left drop value) root_ left
+  pub images : root_.images ≡ r.images
+
+abbrev pub left_over : IsReadTrimmed → (drop : Bool) (value : Data) (r : Root)
+    (whole : List (List ℕ)) → IsReadOver value r whole → IsLeftOver drop value r (bytes_left drop value whole)
+left_over trimmed true value r whole over =
+    let found = trimmed value r whole over in
+    record { root_ = found.0; over = found.1; images = found.2 }
+left_over trimmed false value r whole over = record { root_ = r; over = over; images = refl }
+
+pub split_over : (names : Names) (path stem : List ℕ) (keep drop : Bool) (set : Pieces)
+    (is : IsSplit names path stem keep drop set) → IsReadOver is.value is.root_ is.whole
+split_over names path stem keep drop set is =
+    source_over names path is.value is.root_ is.whole is.source
+
+-- what is left of the file that a set is of
+pub split_left : IsReadTrimmed → (names : Names) (path stem : List ℕ) (keep drop : Bool)
+    (set : Pieces) (is : IsSplit names path stem keep drop set)
+    → IsLeftOver drop is.value is.root_ (bytes_of_parts set.buffers.items)
+split_left trimmed names path stem keep drop set is =
+    subst (λ (xs : List (List ℕ)). IsLeftOver drop is.value is.root_ xs) (sym is.bytes)
+    (left_over trimmed drop is.value is.root_ is.whole
+    (split_over names path stem keep drop set is))
+
+module _ (value : Data) (r : Root) (ps : List Part) (over : IsReadOver value r (bytes_of_parts ps))
+  where
+    pub own_count : length r.buffers.items ≡ length ps
+    own_count = sym over.count ∙ length_of_map (λ (p : Part). p.bytes.items) ps
+
+    pub are_padded : map padded_part ps ≡ bytes_of_parts ps
+    are_padded =
+        all_padded ps
+        (λ i h.
+        let found = buffer_there r.buffers.items i (subst (λ (n : ℕ). i < n) (sym own_count) h) in
+        (over.each i found.0 found.1).fours)
+
+pub has_its_buffers : NamesBuffers → ReadsFiles → IsReadTrimmed → HasItsBuffers
+has_its_buffers named files trimmed names path stem keep drop set is there holds s others accepts =
     let ps = set.buffers.items in
-    let detached = is_detached names path stem keep set is s accepts.blob accepts.valid in
-    let are = named (buffer_uris ps) (image_uris set.images.items) is.root_ s detached in
-    let own = own_count names path is.value is.root_ ps is.source in (
+    let detached = is_detached names path stem keep drop set is s accepts.blob accepts.valid in
+    let left = split_left trimmed names path stem keep drop set is in
+    let value = value_left drop is.value in
+    let are = named (buffer_uris ps) (image_uris set.images.items) left.root_ s
+    (detached left.root_ left.over.is) in
+    let own = own_count value left.root_ ps left.over in (
       detached,
       files ps s (are.count ∙ own)
           (λ i p at.
-          let before = buffer_there is.root_.buffers.items i
+          let before = buffer_there left.root_.buffers.items i
           (subst (λ (n : ℕ). i < n) (sym own) (within_list ps i p at)) in
           let after = are.each i before.0 before.1 (uri_of_part p)
           (slice_get-map (λ (p : Part). Some (uri_of_part p)) ps i
           ∙ ap (option_map (λ (p : Part). Some (uri_of_part p))) at) in
           record { buffer = after.buffer; there = after.there; uri = after.uri })
           there holds accepts.blob others accepts.data_
-          ∙ are_padded names path is.value is.root_ ps is.source,
+          ∙ are_padded value left.root_ ps left.over,
     )
 
 -- ---- over a source that has the files, the text is accepted
@@ -235,20 +284,27 @@ file_at (p ∷ ps) (suc i) h =
     let later = file_at ps i (omega arith) in
     record { part = later.part; there = later.there; is = later.is }
 
-module _ (named : NamesBuffers) (lead : LeadToNames) (names : Names) (path stem : List ℕ)
-    (keep : Bool) (set : Pieces) (is : IsSplit names path stem keep set) (there : Holds)
+module _ (named : NamesBuffers) (lead : LeadToNames) (trimmed : IsReadTrimmed) (names : Names)
+    (path stem : List ℕ) (keep drop : Bool) (set : Pieces)
+    (is : IsSplit names path stem keep drop set) (there : Holds)
     (holds : HoldsBuffers there set) (s : Root) (blob : Option (List ℕ))
     (valid : IsValidDocument (string_bytes set.json) s blob) where
   abbrev parts : List Part
   parts = set.buffers.items
 
-  are : AreNamed (buffer_uris parts) is.root_ s
-  are =
-      named (buffer_uris parts) (image_uris set.images.items) is.root_ s
-      (is_detached names path stem keep set is s blob valid)
+  abbrev left_there : IsLeftOver drop is.value is.root_ (bytes_of_parts parts)
+  left_there = split_left trimmed names path stem keep drop set is
 
-  own : length is.root_.buffers.items ≡ length parts
-  own = own_count names path is.value is.root_ parts is.source
+  abbrev own_root : Root
+  own_root = left_there.root_
+
+  are : AreNamed (buffer_uris parts) own_root s
+  are =
+      named (buffer_uris parts) (image_uris set.images.items) own_root s
+      (is_detached names path stem keep drop set is s blob valid own_root left_there.over.is)
+
+  own : length own_root.buffers.items ≡ length parts
+  own = own_count (value_left drop is.value) own_root parts left_there.over
 
   as_many : length (sources_of s) ≡ length parts
   as_many = length_of_map source_of s.buffers.items ∙ are.count ∙ own
@@ -261,25 +317,21 @@ module _ (named : NamesBuffers) (lead : LeadToNames) (names : Names) (path stem 
       let within : i < length parts = subst (λ (n : ℕ). i < n) as_many h in
       let found = file_at parts i within in
       let p = found.part in
-      let inside : i < length is.root_.buffers.items = subst (λ (n : ℕ). i < n) (sym own) within in
-      let before = buffer_there is.root_.buffers.items i inside in
+      let inside : i < length own_root.buffers.items = subst (λ (n : ℕ). i < n) (sym own) within in
+      let before = buffer_there own_root.buffers.items i inside in
       let after = are.each i before.0 before.1 (uri_of_part p)
       (slice_get-map (λ (p : Part). Some (uri_of_part p)) parts i
       ∙ ap (option_map (λ (p : Part). Some (uri_of_part p))) found.there) in
       let same : source_of after.buffer ≡ source =
       of_some_source (sym (slice_get-map source_of s.buffers.items i
       ∙ ap (option_map source_of) after.there) ∙ there_is) in
-      let old_blob = blob_for (sources_of is.root_) is.source.blob i in
-      let was : IsBytesOf names old_blob i (source_of before.0) (Ok p.bytes.items) =
-      subst (λ (x : List ℕ). IsBytesOf names old_blob i (source_of before.0) (Ok x)) found.is
-      (is.source.data_.each i (source_of before.0)
-      (subst (λ (n : ℕ). i < n) (sym (length_of_map source_of is.root_.buffers.items)) inside)
-      (slice_get-map source_of is.root_.buffers.items i ∙ ap (option_map source_of) before.1)) in
+      let was : AreBytesOf before.0 p.bytes.items =
+      subst (λ (x : List ℕ). AreBytesOf before.0 x) found.is
+      (left_there.over.each i before.0 before.1) in
       let fits : nat_lt (length p.bytes.items) after.buffer.byte_length ≡ false =
       ap (λ (n : ℕ). nat_lt (length p.bytes.items) n) after.long
-      ∙ long names old_blob i (source_of before.0) p.bytes.items was in
-      let read = read_from lead there p (holds i p found.there)
-      (fours names old_blob i (source_of before.0) p.bytes.items was)
+      ∙ not_less (length p.bytes.items) before.0.byte_length was.long in
+      let read = read_from lead there p (holds i p found.there) was.fours
       (blob_for (sources_of s) blob i) i (source_of after.buffer) after.uri fits in
       subst (λ (x : List ℕ).
       IsBytesOf (Held there) (blob_for (sources_of s) blob i) i source (Ok x)) (sym found.is)
@@ -300,19 +352,24 @@ module _ (named : NamesBuffers) (lead : LeadToNames) (names : Names) (path stem 
     },
   )
 
-pub accepted_over : NamesBuffers → LeadToNames → IsTakenOver
-accepted_over named lead names path stem keep set is text there holds =
-    accepted named lead names path stem keep set is there holds text.0 text.1 text.2
+pub accepted_over : NamesBuffers → LeadToNames → IsReadTrimmed → IsTakenOver
+accepted_over named lead trimmed names path stem keep drop set is text there holds =
+    accepted named lead trimmed names path stem keep drop set is there holds text.0 text.1 text.2
 
 -- ---- images
 
-pub shows_images : NamesImages → LeadToNames → ShowsImages
-shows_images named lead names path stem keep set is there s others accepts i p at holds x before =
-    let detached = is_detached names path stem keep set is s accepts.blob accepts.valid in
+pub shows_images : NamesImages → LeadToNames → IsReadTrimmed → ShowsImages
+shows_images named lead trimmed names path stem keep drop set is there s others accepts i p at holds
+    x before =
+    let left = split_left trimmed names path stem keep drop set is in
+    let detached = is_detached names path stem keep drop set is s accepts.blob accepts.valid
+    left.root_ left.over.is in
     let u = uri_of_part p in
+    let image : slice_get left.root_.images.items i ≡ Some x =
+    ap (λ (v : Vec Image Global). slice_get v.items i) left.images ∙ before in
     let after = named (buffer_uris set.buffers.items)
-    (image_uris set.images.items) is.root_ s detached
-    i x before u
+    (image_uris set.images.items) left.root_ s detached
+    i x image u
     (slice_get-map image_uri set.images.items i ∙ ap (option_map image_uri) at) in
     record {
       image = after.image;

@@ -4,4 +4,5 @@ mod Own
 mod Whole
 mod Refused
 mod Imported
+mod Items
 mod Apart

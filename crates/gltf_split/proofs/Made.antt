@@ -1,7 +1,7 @@
 -- The files of buffers and images, one after the other.
 use Rattle.std.proofs.Common.{◌≡◌, ℕ, zero, suc, ◌+◌, ◌<◌, List, [], ◌∷◌, ◌++◌, length, take}
 use Rattle.std.proofs.Common.{refl, sym, ap, subst, ◌∙◌, arith, add-one, get_or, Option}
-use Rattle.std.proofs.Common.{string_bytes}
+use Rattle.std.proofs.Common.{string_bytes, drop, None}
 use Rattle.std.proofs.Math.Seq.{take-suc}
 use Rattle.std.proofs.lemmas.List.{map-append}
 use Rattle.serde_json.specs.Data.{Data}
@@ -12,6 +12,8 @@ use Rattle.gltf_buffers.specs.Shown.{bytes_of_each}
 use Rattle.gltf_buffers.specs.declared.data.Data.{Data as Buffer}
 use Rattle.gltf_detach.specs.Naming.{buffer_name}
 use Rattle.gltf_detach.specs.declared.part.Part.{Part}
+use Rattle.gltf_trim.specs.Trimmed.{first}
+use Rattle.gltf_trimmed.specs.Laws.{cut, cut_all}
 use Rattle.gltf_split.specs.Images.{AreParts, MayBePart}
 use Rattle.gltf_split.specs.Splits.{AreNamed, bytes_of_parts}
 
@@ -56,6 +58,35 @@ pub as_many : (ps : List Part) (bs : List Buffer) → bytes_of_parts ps ≡ byte
 as_many ps bs same =
     sym (length_of_each bs) ∙ sym (ap (λ (xs : List (List ℕ)). length xs) same)
     ∙ length_of_parts ps
+
+-- ---- what is left of them
+
+nothing : (n : ℕ) → first (drop n []) ≡ None
+nothing zero = refl
+nothing (suc n) = refl
+
+cut_last : (ls : List (Option ℕ)) (xs : List (List ℕ)) (x : List ℕ)
+    → cut_all ls (xs ++ x ∷ []) ≡ cut_all ls xs ++ cut (first (drop (length xs) ls)) x ∷ []
+cut_last ls [] x = refl
+cut_last [] (y ∷ xs) x =
+    ap (λ (zs : List (List ℕ)). y ∷ zs)
+    (cut_last [] xs x
+    ∙ ap (λ (o : Option ℕ). cut_all [] xs ++ cut o x ∷ [])
+    (nothing (length xs) ∙ sym (nothing (suc (length xs)))))
+cut_last (l ∷ ls) (y ∷ xs) x = ap (λ (zs : List (List ℕ)). cut l y ∷ zs) (cut_last ls xs x)
+
+pub left_more : (ls : List (Option ℕ)) (done from : List Buffer) (b c : Buffer)
+    → bytes_of_each done ≡ cut_all ls (bytes_of_each from)
+    → c.0.items ≡ cut (first (drop (length from) ls)) b.0.items
+    → bytes_of_each (done ++ c ∷ []) ≡ cut_all ls (bytes_of_each (from ++ b ∷ []))
+left_more ls done from b c far here =
+    let next = λ (n : ℕ). cut (first (drop n ls)) b.0.items in
+    map-append (λ (b : Buffer). b.0.items) done (c ∷ [])
+    ∙ ap (λ (xs : List (List ℕ)). xs ++ c.0.items ∷ []) far
+    ∙ ap (λ (x : List ℕ). cut_all ls (bytes_of_each from) ++ x ∷ [])
+    (here ∙ ap next (sym (length_of_each from)))
+    ∙ sym (cut_last ls (bytes_of_each from) b.0.items)
+    ∙ ap (cut_all ls) (sym (map-append (λ (b : Buffer). b.0.items) from (b ∷ [])))
 
 -- ---- images
 

@@ -83,9 +83,9 @@ module _ (names : Names) (buffers : List (List ℕ)) (document : Data) (old new 
 memory_of : (P : Error → Type 0) (e : Error) → e ≡ glb.Memory → OutOfMemoryOr P e
 memory_of P e is = subst (OutOfMemoryOr P) (sym is) tt
 
-module _ (names : Names) (path stem : List ℕ) (keep : Bool) (old new : List Named) where
+module _ (names : Names) (path stem : List ℕ) (keep drop : Bool) (old new : List Named) where
   pub source_refused : (e : BundleError) → RefusesSource names path old new e
-      → RefusesSplit names path stem keep old new e
+      → RefusesSplit names path stem keep drop old new e
   source_refused (bundle.Import e) told = told
   source_refused (bundle.View v) told = absurd told
   source_refused (bundle.Image i e) told = absurd told
@@ -94,15 +94,15 @@ module _ (names : Names) (path stem : List ℕ) (keep : Bool) (old new : List Na
   source_refused (bundle.Answer e) told = absurd told
 
   pub memory_refused : (e : BundleError) → e ≡ bundle.Import glb.Memory
-      → RefusesSplit names path stem keep old new e
+      → RefusesSplit names path stem keep drop old new e
   memory_refused e is =
-      subst (RefusesSplit names path stem keep old new) (sym is) tt
+      subst (RefusesSplit names path stem keep drop old new) (sym is) tt
 
   module _ (value : Data) (r : Root) (buffers : List (List ℕ))
       (source : IsSource names path value r buffers) (not_kept : keep ≡ false) where
     pub images_refused : (e : BundleError)
         → RefusesImages names buffers value (items_at (codes "images") value) old new e
-        → RefusesSplit names path stem keep old new e
+        → RefusesSplit names path stem keep drop old new e
     images_refused (bundle.Import e) told =
         memory_of (RefusesFileAt names path old new) e told
     images_refused (bundle.View v) told = record {

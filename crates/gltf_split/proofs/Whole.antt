@@ -1,5 +1,6 @@
 -- What was gathered is what the file is split into.
-use Rattle.std.proofs.Common.{◌≡◌, ◌≤◌, ℕ, List, length, Bool, sym, subst, string_bytes}
+use Rattle.std.proofs.Common.{◌≡◌, ◌≤◌, ℕ, List, length, Bool, true, false, sym, subst, ◌∙◌}
+use Rattle.std.proofs.Common.{string_bytes}
 use Rattle.serde_json.specs.Data.{Data, depth}
 use Rattle.serde_json.specs.Read.{max_depth}
 use Rattle.gltf_json.specs.Reading.{Reads}
@@ -10,37 +11,49 @@ use Rattle.gltf_detach.specs.Naming.{buffer_uris, image_uris}
 use Rattle.gltf_buffers.specs.Names.{Names}
 use Rattle.gltf_buffers.specs.Shown.{bytes_of_each}
 use Rattle.gltf_buffers.specs.declared.data.Data.{Data as Buffer}
+use Rattle.gltf_trim.specs.Lengths.{lengths}
+use Rattle.gltf_trim.specs.Marks.{staying}
+use Rattle.gltf_trim.specs.TrimmedLaws.{trimmed_depth}
 use Rattle.gltf_bundle.specs.Bundle.{IsSource}
 use Rattle.gltf_split.specs.Images.{AreImages}
-use Rattle.gltf_split.specs.Splits.{IsSplit, AreNamed, bytes_of_parts}
+use Rattle.gltf_split.specs.Splits.{IsSplit, AreNamed, bytes_of_parts, value_left, bytes_left}
 use Rattle.gltf_split.specs.declared.splitting.Pieces.{Pieces}
 use Rattle.gltf_split.proofs.Made.{as_many}
 
-pub is_split : (names : Names) (path stem : List ℕ) (keep : Bool) (value : Data) (r : Root)
+left_depth : (drop : Bool) (value : Data) → depth value ≤ max_depth
+    → depth (value_left drop value) ≤ max_depth
+left_depth true value nests =
+    trimmed_depth (staying value) (lengths (staying value) value) value max_depth nests
+left_depth false value nests = nests
+
+pub is_split : (names : Names) (path stem : List ℕ) (keep drop : Bool) (value : Data) (r : Root)
     (buffers : List Buffer) → IsSource names path value r (bytes_of_each buffers)
-    → (set : Pieces) → bytes_of_parts set.buffers.items ≡ bytes_of_each buffers
-    → AreNamed stem (length buffers) 0 set.buffers.items
+    → (left : List Buffer) → bytes_of_each left ≡ bytes_left drop value (bytes_of_each buffers)
+    → (set : Pieces) → bytes_of_parts set.buffers.items ≡ bytes_of_each left
+    → AreNamed stem (length left) 0 set.buffers.items
     → AreImages names stem keep (bytes_of_each buffers) value set.images.items
     → (shown : Data)
-    → shown ≡ detached (buffer_uris set.buffers.items) (image_uris set.images.items) value
+    → shown
+    ≡ detached (buffer_uris set.buffers.items) (image_uris set.images.items) (value_left drop value)
     → (depth shown ≤ max_depth → Reads (string_bytes set.json) shown)
-    → IsSplit names path stem keep set
-is_split names path stem keep value r buffers source set bytes named images shown is_shown reads =
+    → IsSplit names path stem keep drop set
+is_split names path stem keep drop value r buffers source left left_is set bytes named images shown
+    is_shown reads =
     let us = buffer_uris set.buffers.items in
     let vs = image_uris set.images.items in
     let nests : depth shown ≤ max_depth =
     subst (λ (d : Data). depth d ≤ max_depth) (sym is_shown)
-    (detached_depth us vs value max_depth source.nests) in
+    (detached_depth us vs (value_left drop value) max_depth
+    (left_depth drop value source.nests)) in
     record {
       value = value;
       root_ = r;
-      source =
-          subst (λ (xs : List (List ℕ)). IsSource names path value r xs) (sym bytes) source;
+      whole = bytes_of_each buffers;
+      source = source;
+      bytes = bytes ∙ left_is;
       named =
           subst (λ (n : ℕ). AreNamed stem n 0 set.buffers.items)
-          (as_many set.buffers.items buffers bytes) named;
-      images =
-          subst (λ (xs : List (List ℕ)). AreImages names stem keep xs value set.images.items)
-          (sym bytes) images;
+          (as_many set.buffers.items left bytes) named;
+      images = images;
       reads = subst (λ (d : Data). Reads (string_bytes set.json) d) is_shown (reads nests);
     }

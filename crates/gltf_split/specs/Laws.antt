@@ -1,6 +1,7 @@
 -- Laws over the definitions.
 use Rattle.std.specs.Prelude.{◌≡◌, ◌≢◌, ◌↔◌, ℕ, List, [], ◌∷◌, ◌++◌, Option, Some, None, Bool, ⊤}
 use Rattle.std.specs.Prelude.{slice_get, string_bytes, Ok, option_map, map, codes}
+use Rattle.gltf_json.specs.Documents.{root}
 use Rattle.gltf_json.specs.declared.root.Root.{Root}
 use Rattle.gltf_json_scene.specs.declared.image.Image.{Image}
 use Rattle.gltf_items.specs.declared.item.Item.{Ghosts}
@@ -13,7 +14,7 @@ use Rattle.gltf_buffers.specs.Buffers.{IsMeant}
 use Rattle.gltf_buffers.specs.Names.{Names, Held}
 use Rattle.gltf_buffers.specs.Uri.{uri_of}
 use Rattle.gltf.specs.Import.{AcceptsWith}
-use Rattle.gltf_split.specs.Splits.{IsSplit, IsValidText, bytes_of_parts}
+use Rattle.gltf_split.specs.Splits.{IsSplit, IsValidText, bytes_of_parts, value_left}
 use Rattle.gltf_split.specs.declared.splitting.Pieces.{Pieces}
 
 abbrev pub Holds : Type 0
@@ -33,30 +34,32 @@ IsAcceptedOver there set =
 -- so it is over each source that has the files of its buffers
 abbrev pub IsTakenOver : Type 0
 IsTakenOver =
-    (names : Names) (path stem : List ℕ) (keep : Bool) (set : Pieces)
-    → IsSplit names path stem keep set → IsValidText (string_bytes set.json)
+    (names : Names) (path stem : List ℕ) (keep drop : Bool) (set : Pieces)
+    → IsSplit names path stem keep drop set → IsValidText (string_bytes set.json)
     → (there : Holds) → HoldsBuffers there set → IsAcceptedOver there set
 
 -- whatever the text of a set is imported as, where a source has the files of its buffers: the
--- records are those of the edited value, and the buffers are those of the file
+-- records are those of the edited value, whatever is read of what is left of the value of the file,
+-- and the buffers have the bytes of the files
 abbrev pub HasItsBuffers : Type 0
 HasItsBuffers =
-    (names : Names) (path stem : List ℕ) (keep : Bool) (set : Pieces)
-    (is : IsSplit names path stem keep set) (there : Holds) → HoldsBuffers there set
+    (names : Names) (path stem : List ℕ) (keep drop : Bool) (set : Pieces)
+    (is : IsSplit names path stem keep drop set) (there : Holds) → HoldsBuffers there set
     → (s : Root) (others : List (List ℕ)) → AcceptsWith (Held there)
     (string_bytes set.json) s others
-    → IsDetached (buffer_uris set.buffers.items) (image_uris set.images.items) is.root_ s
+    → ((r : Root) → root.is (value_left drop is.value) r
+    → IsDetached (buffer_uris set.buffers.items) (image_uris set.images.items) r s)
     × (others ≡ bytes_of_parts set.buffers.items)
 
 -- and each accessor has the items that it has in the file
 abbrev pub KeepsItems : {X : Type 0} → Ghosts X → Type 0
 KeepsItems {X} t =
-    (names : Names) (path stem : List ℕ) (keep : Bool) (set : Pieces)
-    (is : IsSplit names path stem keep set) (there : Holds) → HoldsBuffers there set
+    (names : Names) (path stem : List ℕ) (keep drop : Bool) (set : Pieces)
+    (is : IsSplit names path stem keep drop set) (there : Holds) → HoldsBuffers there set
     → (s : Root) (others : List (List ℕ)) → AcceptsWith (Held there)
     (string_bytes set.json) s others
     → (index : ℕ) (result : Option (List X))
-    → ReadsAt t is.root_ (slice_get (bytes_of_parts set.buffers.items)) index result
+    → ReadsAt t is.root_ (slice_get is.whole) index result
     ↔ ReadsAt t s (slice_get others) index result
 
 -- image i of s has a URI that leads to the bytes of this file, and no view
@@ -71,8 +74,8 @@ pub record IsShown (there : Holds) (p : Part) (s : Root) (i : ℕ) : Type 0 wher
 -- so is each image that has a file, where a source has this one too
 abbrev pub ShowsImages : Type 0
 ShowsImages =
-    (names : Names) (path stem : List ℕ) (keep : Bool) (set : Pieces)
-    (is : IsSplit names path stem keep set) (there : Holds) (s : Root) (others : List (List ℕ))
+    (names : Names) (path stem : List ℕ) (keep drop : Bool) (set : Pieces)
+    (is : IsSplit names path stem keep drop set) (there : Holds) (s : Root) (others : List (List ℕ))
     → AcceptsWith (Held there) (string_bytes set.json) s others
     → (i : ℕ) (p : Part) → slice_get set.images.items i ≡ Some (Some p) → HoldsPart there p
     → (x : Image) → slice_get is.root_.images.items i ≡ Some x → IsShown there p s i
@@ -106,5 +109,5 @@ AreApart (x ∷ xs) = IsNoneOf x xs × AreApart xs
 -- no two files of a set have the same name, and none has that of the text
 abbrev pub HasNamesApart : Type 0
 HasNamesApart =
-    (names : Names) (path stem : List ℕ) (keep : Bool) (set : Pieces)
-    → IsSplit names path stem keep set → AreApart (file_names stem set)
+    (names : Names) (path stem : List ℕ) (keep drop : Bool) (set : Pieces)
+    → IsSplit names path stem keep drop set → AreApart (file_names stem set)

@@ -27,20 +27,21 @@ pub record HasBadImage (names : Names) (path : List ℕ) (keep : Bool) (old new 
   pub told : RefusesImages names buffers value (items_at (codes "images") value) old new e
 
 -- the text of the set is refused
-pub record HasBadText (names : Names) (path stem : List ℕ) (keep : Bool) (e : Error) : Type 0 where
-  pub set : Pieces
-  pub is : IsSplit names path stem keep set
-  pub fault : OutOfMemoryOr (RefusesDocument (string_bytes set.json)) e
+pub record HasBadText (names : Names) (path stem : List ℕ) (keep drop : Bool) (e : Error) : Type 0
+  where
+    pub set : Pieces
+    pub is : IsSplit names path stem keep drop set
+    pub fault : OutOfMemoryOr (RefusesDocument (string_bytes set.json)) e
 
 -- the error is that of the import, or names what does not hold
-abbrev pub RefusesSplit : Names → List ℕ → List ℕ → Bool → List Named → List Named → BundleError
-    → Type 0
-RefusesSplit names path stem keep old new (bundle.Import e) =
+abbrev pub RefusesSplit : Names → List ℕ → List ℕ → Bool → Bool → List Named → List Named
+    → BundleError → Type 0
+RefusesSplit names path stem keep drop old new (bundle.Import e) =
     OutOfMemoryOr (RefusesFileAt names path old new) e
-RefusesSplit names path stem keep old new (bundle.View v) =
+RefusesSplit names path stem keep drop old new (bundle.View v) =
     HasBadImage names path keep old new (bundle.View v)
-RefusesSplit names path stem keep old new (bundle.Image i e) =
+RefusesSplit names path stem keep drop old new (bundle.Image i e) =
     HasBadImage names path keep old new (bundle.Image i e)
-RefusesSplit names path stem keep old new (bundle.Answer e) =
-    HasBadText names path stem keep e
-RefusesSplit names path stem keep old new _ = ⊥
+RefusesSplit names path stem keep drop old new (bundle.Answer e) =
+    HasBadText names path stem keep drop e
+RefusesSplit names path stem keep drop old new _ = ⊥

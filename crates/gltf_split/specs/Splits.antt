@@ -1,5 +1,6 @@
 -- What a file is split into (glTF 2.0, sections 2.8, 3.6.1 and 3.8.3).
-use Rattle.std.specs.Prelude.{◌≡◌, ℕ, ◌+◌, List, [], ◌∷◌, length, map, Bool, ⊤, string_bytes}
+use Rattle.std.specs.Prelude.{◌≡◌, ℕ, ◌+◌, List, [], ◌∷◌, length, map, Bool, true, false, ⊤}
+use Rattle.std.specs.Prelude.{string_bytes, if◌then◌else◌}
 use Rattle.std.specs.Prelude.{Option}
 use Rattle.serde_json.specs.Data.{Data}
 use Rattle.gltf_json.specs.Reading.{Reads}
@@ -7,10 +8,13 @@ use Rattle.gltf_json.specs.declared.root.Root.{Root}
 use Rattle.gltf_detach.specs.Detached.{detached}
 use Rattle.gltf_detach.specs.Naming.{buffer_name, buffer_uris, image_uris}
 use Rattle.gltf_detach.specs.declared.part.Part.{Part}
+use Rattle.gltf_trim.specs.Trimmed.{trimmed}
+use Rattle.gltf_trimmed.specs.Laws.{trimmed_bytes}
 use Rattle.gltf_buffers.specs.Names.{Names}
 use Rattle.gltf.specs.Import.{IsValidDocument}
 use Rattle.gltf_bundle.specs.Bundle.{IsSource}
 use Rattle.gltf_split.specs.Images.{AreImages}
+use Rattle.gltf_split.specs.declared.options.SplitOptions.{SplitOptions}
 use Rattle.gltf_split.specs.declared.splitting.Pieces.{Pieces}
 
 -- the bytes of files
@@ -32,13 +36,30 @@ split_value set value =
 abbrev pub IsValidText : List ℕ → Type 0
 IsValidText text = (r : Root) × (blob : Option (List ℕ)) × IsValidDocument text r blob
 
--- the files of the buffers have the bytes that the file at the path is imported with, those of the
--- images have the bytes of the images, unless these are kept, and the text is that of the value of
--- the file whose buffers and images name these files
-pub record IsSplit (names : Names) (path stem : List ℕ) (keep : Bool) (set : Pieces) : Type 0 where
+-- the views of images go where this is asked for, unless images are kept
+abbrev pub drops : SplitOptions → Bool
+drops options = if options.keep_images then false else options.drop_image_views
+
+-- what is left of the value of a file, where the views of images go or stay
+abbrev pub value_left : Bool → Data → Data
+value_left true value = trimmed value
+value_left false value = value
+
+-- what is left of the bytes of its buffers
+abbrev pub bytes_left : Bool → Data → List (List ℕ) → List (List ℕ)
+bytes_left true value whole = trimmed_bytes value whole
+bytes_left false value whole = whole
+
+-- the files of the buffers have what is left of the bytes that the file at the path is imported
+-- with, those of the images have the bytes of the images, unless these are kept, and the text is
+-- that of what is left of the value of the file, whose buffers and images name these files
+pub record IsSplit (names : Names) (path stem : List ℕ) (keep drop : Bool) (set : Pieces)
+    : Type 0 where
   pub value : Data
   pub root_ : Root
-  pub source : IsSource names path value root_ (bytes_of_parts set.buffers.items)
+  pub whole : List (List ℕ)
+  pub source : IsSource names path value root_ whole
+  pub bytes : bytes_of_parts set.buffers.items ≡ bytes_left drop value whole
   pub named : AreNamed stem (length set.buffers.items) 0 set.buffers.items
-  pub images : AreImages names stem keep (bytes_of_parts set.buffers.items) value set.images.items
-  pub reads : Reads (string_bytes set.json) (split_value set value)
+  pub images : AreImages names stem keep whole value set.images.items
+  pub reads : Reads (string_bytes set.json) (split_value set (value_left drop value))

@@ -7,6 +7,7 @@ use gltf_detached::laws::{
     buffers_are_named, files_are_read, images_are_named, uris_lead_to_names,
 };
 use gltf_items::Item;
+use gltf_trimmed::laws::documents_are_read;
 
 /// Over each source that has the files of its buffers, the text of a set is imported.
 pub fn text_is_accepted()
@@ -14,16 +15,18 @@ pub fn text_is_accepted()
 {
     buffers_are_named();
     uris_lead_to_names();
+    documents_are_read();
 }
 
 /// Whatever document and buffers the text of a set is imported as, over a source that has the files
-/// of its buffers, the document is that of the file whose buffers and images name files, and the
-/// buffers are those of the file.
+/// of its buffers, the document is what is left of that of the file, whose buffers and images name
+/// files, and the buffers are what is left of those of the file.
 pub fn same_buffers()
     ensures { HasItsBuffers }
 {
     buffers_are_named();
     files_are_read();
+    documents_are_read();
 }
 
 /// Each accessor of it has the items that it has in the file.
@@ -31,6 +34,8 @@ pub fn items_are_kept<T: Item>()
     ensures { KeepsItems ⟦<T as Item>⟧ }
 {
     same_buffers();
+    documents_are_read();
+    gltf_trimmed::laws::items_are_kept::<T>();
     gltf_detached::laws::items_are_kept::<T>();
 }
 
@@ -41,6 +46,7 @@ pub fn images_are_shown()
 {
     images_are_named();
     uris_lead_to_names();
+    documents_are_read();
 }
 
 /// No two files of a set have the same name, and none has that of the text, `STEM.gltf`.

@@ -3,6 +3,7 @@
 
 mod images;
 pub mod laws;
+mod left;
 mod options;
 mod splitting;
 mod views;

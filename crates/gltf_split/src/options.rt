@@ -5,6 +5,22 @@
 pub struct SplitOptions {
     /// Images are not touched: each one keeps its view or its URI, and no name is asked for it.
     pub keep_images: bool,
+    /// The views at the end of the list that only images name go, since images have files, and so
+    /// do the bytes behind those of the other views in the buffers of these. Where images are not
+    /// touched, this says nothing.
+    pub drop_image_views: bool,
     /// The JSON text has line breaks, and two spaces for each step in.
     pub pretty: bool,
+}
+
+impl SplitOptions {
+    ghost use Rattle.std.specs.Prelude.{◌≡◌};
+    ghost use Rattle.gltf_split.specs.Splits.{drops};
+
+    /// Whether the views of images go: not where images are not touched.
+    pub(crate) fn drops_views(&self) -> bool
+        ensures { result ≡ drops self.now }
+    {
+        !self.keep_images && self.drop_image_views
+    }
 }

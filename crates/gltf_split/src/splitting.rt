@@ -6,10 +6,11 @@ ghost use Rattle.serde_json.specs.View.{view};
 ghost use Rattle.gltf_json.specs.Reading.{Reads};
 ghost use Rattle.gltf_buffers.specs.Names.{names_of};
 ghost use Rattle.gltf_buffers.specs.Shown.{bytes_of_each};
-ghost use Rattle.gltf_split.specs.Splits.{IsSplit, IsValidText, AreNamed, bytes_of_parts};
+ghost use Rattle.gltf_split.specs.Splits.{IsSplit, IsValidText, AreNamed, bytes_of_parts, drops};
 ghost use Rattle.gltf_split.specs.Refusals.{RefusesSplit};
 
 use crate::images::image_parts;
+use crate::left::what_is_left;
 use crate::options::SplitOptions;
 use gltf::buffer::Data;
 use gltf::{Error, Gltf, NamedBytes};
@@ -44,6 +45,12 @@ pub struct Pieces {
 /// their values: views stay, also those that no image names any more. A chunk of unknown type and
 /// a blob that no buffer takes are dropped.
 ///
+/// With [`SplitOptions::drop_image_views`] the views at the end of the list go that images name,
+/// and that no accessor names: all other views have the index that they had. Each buffer of a view
+/// that goes ends where the last of the other views in it ends, but has one byte at least; where it
+/// becomes shorter, so do its file and its `byteLength`. All views stay where the document uses an
+/// extension that is not among some which name no view.
+///
 /// Returns [`BundleError::Import`] with the error of the import, or where there is not enough
 /// memory. Each other error is of a file that is imported: [`BundleError::View`] with a view that
 /// an image names, which is not there or does not lie in the bytes of its buffer;
@@ -58,10 +65,11 @@ pub fn split<S: NamedBytes>(
     options: &SplitOptions,
 ) -> Result<Pieces, BundleError>
     ensures split { IfOk result (IsSplit (names_of (S.bytes_by_name source.old)) path.now stem.now
-        options.now.keep_images) }
+        options.now.keep_images (drops options.now)) }
     ensures accepted { IfOk result (λ set. IsValidText (string_bytes set.json)) }
     ensures refused { IfErr result (RefusesSplit (names_of (S.bytes_by_name source.old)) path.now
-        stem.now options.now.keep_images (S.failures source.old) (S.failures source.new)) }
+        stem.now options.now.keep_images (drops options.now) (S.failures source.old)
+        (S.failures source.new)) }
 {
     let set = gathered(alloc, source, path, stem, options)?;
     match Gltf::from_slice(alloc, set.json.as_bytes()) {
@@ -80,14 +88,19 @@ fn gathered<S: NamedBytes>(
     options: &SplitOptions,
 ) -> Result<Pieces, BundleError>
     ensures split { IfOk result (IsSplit (names_of (S.bytes_by_name source.old)) path.now stem.now
-        options.now.keep_images) }
+        options.now.keep_images (drops options.now)) }
     ensures refused { IfErr result (RefusesSplit (names_of (S.bytes_by_name source.old)) path.now
-        stem.now options.now.keep_images (S.failures source.old) (S.failures source.new)) }
+        stem.now options.now.keep_images (drops options.now) (S.failures source.old)
+        (S.failures source.new)) }
 {
     let Loaded { value, buffers } = load(alloc, source, path)?;
     let images = image_parts(alloc, source, &value, options.keep_images, stem, &buffers)?;
-    let buffers = buffer_parts(alloc, stem, buffers)?;
-    let value = detached(alloc, value, &buffers, &images)?;
+    let Loaded {
+        value: left,
+        buffers: cut,
+    } = what_is_left(alloc, value, buffers, options.drops_views())?;
+    let buffers = buffer_parts(alloc, stem, cut)?;
+    let value = detached(alloc, left, &buffers, &images)?;
     let json = written(alloc, &value, options.pretty)?;
     Ok(Pieces {
         json,

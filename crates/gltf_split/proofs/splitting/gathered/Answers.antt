@@ -1,11 +1,14 @@
-use Rattle.std.proofs.Common.{List, codes, subst}
+use Rattle.std.proofs.Common.{List, codes, subst, ◌∙◌, ap, Bool}
 use Rattle.std.proofs.lemmas.Result.{err_from_is_err_and}
 use Rattle.serde_json.specs.View.{view}
 use Rattle.gltf_names.specs.Named.{Named}
 use Rattle.gltf_buffers.specs.Names.{Names, names_of}
 use Rattle.gltf_buffers.specs.Shown.{bytes_of_each}
 use Rattle.gltf_edit.specs.Embedded.{items_at}
+use Rattle.gltf_detach.specs.Detached.{detached}
+use Rattle.gltf_detach.specs.Naming.{buffer_uris, image_uris}
 use Rattle.gltf_split.specs.Images.{AreImages, RefusesImages}
+use Rattle.gltf_split.specs.Splits.{drops, value_left, bytes_left}
 use Rattle.gltf_split.proofs.Refused.{images_refused, source_refused}
 use Rattle.gltf_split.proofs.Whole.{is_split}
 use Rattle.gltf_split.proofs.splitting.gathered.Goals as goal
@@ -15,21 +18,30 @@ returns-clause-split g c =
     let names = names_of (g.S.NamedBytes.bytes_by_name c.args.source.now) in
     let stem = c.args.stem.now in
     let keep = c.args.options.now.keep_images in
+    let drop = drops c.args.options.now in
     let was = c.in_ok-value in
     let document = view was.field-0.value in
     let all = bytes_of_each was.field-0.buffers.items in
     let images = c.in_ok-images.images.items in
     let shown = subst (λ (ns : Names). AreImages ns stem keep all document images)
     was.ensures.kept (rw c.deref.ensures.value at c.in_ok-images.ensures.parts) in
-    is_split names c.args.path.now stem keep document was.ensures.loaded.0
-    was.field-0.buffers.items was.ensures.loaded.1
+    let left = c.in_ok-left in
+    let value = left.ensures.value
+    ∙ ap (λ (b : Bool). value_left b document) c.drops_views.ensures in
+    let bytes = left.ensures.bytes
+    ∙ ap (λ (b : Bool). bytes_left b document all) c.drops_views.ensures in
+    let us = buffer_uris c.in_ok-buffers.buffers.items in
+    let vs = image_uris images in
+    is_split names c.args.path.now stem keep drop document was.ensures.loaded.0
+    was.field-0.buffers.items was.ensures.loaded.1 left.field-0.buffers.items bytes
     record {
       json = c.in_ok-json.json;
       buffers = c.in_ok-buffers.buffers;
       images = c.in_ok-images.images;
     }
     c.in_ok-buffers.ensures.bytes c.in_ok-buffers.ensures.named shown (view c.in_ok-value-2.value)
-    (rw (c.deref-2.ensures.value, c.deref-3.ensures.value) at c.in_ok-value-2.ensures)
+    ((rw (c.deref-2.ensures.value, c.deref-3.ensures.value) at c.in_ok-value-2.ensures)
+    ∙ ap (detached us vs) value)
     c.in_ok-json.ensures
 
 pub returns-in_err-value-clause-refused : goal.returns-in_err-value-clause-refused
@@ -41,8 +53,8 @@ returns-in_err-value-clause-refused g c =
     let exit = c.from_residual in
     let passed = err_from_is_err_and exit.result exit.ensures.1 in
     rw (passed.1, passed.2)
-    (source_refused names c.args.path.now c.args.stem.now c.args.options.now.keep_images old new e
-    c.in_err-value.ensures.refused)
+    (source_refused names c.args.path.now c.args.stem.now c.args.options.now.keep_images
+    (drops c.args.options.now) old new e c.in_err-value.ensures.refused)
 
 pub returns-in_err-images-clause-refused : goal.returns-in_err-images-clause-refused
 returns-in_err-images-clause-refused g c =
@@ -63,5 +75,6 @@ returns-in_err-images-clause-refused g c =
     let exit = c.from_residual-in_err-images in
     let passed = err_from_is_err_and exit.result exit.ensures.1 in
     rw (passed.1, passed.2)
-    (images_refused names c.args.path.now c.args.stem.now c.args.options.now.keep_images old new
+    (images_refused names c.args.path.now c.args.stem.now c.args.options.now.keep_images
+    (drops c.args.options.now) old new
     document was.ensures.loaded.0 all was.ensures.loaded.1 told.0 e of_images)

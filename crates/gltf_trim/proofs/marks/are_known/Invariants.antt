@@ -1,0 +1,9 @@
+use Rattle.std.proofs.Common.{◌≡◌, drop}
+use Rattle.serde_json.specs.View.{items_view}
+use Rattle.gltf_trim.specs.Marks.{are_known}
+use Rattle.gltf_trim.proofs.marks.are_known.Given as goal
+
+-- those that are left decide
+abbrev pub invariant-loop-name : goal.invariant-loop-name
+invariant-loop-name l =
+    are_known (items_view (drop l.name-index l.names)) ≡ are_known (items_view l.names)

@@ -1,0 +1,11 @@
+mod Sizes
+mod Marked
+mod Reached
+mod Rows
+mod Named
+mod Short
+mod Bytes
+mod Left
+mod Parts
+mod Items
+mod Alike
