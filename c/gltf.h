@@ -19,10 +19,10 @@
  * and the others return GLTF_CLOSED.
  *
  * Return values. A call that can fail returns a gltf_status. If it is not GLTF_SUCCESS, nothing has
- * been written to the caller's variables, except by gltf_open. Every call that takes a file and an
- * index returns GLTF_CLOSED if the file is NULL, and GLTF_NO_SUCH_INDEX if there is no record with
- * that index; these two are not mentioned again below. Indices begin at 0, in the order of the
- * file. An index that is absent in a record is GLTF_NONE.
+ * been written to the caller's variables, except by gltf_open and gltf_open_owned. Every call that
+ * takes a file and an index returns GLTF_CLOSED if the file is NULL, and GLTF_NO_SUCH_INDEX if it
+ * has no record with that index; these two are not mentioned again below. Indices begin at 0, in
+ * the order of the file. An index that is absent in a record is GLTF_NONE.
  *
  * Records. Each kind of record has one struct, and one call that fills it. A member that is absent
  * in the file has the default of glTF 2.0. A number is the double nearest to the one in the file. A
@@ -47,7 +47,8 @@
  *   1. A pointer may be NULL only where this header says so. A pointer and a size beside it are a
  *      block of that many bytes, at most PTRDIFF_MAX.
  *   2. What a call writes overlaps nothing else that it is given, and is aligned for its type.
- *   3. A file is closed once, and not used after that.
+ *   3. A file is closed once, and not used after that. A block is given up once, to
+ *      gltf_open_owned, and not used after that.
  *   4. malloc, realloc and free belong together and align to 16 bytes. No call is made in a signal
  *      handler, or in the forked child of a process with threads.
  *   5. The stack has room: give a thread 512 KiB. No proof bounds it. tools/c.py measures what
@@ -162,6 +163,17 @@ typedef struct gltf_open_options {
 GLTF_API gltf_status gltf_open(const void *bytes, size_t size, const gltf_open_options *options,
                                gltf_file **file, gltf_fault *fault)
     GLTF_CHECKED GLTF_NONNULL((1, 4, 5));
+
+/* Opens a file as gltf_open does, of bytes that the library takes over: `bytes` is a block from
+ * malloc, calloc or realloc, of which the first `size` bytes are written. From the call on it is
+ * the library's, also if the call fails: it is freed by this call or by gltf_close, so do not use
+ * it again. The BIN chunk of a container keeps its memory and is not copied. `bytes` may be NULL if
+ * `size` is 0.
+ *
+ * Returns what gltf_open returns for these bytes. */
+GLTF_API gltf_status gltf_open_owned(void *bytes, size_t size, const gltf_open_options *options,
+                                     gltf_file **file, gltf_fault *fault)
+    GLTF_CHECKED GLTF_NONNULL((4, 5));
 
 /* Supplies the bytes of a buffer that waits for them (`waits` of gltf_buffer). They are copied.
  * Returns GLTF_NO_SUCH_INDEX if there is no such buffer or it does not wait, and GLTF_SHORT_BUFFER

@@ -93,6 +93,15 @@ public:
         if (gltf_open(bytes, size, options, &file_, &fault) != GLTF_SUCCESS)
             throw error(fault);
     }
+    // Opens a file of a block from malloc, which the library takes over, also where this throws.
+    static file owned(void *bytes, std::size_t size, const gltf_open_options *options = nullptr)
+    {
+        gltf_file *opened = nullptr;
+        gltf_fault fault;
+        if (gltf_open_owned(bytes, size, options, &opened, &fault) != GLTF_SUCCESS)
+            throw error(fault);
+        return file(opened);
+    }
     // Takes over a file, as one of gltf_load.
     explicit file(gltf_file *opened) : file_(opened) {}
     file(file &&other) noexcept : file_(other.file_) { other.file_ = nullptr; }

@@ -315,8 +315,7 @@ static gltf_status gltf_load_path(const char *path, int anywhere, const gltf_ope
     if (status != GLTF_SUCCESS)
         return gltf_load_fault(fault, status, GLTF_NONE, "cannot read the file: ",
                                strerror(errno), "");
-    status = gltf_open(bytes, size, &all, file, fault);
-    free(bytes);
+    status = gltf_open_owned(bytes, size, &all, file, fault);
     if (status != GLTF_SUCCESS)
         return status;
     folder.path = path;

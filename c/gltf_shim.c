@@ -20,6 +20,12 @@ static core_file handle_of(const gltf_file *file)
     return handle;
 }
 
+/* GltfBlock in the code: a block from malloc, which the core frees, unless its size is 0. */
+typedef struct core_block {
+    void *at;
+    size_t size;
+} core_block;
+
 /* What an export gets in place of NULL, with a size of 0. */
 static char no_text[1];
 static size_t no_indices[1];
@@ -67,6 +73,8 @@ static unsigned int flags_of(const gltf_open_options *options)
 
 extern gltf_status core_open(const void *bytes, size_t size, const char *names, size_t names_size,
                              unsigned int flags, core_file *file, gltf_fault *fault);
+extern gltf_status core_open_owned(core_block block, const char *names, size_t names_size,
+                                   unsigned int flags, core_file *file, gltf_fault *fault);
 extern gltf_status core_give(core_file *file, size_t index, const void *bytes, size_t size);
 extern void core_close(core_file *file);
 extern size_t core_count(core_file *file, unsigned int kind);
@@ -86,6 +94,27 @@ gltf_status gltf_open(const void *bytes, size_t size, const gltf_open_options *o
         return no_memory(file, fault);
     status = core_open(bytes, size, list.names, list.size, flags_of(options), &handle, fault);
     free(list.names);
+    *file = (gltf_file *)handle.at;
+    return status;
+}
+
+gltf_status gltf_open_owned(void *bytes, size_t size, const gltf_open_options *options,
+                            gltf_file **file, gltf_fault *fault)
+{
+    core_file handle = { NULL };
+    core_block block;
+    name_list list;
+    gltf_status status;
+    block.at = bytes;
+    block.size = size;
+    if (!make_name_list(options, &list)) {
+        free(bytes);
+        return no_memory(file, fault);
+    }
+    status = core_open_owned(block, list.names, list.size, flags_of(options), &handle, fault);
+    free(list.names);
+    if (size == 0)
+        free(bytes); /* the core takes no block of no bytes */
     *file = (gltf_file *)handle.at;
     return status;
 }

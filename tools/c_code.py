@@ -29,7 +29,9 @@ FIELDS = {"usize": ("size_t", 8), "u32": ("unsigned int", 4), "f64": ("double", 
           "u8": ("char", 1), "*mut u8": ("void *", 8), "*const u8": ("const unsigned char *", 8),
           "*const *const c_char": ("const char *const *", 8)}
 # The structs and the members that C has by other names.
-STRUCTS = {"gltf_file": "core_file", "gltf_bytes": "core_bytes"}
+STRUCTS = {"gltf_file": "core_file", "gltf_bytes": "core_bytes", "gltf_block": "core_block"}
+# How the names of those structs begin that C declares.
+OWN = ("gltf_", "core_")
 MEMBERS = {("gltf_light", "type_"): "type", ("gltf_buffer", "no_bytes"): "bytes",
            ("gltf_accessor", "no_data"): "data", ("gltf_image", "no_bytes"): "bytes"}
 # The enums of the code that C has as enumerators, each with the beginning of their names there:
@@ -103,6 +105,8 @@ def c_types(name, kind):
         return ["char *" if "mut" in kind else "const char *", "size_t"]
     if kind.startswith("&mut Gltf"):
         return [c_struct(kind[5:]) + " *"]
+    if kind.startswith("Gltf"):
+        return [c_struct(kind)]
     return TYPES[kind]
 
 
@@ -138,8 +142,11 @@ def structs():
     found = [(c_struct(name), re.findall(r"(?m)^    (?:pub(?:\(crate\))? )?(\w+): (.+),$", inner))
              for name, inner in re.findall(form, text)]
     assert len(found) == text.count("#[repr(C)]"), found
-    return [(struct, [(MEMBERS.get((struct, member), member), kind) for member, kind in members])
-            for struct, members in found]
+    # A part of a struct has no name of its own in C: the struct has its members.
+    parts = {struct: members for struct, members in found if not struct.startswith(OWN)}
+    return [(struct, [(MEMBERS.get((struct, member), member), kind)
+                      for pair in members for member, kind in parts.get(c_struct(pair[1]), [pair])])
+            for struct, members in found if struct not in parts]
 
 
 def holds_in_c(condition):
@@ -236,7 +243,8 @@ def check_names():
     # The options are taken apart in the shim.
     del shown["gltf_open_options"]
     wanted = dict(structs())
-    del wanted["core_file"], wanted["core_bytes"]  # of the shim
+    for struct in STRUCTS.values():
+        del wanted[struct]  # of the shim
     same(shown, {struct: [member for member, _ in members] for struct, members in wanted.items()})
     same(sorted(header_enumerators()), sorted({*enumerators(), *OF_HEADER}))
 

@@ -1,7 +1,7 @@
 /* Measures opening a file, reading all its items of floats and closing it: `whole FILE TIMES`. It
  * prints the least wall time of so many runs in nanoseconds, and the sum of the items. With
- * IN_PLACE the loader is gltf.h, and items are read where they are; else it is the one of loader.h
- * that is linked. */
+ * IN_PLACE the loader is gltf.h, which takes the bytes over, and items are read where they are;
+ * else it is the one of loader.h that is linked. */
 #define _POSIX_C_SOURCE 200809L
 #include "contents.h"
 #include "loader.h"
@@ -32,13 +32,12 @@ static long long whole(unsigned char *bytes, size_t size)
     gltf_accessor it;
     unsigned sum = 0;
     size_t i;
-    if (gltf_open(bytes, size, NULL, &file, &fault) != GLTF_SUCCESS)
+    if (gltf_open_owned(bytes, size, NULL, &file, &fault) != GLTF_SUCCESS)
         return fprintf(stderr, "%s: %s\n", fault.path, fault.text), -1;
     for (i = 0; gltf_accessor_info(file, i, &it) == GLTF_SUCCESS; i++)
         if (it.component_type == GLTF_F32 && it.data != NULL)
             sum += sum_in_place(&it);
     gltf_close(file);
-    free(bytes);
     return sum;
 }
 

@@ -1,6 +1,7 @@
 /* Refuses each growth of memory in turn, from the opening of a file to its closing: `failing
- * FILE`. Linked with --wrap=malloc,--wrap=realloc,--wrap=free. It ends with 0 where each result is
- * the file's own or GLTF_NO_MEMORY, the fault agrees with it, and all memory was given back. */
+ * FILE`, once by gltf_open and once by gltf_open_owned. Linked with
+ * --wrap=malloc,--wrap=realloc,--wrap=free. It ends with 0 where each result is the file's own or
+ * GLTF_NO_MEMORY, the fault agrees with it, and all memory was given back. */
 #include <stddef.h>
 
 void *__real_malloc(size_t size);
@@ -60,6 +61,23 @@ static const char *const NO_MEMORY_FOR_TEXT = "there is no memory for the messag
 static unsigned char bytes[1 << 20];
 static size_t size;
 
+/* Whether the library takes the bytes over. */
+static int is_owned;
+
+/* Opens the file. The block that is given up is not one of the growths. */
+static gltf_status opened(const gltf_open_options *options, gltf_file **file, gltf_fault *fault)
+{
+    void *block;
+    if (!is_owned)
+        return gltf_open(bytes, size, options, file, fault);
+    block = __real_malloc(size);
+    if (block == NULL)
+        abort();
+    memcpy(block, bytes, size);
+    blocks++;
+    return gltf_open_owned(block, size, options, file, fault);
+}
+
 /* Opens, gives a buffer that waits its bytes, visits all and closes. Returns the status of the
  * opening; `v` has what the visit read, and `given` the status of the giving. */
 static gltf_status whole(visit *v, gltf_status *given, gltf_fault *fault)
@@ -69,7 +87,7 @@ static gltf_status whole(visit *v, gltf_status *given, gltf_fault *fault)
     static unsigned char zeros[65536];
     gltf_file *file;
     gltf_buffer buffer;
-    gltf_status status = gltf_open(bytes, size, &options, &file, fault);
+    gltf_status status = opened(&options, &file, fault);
     *given = GLTF_SUCCESS;
     if (gltf_buffer_info(file, 0, &buffer) == GLTF_SUCCESS && buffer.waits
         && buffer.byte_length <= sizeof zeros)
@@ -112,6 +130,7 @@ static int try_all(void)
     gltf_status own, status, given;
     visit v, own_visit;
     long growths;
+    refused = with_text = without_text = 0;
     own = whole(&own_visit, &given, &own_fault);
     if (own_visit.wrong != 0 || given != GLTF_SUCCESS || blocks != 0)
         return 5;
@@ -139,5 +158,10 @@ int main(int words, char **word)
         return 2;
     size = fread(bytes, 1, sizeof bytes, file);
     fclose(file);
-    return try_all();
+    for (is_owned = 0; is_owned < 2; is_owned++) {
+        int wrong = try_all();
+        if (wrong != 0)
+            return wrong;
+    }
+    return 0;
 }

@@ -77,8 +77,12 @@ static int try_one(const unsigned char *bytes, size_t size, long *opened)
     options.extensions = names;
     options.extension_count = any(4);
     memset(&fault, 0x5a, sizeof fault);
-    status = gltf_open(exact, size, any(2) == 0 ? &options : NULL, &file, &fault);
-    VISIT_FREE(exact);
+    if (any(2) == 0) {
+        status = gltf_open_owned(exact, size, any(2) == 0 ? &options : NULL, &file, &fault);
+    } else {
+        status = gltf_open(exact, size, any(2) == 0 ? &options : NULL, &file, &fault);
+        VISIT_FREE(exact);
+    }
     if (status >= STATUSES || (file == NULL) == (status == GLTF_SUCCESS)
         || !is_fault(status, &fault))
         return 106;

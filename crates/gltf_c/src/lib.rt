@@ -39,6 +39,7 @@ ghost use Rattle.gltf_c_handle.specs.Waiting.{IsGivenBytes};
 ghost use Rattle.gltf_c_rooms.specs.Calls.{GivesText, GivesTextOr, GivesList};
 ghost use Rattle.gltf_c_rooms.specs.Calls.{ReadsItems, ReadsJson};
 
+use gltf_c_block::{GltfBlock, into_vec};
 use gltf_c_bytes::info::{GltfAccessor, GltfBuffer, GltfImage};
 use gltf_c_bytes::place::GltfBytes;
 use gltf_c_calls::{bytes, extension, look, scene};
@@ -64,6 +65,7 @@ use gltf_c_scene::mesh::{GltfMesh, GltfPrimitive};
 use gltf_c_scene::node::{GltfNode, GltfScene};
 use gltf_c_scene::skin::GltfSkin;
 use std::alloc::Global;
+use std::borrow::CowSlice;
 
 /// Opens a file from its bytes, with the names of extensions that the caller handles, each with a
 /// zero byte after it. With an odd number in `flags` buffers of other files wait for their bytes.
@@ -78,6 +80,23 @@ pub extern "C" fn core_open(
 ) -> u32
     ensures { IsOpened flags names.now bytes.now result file.new.value fault.new }
 {
+    open::open(alloc, CowSlice::Borrowed(bytes), names, flags, file, fault)
+}
+
+/// The same of a block of memory that is given up: the blob of a container keeps it, and it is freed
+/// with the file; else it is freed here.
+#[unsafe(no_mangle)]
+pub extern "C" fn core_open_owned(
+    alloc: Global,
+    block: GltfBlock,
+    names: &[u8],
+    flags: u32,
+    file: &mut GltfFile,
+    fault: &mut GltfFault,
+) -> u32
+    ensures { IsOpened flags names.now block.bytes result file.new.value fault.new }
+{
+    let bytes = CowSlice::Owned(into_vec(alloc, block));
     open::open(alloc, bytes, names, flags, file, fault)
 }
 

@@ -7,21 +7,21 @@ ghost use Rattle.gltf_c_look.specs.Textures.{texture_of, sampler_of};
 ghost use Rattle.gltf_c_handle.specs.Calls.{Gives, shown};
 
 use crate::at::At;
-use gltf_c_handle::ask::{Ask, answer};
+use gltf_c_handle::ask::{Ask, Write, answer, answer_in_place};
 use gltf_c_handle::handle::GltfFile;
 use gltf_c_look::camera::GltfCamera;
 use gltf_c_look::light::GltfLight;
-use gltf_c_look::material::GltfMaterial;
+use gltf_c_look::material::{GltfMaterial, write_material};
 use gltf_c_look::texture::{GltfSampler, GltfTexture};
-use gltf_c_look::{camera, light, material, texture};
+use gltf_c_look::{camera, light, texture};
 use gltf_c_open::file::File;
 use std::alloc::Global;
 
-impl Ask<GltfMaterial> for At {
+impl Write<GltfMaterial> for At {
     ghost asked = { λ at. shown (material_of at.index) };
 
-    fn ask(&self, file: &File) -> Option<GltfMaterial> {
-        material::material(file.document.as_json(), self.index)
+    fn write(&self, file: &File, out: &mut GltfMaterial) -> bool {
+        write_material(file.document.as_json(), self.index, out)
     }
 }
 
@@ -36,7 +36,7 @@ pub fn material_info(
     ensures same { file.new.value ≡ file.old.value }
     ensures given { Gives (shown (material_of index)) file.old.value result out.old out.new }
 {
-    answer(alloc, file, &At { index }, out)
+    answer_in_place(alloc, file, &At { index }, out)
 }
 
 impl Ask<GltfTexture> for At {

@@ -17,7 +17,7 @@ use denote.Steps.{nothing}
 use denote.Struct.Struct.{within}
 use denote.Struct.Owning.{shape}
 use Rattle.std_heap.proofs.GlobalToken.{dealloc_token_start}
-use Rattle.gltf_c_handle.specs.Heap.{heap, right_to_free}
+use Rattle.gltf_c_block.specs.Heap.{heap, right_to_free}
 use Rattle.std.specs.declared.option.Option.{Option}
 use Rattle.std.specs.declared.option.Option.TheVariants.{None, Some}
 use Rattle.gltf_c_handle.proofs.Pointed.{pointer, owned_at}

@@ -18,7 +18,7 @@ use denote.Param.{layout, arg}
 use denote.Param.Laws.{Laws, arg_laws}
 use denote.Struct.Struct.{within}
 use denote.Struct.Owning.{shape}
-use Rattle.gltf_c_handle.specs.Heap.{right_to_free}
+use Rattle.gltf_c_block.specs.Heap.{right_to_free}
 use Rattle.std.specs.contracts.alloc.Global as heap
 use Rattle.std.proofs.alloc.Global.TheLaws as of_heap
 use Rattle.std_heap.specs.contracts.GlobalAllocator.TheImpl as allocator

@@ -1,5 +1,5 @@
 -- What a call writes of what it is asked for.
-use Rattle.std.specs.Prelude.{◌≡◌, Option, Some, None, Result, Ok, Err}
+use Rattle.std.specs.Prelude.{◌≡◌, Bool, true, false, Option, Some, None, Result, Ok, Err}
 use Rattle.gltf_c_extensions.specs.declared.reading.Missing.{Missing}
 use Rattle.gltf_c_extensions.specs.declared.reading.Missing.TheVariants.{Absent, Bad, Memory}
 use Rattle.gltf_c_fault.specs.declared.status.Status.{Status}
@@ -10,6 +10,11 @@ use Rattle.gltf_c_fault.specs.declared.status.Status.TheVariants.{NoMemory, BadE
 abbrev pub IsGiven : {X : Type 0} → Option X → Status → X → X → Type 0
 IsGiven None status old new = (status ≡ NoSuchIndex) × (new ≡ old)
 IsGiven (Some x) status old new = (status ≡ Success) × (new ≡ x)
+
+-- the status of what was written, or is not there
+abbrev pub status_of : Bool → Status
+status_of true = Success
+status_of false = NoSuchIndex
 
 -- the status of what was not read
 abbrev pub missing_status : Missing → Status

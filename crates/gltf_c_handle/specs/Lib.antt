@@ -1,4 +1,3 @@
-pub mod Heap
 pub mod Owned
 pub mod Given
 pub mod Calls

@@ -3,7 +3,7 @@ use Rattle.std.specs.Prelude.{Option, Some, None}
 use base.Fml.{Fml, feq}
 use denote.RawPtr.{Ptr, null_ptr}
 use Rattle.std_alloc.specs.Box.Ownership.{box_owns}
-use Rattle.gltf_c_handle.specs.Heap.{right_to_free}
+use Rattle.gltf_c_block.specs.Heap.{right_to_free}
 use Rattle.gltf_c_open.specs.declared.file.File.{File}
 use Rattle.gltf_c_open.specs.contracts.file.File.{the_row}
 

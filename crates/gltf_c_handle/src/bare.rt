@@ -1,7 +1,7 @@
 //! A box as its pointer alone.
 ghost use Rattle.std.specs.Prelude.{◌≡◌};
 ghost use Rattle.std_alloc.specs.Box.Ownership.{box_owns};
-ghost use Rattle.gltf_c_handle.specs.Heap.{right_to_free};
+ghost use Rattle.gltf_c_block.specs.Heap.{right_to_free};
 
 use std::alloc::Global;
 use std::marker::Model;

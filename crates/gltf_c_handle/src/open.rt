@@ -1,5 +1,6 @@
 //! Opening and closing files, and bytes for buffers that wait for them.
 ghost use Rattle.std.specs.Prelude.{◌≡◌, None, IfOk, IfErr, map};
+ghost use Rattle.std.specs.Cow.{cow_slice_items};
 ghost use Rattle.gltf_c_handle.specs.Opened.{IsOpened, HoldsAs, RefusesAs, HoldsOpen, RefusesOpen};
 ghost use Rattle.gltf_c_handle.specs.Waiting.{IsTaken, IsGivenBytes, given_number};
 
@@ -12,9 +13,11 @@ use gltf_c_open::file::File;
 use gltf_c_open::given::GiveError;
 use gltf_c_open::{given, names, open as opening};
 use std::alloc::Global;
+use std::borrow::CowSlice;
 
 /// Opens a file from its bytes: a GLB container where they begin with `glTF`, else JSON text (glTF
-/// 2.0, sections 2.8, 3.6.1 and 4.4). A copy is made of what is needed. What `file` held is freed.
+/// 2.0, sections 2.8, 3.6.1 and 4.4). Of bytes that are lent a copy is made of what is needed; of
+/// bytes that are given up the blob of a container keeps their memory. What `file` held is freed.
 ///
 /// `names` has the names of extensions that the caller handles, each with a zero byte after it.
 /// With an odd number in `flags` a buffer whose URI leads to another file waits for its bytes.
@@ -24,13 +27,14 @@ use std::alloc::Global;
 /// number is that of its status.
 pub fn open(
     alloc: Global,
-    bytes: &[u8],
+    bytes: CowSlice<'_, u8>,
     names: &[u8],
     flags: u32,
     file: &mut GltfFile,
     fault: &mut GltfFault,
 ) -> u32
-    ensures { IsOpened flags names.now bytes.now result file.new.value fault.new }
+    ensures { IsOpened flags names.now (cow_slice_items bytes.entry) result file.new.value
+        fault.new }
 {
     match opened(alloc, bytes, names, flags) {
         Ok(held) => {
@@ -47,19 +51,27 @@ pub fn open(
 }
 
 /// The file that these bytes are.
-fn opened(alloc: Global, bytes: &[u8], names: &[u8], flags: u32) -> Result<Box<File>>
-    ensures held { IfOk result (λ held. HoldsAs flags names.now bytes.now held.value) }
-    ensures refused { IfErr result (RefusesAs flags names.now bytes.now) }
+fn opened(alloc: Global, bytes: CowSlice<'_, u8>, names: &[u8], flags: u32) -> Result<Box<File>>
+    ensures held { IfOk result (λ held.
+        HoldsAs flags names.now (cow_slice_items bytes.entry) held.value) }
+    ensures refused { IfErr result
+        (RefusesAs flags names.now (cow_slice_items bytes.entry)) }
 {
     let also = names::names_of(alloc, names)?;
     opened_with(alloc, bytes, also.as_slice(), flags)
 }
 
 /// The same with these names of extensions.
-fn opened_with(alloc: Global, bytes: &[u8], also: &[&str], flags: u32) -> Result<Box<File>>
-    ensures held { IfOk result (λ held.
-        HoldsOpen flags (map (λ k. k.now) also.now) bytes.now held.value) }
-    ensures refused { IfErr result (RefusesOpen flags (map (λ k. k.now) also.now) bytes.now) }
+fn opened_with(
+    alloc: Global,
+    bytes: CowSlice<'_, u8>,
+    also: &[&str],
+    flags: u32,
+) -> Result<Box<File>>
+    ensures held { IfOk result (λ held. HoldsOpen flags (map (λ k. k.now) also.now)
+        (cow_slice_items bytes.entry) held.value) }
+    ensures refused { IfErr result
+        (RefusesOpen flags (map (λ k. k.now) also.now) (cow_slice_items bytes.entry)) }
 {
     if flags % 2 == 1 {
         opening::open_waiting(alloc, bytes, also)

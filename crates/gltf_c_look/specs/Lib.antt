@@ -1,3 +1,4 @@
+pub mod Written
 pub mod Numbers
 pub mod Uses
 pub mod Materials

@@ -10,7 +10,7 @@ use Rattle.gltf_json_material.specs.declared.extensions.material.PbrSpecularGlos
   PbrSpecularGlossiness,
 }
 use Rattle.gltf_json_material.specs.declared.extensions.material.Specular as specular_record
-use Rattle.gltf_json_material.specs.declared.extensions.material.Transmission as transmission_record
+use Rattle.gltf_json_material.specs.declared.extensions.material.Transmission.{Transmission}
 use Rattle.gltf_json_material.specs.declared.extensions.material.Volume as volume_record
 use Rattle.gltf_json_material.specs.declared.material.AlphaMode.{AlphaMode}
 use Rattle.gltf_json_material.specs.declared.material.AlphaMode.TheVariants.{Opaque, Mask, Blend}
@@ -32,11 +32,11 @@ use Rattle.gltf_c_look.specs.Uses.{no_use, info_use, normal_use, occlusion_use}
 use Rattle.gltf_c_look.specs.declared.material.Core.{Core}
 use Rattle.gltf_c_look.specs.declared.material.GltfMaterial.{GltfMaterial}
 use Rattle.gltf_c_look.specs.declared.material.Glossiness.{Glossiness}
-use Rattle.gltf_c_look.specs.declared.material.Single.{Single}
 use Rattle.gltf_c_look.specs.declared.material.Specular.{Specular}
 use Rattle.gltf_c_look.specs.declared.material.Surface.{Surface}
-use Rattle.gltf_c_look.specs.declared.material.Transmission.{Transmission}
+use Rattle.gltf_c_look.specs.declared.material.SurfaceTextures.{SurfaceTextures}
 use Rattle.gltf_c_look.specs.declared.material.Volume.{Volume}
+use Rattle.gltf_c_look.specs.declared.uses.GltfTextureUse.{GltfTextureUse}
 use Rattle.gltf_c_look.specs.declared.material.TheConstants.{IOR, EMISSIVE_STRENGTH, NO_DISTANCE}
 
 -- metalness and roughness (section 5.22)
@@ -45,13 +45,16 @@ surface_of None = record {
   base_color_factor = BASE_COLOR_FACTOR;
   metallic_factor = METALLIC_FACTOR;
   roughness_factor = ROUGHNESS_FACTOR;
-  base_color = no_use;
-  metallic_roughness = no_use;
 }
 surface_of (Some p) = record {
   base_color_factor = numbers_else 4 BASE_COLOR_FACTOR p.base_color_factor;
   metallic_factor = number_else METALLIC_FACTOR p.metallic_factor;
   roughness_factor = number_else ROUGHNESS_FACTOR p.roughness_factor;
+}
+
+abbrev pub surface_textures_of : Option PbrMetallicRoughness → SurfaceTextures
+surface_textures_of None = record { base_color = no_use; metallic_roughness = no_use }
+surface_textures_of (Some p) = record {
   base_color = info_use p.base_color_texture;
   metallic_roughness = info_use p.metallic_roughness_texture;
 }
@@ -60,26 +63,27 @@ surface_of (Some p) = record {
 abbrev pub glossiness_of : Option PbrSpecularGlossiness → Glossiness
 glossiness_of None = record {
   diffuse_factor = DIFFUSE_FACTOR;
-  specular_factor = GLOSSY_SPECULAR_FACTOR;
+  specular_glossiness_factor = GLOSSY_SPECULAR_FACTOR;
   glossiness_factor = GLOSSINESS_FACTOR;
   diffuse = no_use;
   specular_glossiness = no_use;
 }
 glossiness_of (Some g) = record {
   diffuse_factor = numbers_else 4 DIFFUSE_FACTOR g.diffuse_factor;
-  specular_factor = numbers_else 3 GLOSSY_SPECULAR_FACTOR g.specular_factor;
+  specular_glossiness_factor = numbers_else 3 GLOSSY_SPECULAR_FACTOR g.specular_factor;
   glossiness_factor = number_else GLOSSINESS_FACTOR g.glossiness_factor;
   diffuse = info_use g.diffuse_texture;
   specular_glossiness = info_use g.specular_glossiness_texture;
 }
 
 -- KHR_materials_transmission
-abbrev pub transmission_of : Option transmission_record.Transmission → Transmission
-transmission_of None = record { factor = TRANSMISSION_FACTOR; texture = no_use }
-transmission_of (Some t) = record {
-  factor = number_else TRANSMISSION_FACTOR t.transmission_factor;
-  texture = info_use t.transmission_texture;
-}
+abbrev pub transmission_factor_of : Option Transmission → Float
+transmission_factor_of None = TRANSMISSION_FACTOR
+transmission_factor_of (Some t) = number_else TRANSMISSION_FACTOR t.transmission_factor
+
+abbrev pub transmission_use_of : Option Transmission → GltfTextureUse
+transmission_use_of None = no_use
+transmission_use_of (Some t) = info_use t.transmission_texture
 
 -- KHR_materials_ior
 abbrev pub ior_of : Option Ior → Float
@@ -109,16 +113,16 @@ volume_of (Some v) = record {
 -- KHR_materials_specular
 abbrev pub specular_of : Option specular_record.Specular → Specular
 specular_of None = record {
-  factor = SPECULAR_FACTOR;
-  color_factor = SPECULAR_COLOR_FACTOR;
+  specular_factor = SPECULAR_FACTOR;
+  specular_color_factor = SPECULAR_COLOR_FACTOR;
   specular = no_use;
-  color = no_use;
+  specular_color = no_use;
 }
 specular_of (Some s) = record {
-  factor = number_else SPECULAR_FACTOR s.specular_factor;
-  color_factor = numbers_else 3 SPECULAR_COLOR_FACTOR s.specular_color_factor;
+  specular_factor = number_else SPECULAR_FACTOR s.specular_factor;
+  specular_color_factor = numbers_else 3 SPECULAR_COLOR_FACTOR s.specular_color_factor;
   specular = info_use s.specular_texture;
-  color = info_use s.specular_color_texture;
+  specular_color = info_use s.specular_color_texture;
 }
 
 -- what the document states of a material, as bits that are added up
@@ -140,89 +144,63 @@ alpha_mode_number Opaque = 0
 alpha_mode_number Mask = 1
 alpha_mode_number Blend = 2
 
--- what a material has beside its extensions and its surface (section 5.19)
+-- what is the same for all materials (section 5.19)
 abbrev pub core_of : Material → Core
 core_of m = record {
   alpha_mode = code_of alpha_mode_number m.alpha_mode;
   double_sided = one_or_zero m.double_sided;
   has = stated_bits m;
-  alpha_cutoff = number_else ALPHA_CUTOFF m.alpha_cutoff;
-  emissive_factor = numbers_else 3 EMISSIVE_FACTOR m.emissive_factor;
-  normal = normal_use m.normal_texture;
-  occlusion = occlusion_use m.occlusion_texture;
-  emissive = info_use m.emissive_texture;
-}
-
--- a material of its parts
-abbrev pub joined : Core → Surface → Glossiness → Transmission → Single → Volume → Specular
-    → GltfMaterial
-joined core surface glossiness transmission single volume specular = record {
-  alpha_mode = core.alpha_mode;
-  double_sided = core.double_sided;
-  has = core.has;
   reserved_word = 0;
-  alpha_cutoff = core.alpha_cutoff;
-  base_color_factor = surface.base_color_factor;
-  metallic_factor = surface.metallic_factor;
-  roughness_factor = surface.roughness_factor;
-  emissive_factor = core.emissive_factor;
-  base_color = surface.base_color;
-  metallic_roughness = surface.metallic_roughness;
-  normal = core.normal;
-  occlusion = core.occlusion;
-  emissive = core.emissive;
-  diffuse_factor = glossiness.diffuse_factor;
-  specular_glossiness_factor = glossiness.specular_factor;
-  glossiness_factor = glossiness.glossiness_factor;
-  diffuse = glossiness.diffuse;
-  specular_glossiness = glossiness.specular_glossiness;
-  transmission_factor = transmission.factor;
-  ior = single.ior;
-  emissive_strength = single.emissive_strength;
-  transmission = transmission.texture;
-  thickness_factor = volume.thickness_factor;
-  attenuation_distance = volume.attenuation_distance;
-  attenuation_color = volume.attenuation_color;
-  thickness = volume.thickness;
-  specular_factor = specular.factor;
-  specular_color_factor = specular.color_factor;
-  specular = specular.specular;
-  specular_color = specular.color;
-  reserved = 0 ∷ 0 ∷ 0 ∷ 0 ∷ 0 ∷ 0 ∷ 0 ∷ 0 ∷ [];
+  alpha_cutoff = number_else ALPHA_CUTOFF m.alpha_cutoff;
 }
 
 -- what C sees of a material
 abbrev pub shown_material : Material → GltfMaterial
-shown_material m =
-    joined (core_of m) (surface_of m.pbr_metallic_roughness)
-    (glossiness_of (option_and_then (λ e. e.pbr_specular_glossiness) m.extensions))
-    (transmission_of (option_and_then (λ e. e.transmission) m.extensions))
-    (record {
-      ior = ior_of (option_and_then (λ e. e.ior) m.extensions);
-      emissive_strength = emissive_strength_of
-          (option_and_then (λ e. e.emissive_strength) m.extensions);
-    })
-    (volume_of (option_and_then (λ e. e.volume) m.extensions))
-    (specular_of (option_and_then (λ e. e.specular) m.extensions))
+shown_material m = record {
+  core = core_of m;
+  surface = surface_of m.pbr_metallic_roughness;
+  emissive_factor = numbers_else 3 EMISSIVE_FACTOR m.emissive_factor;
+  surface_textures = surface_textures_of m.pbr_metallic_roughness;
+  normal = normal_use m.normal_texture;
+  occlusion = occlusion_use m.occlusion_texture;
+  emissive = info_use m.emissive_texture;
+  glossiness = glossiness_of (option_and_then (λ e. e.pbr_specular_glossiness) m.extensions);
+  transmission_factor =
+      transmission_factor_of (option_and_then (λ e. e.transmission) m.extensions);
+  ior = ior_of (option_and_then (λ e. e.ior) m.extensions);
+  emissive_strength =
+      emissive_strength_of (option_and_then (λ e. e.emissive_strength) m.extensions);
+  transmission = transmission_use_of (option_and_then (λ e. e.transmission) m.extensions);
+  volume = volume_of (option_and_then (λ e. e.volume) m.extensions);
+  specular = specular_of (option_and_then (λ e. e.specular) m.extensions);
+  reserved = 0 ∷ 0 ∷ 0 ∷ 0 ∷ 0 ∷ 0 ∷ 0 ∷ 0 ∷ [];
+}
 
 -- the material of a primitive that names none (section 3.9.6)
-abbrev pub default_core : Core
-default_core = record {
-  alpha_mode = 0;
-  double_sided = 0;
-  has = 0;
-  alpha_cutoff = ALPHA_CUTOFF;
+abbrev pub default_material : GltfMaterial
+default_material = record {
+  core = record {
+    alpha_mode = 0;
+    double_sided = 0;
+    has = 0;
+    reserved_word = 0;
+    alpha_cutoff = ALPHA_CUTOFF;
+  };
+  surface = surface_of None;
   emissive_factor = EMISSIVE_FACTOR;
+  surface_textures = surface_textures_of None;
   normal = no_use;
   occlusion = no_use;
   emissive = no_use;
+  glossiness = glossiness_of None;
+  transmission_factor = TRANSMISSION_FACTOR;
+  ior = IOR;
+  emissive_strength = EMISSIVE_STRENGTH;
+  transmission = no_use;
+  volume = volume_of None;
+  specular = specular_of None;
+  reserved = 0 ∷ 0 ∷ 0 ∷ 0 ∷ 0 ∷ 0 ∷ 0 ∷ 0 ∷ [];
 }
-
-abbrev pub default_material : GltfMaterial
-default_material =
-    joined default_core (surface_of None) (glossiness_of None) (transmission_of None)
-    (record { ior = IOR; emissive_strength = EMISSIVE_STRENGTH })
-    (volume_of None) (specular_of None)
 
 abbrev pub material_of : ℕ → Root → Option GltfMaterial
 material_of index r =

@@ -3,10 +3,12 @@ ghost use Rattle.std.specs.Prelude.{◌≡◌};
 ghost use Rattle.std.specs.Option.{option_copied, option_and_then};
 ghost use Rattle.gltf_handles.specs.Sizes.{code_of};
 ghost use Rattle.gltf_c_look.specs.Materials.{alpha_mode_number, shown_material, material_of};
-ghost use Rattle.gltf_c_look.specs.Materials.{surface_of, glossiness_of, volume_of, specular_of};
-ghost use Rattle.gltf_c_look.specs.Materials.{transmission_of, ior_of, emissive_strength_of};
+ghost use Rattle.gltf_c_look.specs.Materials.{surface_of, surface_textures_of, glossiness_of};
+ghost use Rattle.gltf_c_look.specs.Materials.{volume_of, specular_of, transmission_factor_of};
+ghost use Rattle.gltf_c_look.specs.Materials.{transmission_use_of, ior_of, emissive_strength_of};
 ghost use Rattle.gltf_c_look.specs.Materials.{stated_bits, extension_bits, default_material};
-ghost use Rattle.gltf_c_look.specs.Materials.{core_of, joined};
+ghost use Rattle.gltf_c_look.specs.Materials.{core_of};
+ghost use Rattle.gltf_c_look.specs.Written.{IsWritten};
 
 use crate::number::number_else;
 use crate::uses::{GltfTextureUse, info_use, normal_use, occlusion_use};
@@ -31,10 +33,10 @@ pub const EMISSIVE_STRENGTH: f64 = 1.0;
 /// What stands for no attenuation distance: the greatest double (`KHR_materials_volume`).
 pub const NO_DISTANCE: f64 = 1.7976931348623157e308;
 
-/// What a material is. C declares the same struct.
+/// What is the same for all materials (glTF 2.0, section 5.19).
 #[repr(C)]
 #[derive(Clone, Copy, Drop)]
-pub struct GltfMaterial {
+pub struct Core {
     /// 0 opaque, 1 mask, 2 blend (glTF 2.0, section 5.19.9).
     pub alpha_mode: u32,
     /// 1 where it has two sides, else 0.
@@ -47,34 +49,94 @@ pub struct GltfMaterial {
     pub reserved_word: u32,
     /// The cutoff of the mode mask.
     pub alpha_cutoff: f64,
+}
+
+/// The numbers of `pbrMetallicRoughness` (glTF 2.0, section 5.22).
+#[repr(C)]
+#[derive(Clone, Copy, Drop)]
+pub struct Surface {
     /// The base colour: red, green, blue, alpha.
     pub base_color_factor: [f64; 4],
     /// How much it is a metal.
     pub metallic_factor: f64,
     /// How rough it is.
     pub roughness_factor: f64,
-    /// What it emits: red, green, blue.
-    pub emissive_factor: [f64; 3],
+}
+
+/// The textures of `pbrMetallicRoughness`.
+#[repr(C)]
+#[derive(Clone, Copy, Drop)]
+pub struct SurfaceTextures {
     /// `baseColorTexture`.
     pub base_color: GltfTextureUse,
     /// `metallicRoughnessTexture`.
     pub metallic_roughness: GltfTextureUse,
+}
+
+/// What is stated of glossiness, or its defaults (`KHR_materials_pbrSpecularGlossiness`).
+#[repr(C)]
+#[derive(Clone, Copy, Drop)]
+pub struct Glossiness {
+    /// `diffuseFactor`.
+    pub diffuse_factor: [f64; 4],
+    /// `specularFactor`.
+    pub specular_glossiness_factor: [f64; 3],
+    /// `glossinessFactor`.
+    pub glossiness_factor: f64,
+    /// `diffuseTexture`.
+    pub diffuse: GltfTextureUse,
+    /// `specularGlossinessTexture`.
+    pub specular_glossiness: GltfTextureUse,
+}
+
+/// What is stated of a volume, or its defaults (`KHR_materials_volume`).
+#[repr(C)]
+#[derive(Clone, Copy, Drop)]
+pub struct Volume {
+    /// `thicknessFactor`.
+    pub thickness_factor: f64,
+    /// `attenuationDistance`, the greatest double where there is none.
+    pub attenuation_distance: f64,
+    /// `attenuationColor`.
+    pub attenuation_color: [f64; 3],
+    /// `thicknessTexture`.
+    pub thickness: GltfTextureUse,
+}
+
+/// What is stated of reflections, or their defaults (`KHR_materials_specular`).
+#[repr(C)]
+#[derive(Clone, Copy, Drop)]
+pub struct Specular {
+    /// `specularFactor`.
+    pub specular_factor: f64,
+    /// `specularColorFactor`.
+    pub specular_color_factor: [f64; 3],
+    /// `specularTexture`.
+    pub specular: GltfTextureUse,
+    /// `specularColorTexture`.
+    pub specular_color: GltfTextureUse,
+}
+
+/// What a material is. C declares a struct with the members of its parts, one after the other.
+#[repr(C)]
+#[derive(Clone, Copy, Drop)]
+pub struct GltfMaterial {
+    /// What is the same for all materials.
+    pub core: Core,
+    /// The numbers of its surface.
+    pub surface: Surface,
+    /// What it emits: red, green, blue.
+    pub emissive_factor: [f64; 3],
+    /// The textures of its surface.
+    pub surface_textures: SurfaceTextures,
     /// `normalTexture`.
     pub normal: GltfTextureUse,
     /// `occlusionTexture`.
     pub occlusion: GltfTextureUse,
     /// `emissiveTexture`.
     pub emissive: GltfTextureUse,
-    /// `diffuseFactor` of `KHR_materials_pbrSpecularGlossiness`.
-    pub diffuse_factor: [f64; 4],
-    /// Its `specularFactor`.
-    pub specular_glossiness_factor: [f64; 3],
-    /// Its `glossinessFactor`.
-    pub glossiness_factor: f64,
-    /// Its `diffuseTexture`.
-    pub diffuse: GltfTextureUse,
-    /// Its `specularGlossinessTexture`.
-    pub specular_glossiness: GltfTextureUse,
+    /// Its glossiness.
+    pub glossiness: Glossiness,
     /// `transmissionFactor` of `KHR_materials_transmission`.
     pub transmission_factor: f64,
     /// `ior` of `KHR_materials_ior`.
@@ -83,45 +145,31 @@ pub struct GltfMaterial {
     pub emissive_strength: f64,
     /// `transmissionTexture`.
     pub transmission: GltfTextureUse,
-    /// `thicknessFactor` of `KHR_materials_volume`.
-    pub thickness_factor: f64,
-    /// Its `attenuationDistance`, the greatest double where it has none.
-    pub attenuation_distance: f64,
-    /// Its `attenuationColor`.
-    pub attenuation_color: [f64; 3],
-    /// Its `thicknessTexture`.
-    pub thickness: GltfTextureUse,
-    /// `specularFactor` of `KHR_materials_specular`.
-    pub specular_factor: f64,
-    /// Its `specularColorFactor`.
-    pub specular_color_factor: [f64; 3],
-    /// Its `specularTexture`.
-    pub specular: GltfTextureUse,
-    /// Its `specularColorTexture`.
-    pub specular_color: GltfTextureUse,
+    /// Its volume.
+    pub volume: Volume,
+    /// Its reflections.
+    pub specular: Specular,
     /// 0.
     pub reserved: [usize; 8],
 }
 
-/// What the material at an index is. [`NONE`] stands for the material of a primitive that names
-/// none (glTF 2.0, section 3.9.6).
-pub fn material(root: &Root, index: usize) -> Option<GltfMaterial>
-    ensures { result ≡ material_of index root.now }
+/// Writes what the material at an index is, and returns whether there is one. [`NONE`] stands for
+/// the material of a primitive that names none (glTF 2.0, section 3.9.6). The struct is large, so it
+/// is written where it is wanted.
+pub fn write_material(root: &Root, index: usize, out: &mut GltfMaterial) -> bool
+    ensures { IsWritten (material_of index root.now) result out.old out.new }
 {
     if index == NONE {
-        return Some(default_material());
+        write_default(out);
+        return true;
     }
-    Some(shown_material(root.materials.get(index)?))
-}
-
-/// What is stated of metalness and roughness, or their defaults (glTF 2.0, section 5.22).
-#[derive(Clone, Copy, Drop)]
-struct Surface {
-    base_color_factor: [f64; 4],
-    metallic_factor: f64,
-    roughness_factor: f64,
-    base_color: GltfTextureUse,
-    metallic_roughness: GltfTextureUse,
+    match root.materials.get(index) {
+        Some(material) => {
+            write_shown(material, out);
+            true
+        }
+        None => false,
+    }
 }
 
 fn surface_of(stated: Option<&PbrMetallicRoughness>) -> Surface
@@ -132,27 +180,28 @@ fn surface_of(stated: Option<&PbrMetallicRoughness>) -> Surface
             base_color_factor: numbers_else(&it.base_color_factor, BASE_COLOR_FACTOR),
             metallic_factor: number_else(it.metallic_factor.as_ref(), METALLIC_FACTOR),
             roughness_factor: number_else(it.roughness_factor.as_ref(), ROUGHNESS_FACTOR),
-            base_color: info_use(it.base_color_texture.as_ref()),
-            metallic_roughness: info_use(it.metallic_roughness_texture.as_ref()),
         },
         None => Surface {
             base_color_factor: BASE_COLOR_FACTOR,
             metallic_factor: METALLIC_FACTOR,
             roughness_factor: ROUGHNESS_FACTOR,
-            base_color: info_use(None),
-            metallic_roughness: info_use(None),
         },
     }
 }
 
-/// What is stated of glossiness, or its defaults (`KHR_materials_pbrSpecularGlossiness`).
-#[derive(Clone, Copy, Drop)]
-struct Glossiness {
-    diffuse_factor: [f64; 4],
-    specular_factor: [f64; 3],
-    glossiness_factor: f64,
-    diffuse: GltfTextureUse,
-    specular_glossiness: GltfTextureUse,
+fn surface_textures_of(stated: Option<&PbrMetallicRoughness>) -> SurfaceTextures
+    ensures { result ≡ surface_textures_of (option_copied stated.entry) }
+{
+    match stated {
+        Some(it) => SurfaceTextures {
+            base_color: info_use(it.base_color_texture.as_ref()),
+            metallic_roughness: info_use(it.metallic_roughness_texture.as_ref()),
+        },
+        None => SurfaceTextures {
+            base_color: info_use(None),
+            metallic_roughness: info_use(None),
+        },
+    }
 }
 
 fn glossiness_of(stated: Option<&extended::PbrSpecularGlossiness>) -> Glossiness
@@ -161,28 +210,19 @@ fn glossiness_of(stated: Option<&extended::PbrSpecularGlossiness>) -> Glossiness
     match stated {
         Some(it) => Glossiness {
             diffuse_factor: numbers_else(&it.diffuse_factor, DIFFUSE_FACTOR),
-            specular_factor: numbers_else(&it.specular_factor, GLOSSY_SPECULAR_FACTOR),
+            specular_glossiness_factor: numbers_else(&it.specular_factor, GLOSSY_SPECULAR_FACTOR),
             glossiness_factor: number_else(it.glossiness_factor.as_ref(), GLOSSINESS_FACTOR),
             diffuse: info_use(it.diffuse_texture.as_ref()),
             specular_glossiness: info_use(it.specular_glossiness_texture.as_ref()),
         },
         None => Glossiness {
             diffuse_factor: DIFFUSE_FACTOR,
-            specular_factor: GLOSSY_SPECULAR_FACTOR,
+            specular_glossiness_factor: GLOSSY_SPECULAR_FACTOR,
             glossiness_factor: GLOSSINESS_FACTOR,
             diffuse: info_use(None),
             specular_glossiness: info_use(None),
         },
     }
-}
-
-/// What is stated of a volume, or its defaults (`KHR_materials_volume`).
-#[derive(Clone, Copy, Drop)]
-struct Volume {
-    thickness_factor: f64,
-    attenuation_distance: f64,
-    attenuation_color: [f64; 3],
-    thickness: GltfTextureUse,
 }
 
 fn volume_of(stated: Option<&extended::Volume>) -> Volume
@@ -204,53 +244,40 @@ fn volume_of(stated: Option<&extended::Volume>) -> Volume
     }
 }
 
-/// What is stated of reflections, or their defaults (`KHR_materials_specular`).
-#[derive(Clone, Copy, Drop)]
-struct Specular {
-    factor: f64,
-    color_factor: [f64; 3],
-    specular: GltfTextureUse,
-    color: GltfTextureUse,
-}
-
 fn specular_of(stated: Option<&extended::Specular>) -> Specular
     ensures { result ≡ specular_of (option_copied stated.entry) }
 {
     match stated {
         Some(it) => Specular {
-            factor: number_else(it.specular_factor.as_ref(), SPECULAR_FACTOR),
-            color_factor: numbers_else(&it.specular_color_factor, SPECULAR_COLOR_FACTOR),
+            specular_factor: number_else(it.specular_factor.as_ref(), SPECULAR_FACTOR),
+            specular_color_factor: numbers_else(&it.specular_color_factor, SPECULAR_COLOR_FACTOR),
             specular: info_use(it.specular_texture.as_ref()),
-            color: info_use(it.specular_color_texture.as_ref()),
+            specular_color: info_use(it.specular_color_texture.as_ref()),
         },
         None => Specular {
-            factor: SPECULAR_FACTOR,
-            color_factor: SPECULAR_COLOR_FACTOR,
+            specular_factor: SPECULAR_FACTOR,
+            specular_color_factor: SPECULAR_COLOR_FACTOR,
             specular: info_use(None),
-            color: info_use(None),
+            specular_color: info_use(None),
         },
     }
 }
 
-/// What is stated of a transmission, or its defaults (`KHR_materials_transmission`).
-#[derive(Clone, Copy, Drop)]
-struct Transmission {
-    factor: f64,
-    texture: GltfTextureUse,
-}
-
-fn transmission_of(stated: Option<&extended::Transmission>) -> Transmission
-    ensures { result ≡ transmission_of (option_copied stated.entry) }
+fn transmission_factor_of(stated: Option<&extended::Transmission>) -> f64
+    ensures { result ≡ transmission_factor_of (option_copied stated.entry) }
 {
     match stated {
-        Some(it) => Transmission {
-            factor: number_else(it.transmission_factor.as_ref(), TRANSMISSION_FACTOR),
-            texture: info_use(it.transmission_texture.as_ref()),
-        },
-        None => Transmission {
-            factor: TRANSMISSION_FACTOR,
-            texture: info_use(None),
-        },
+        Some(it) => number_else(it.transmission_factor.as_ref(), TRANSMISSION_FACTOR),
+        None => TRANSMISSION_FACTOR,
+    }
+}
+
+fn transmission_use_of(stated: Option<&extended::Transmission>) -> GltfTextureUse
+    ensures { result ≡ transmission_use_of (option_copied stated.entry) }
+{
+    match stated {
+        Some(it) => info_use(it.transmission_texture.as_ref()),
+        None => info_use(None),
     }
 }
 
@@ -282,13 +309,23 @@ fn glossiness_in(material: &Material) -> Glossiness
     }
 }
 
-fn transmission_in(material: &Material) -> Transmission
-    ensures { result ≡ transmission_of
+fn transmission_factor_in(material: &Material) -> f64
+    ensures { result ≡ transmission_factor_of
         (option_and_then (λ e. e.transmission) material.now.extensions) }
 {
     match lent(&material.extensions) {
-        Some(extensions) => transmission_of(extensions.transmission.as_ref()),
-        None => transmission_of(None),
+        Some(extensions) => transmission_factor_of(extensions.transmission.as_ref()),
+        None => transmission_factor_of(None),
+    }
+}
+
+fn transmission_use_in(material: &Material) -> GltfTextureUse
+    ensures { result ≡ transmission_use_of
+        (option_and_then (λ e. e.transmission) material.now.extensions) }
+{
+    match lent(&material.extensions) {
+        Some(extensions) => transmission_use_of(extensions.transmission.as_ref()),
+        None => transmission_use_of(None),
     }
 }
 
@@ -363,19 +400,6 @@ fn alpha_mode_number(mode: Checked<AlphaMode>) -> u32
     }
 }
 
-/// What a material has beside its extensions and its surface.
-#[derive(Clone, Copy, Drop)]
-struct Core {
-    alpha_mode: u32,
-    double_sided: u32,
-    has: u32,
-    alpha_cutoff: f64,
-    emissive_factor: [f64; 3],
-    normal: GltfTextureUse,
-    occlusion: GltfTextureUse,
-    emissive: GltfTextureUse,
-}
-
 fn core_of(material: &Material) -> Core
     ensures { result ≡ core_of material.now }
 {
@@ -383,115 +407,53 @@ fn core_of(material: &Material) -> Core
         alpha_mode: alpha_mode_number(material.alpha_mode),
         double_sided: one_or_zero(material.double_sided),
         has: stated_bits(material),
-        alpha_cutoff: number_else(material.alpha_cutoff.as_ref(), ALPHA_CUTOFF),
-        emissive_factor: numbers_else(&material.emissive_factor, EMISSIVE_FACTOR),
-        normal: normal_use(lent(&material.normal_texture)),
-        occlusion: occlusion_use(lent(&material.occlusion_texture)),
-        emissive: info_use(material.emissive_texture.as_ref()),
-    }
-}
-
-fn shown_material(material: &Material) -> GltfMaterial
-    ensures { result ≡ shown_material material.now }
-{
-    let surface = surface_of(lent(&material.pbr_metallic_roughness));
-    joined(
-        core_of(material),
-        surface,
-        glossiness_in(material),
-        transmission_in(material),
-        Single {
-            ior: ior_in(material),
-            emissive_strength: emissive_strength_in(material),
-        },
-        volume_in(material),
-        specular_in(material),
-    )
-}
-
-/// The numbers of the extensions that have one number each.
-#[derive(Clone, Copy, Drop)]
-struct Single {
-    ior: f64,
-    emissive_strength: f64,
-}
-
-fn default_material() -> GltfMaterial
-    ensures { result ≡ default_material }
-{
-    joined(
-        Core {
-            alpha_mode: 0,
-            double_sided: 0,
-            has: 0,
-            alpha_cutoff: ALPHA_CUTOFF,
-            emissive_factor: EMISSIVE_FACTOR,
-            normal: info_use(None),
-            occlusion: info_use(None),
-            emissive: info_use(None),
-        },
-        surface_of(None),
-        glossiness_of(None),
-        transmission_of(None),
-        Single {
-            ior: IOR,
-            emissive_strength: EMISSIVE_STRENGTH,
-        },
-        volume_of(None),
-        specular_of(None),
-    )
-}
-
-/// A material of its parts.
-fn joined(
-    core: Core,
-    surface: Surface,
-    glossiness: Glossiness,
-    transmission: Transmission,
-    single: Single,
-    volume: Volume,
-    specular: Specular,
-) -> GltfMaterial
-    ensures { result ≡ joined core surface glossiness transmission single volume specular }
-{
-    let base_color_factor = surface.base_color_factor;
-    let emissive_factor = core.emissive_factor;
-    let diffuse_factor = glossiness.diffuse_factor;
-    let specular_glossiness_factor = glossiness.specular_factor;
-    let attenuation_color = volume.attenuation_color;
-    let specular_color_factor = specular.color_factor;
-    GltfMaterial {
-        alpha_mode: core.alpha_mode,
-        double_sided: core.double_sided,
-        has: core.has,
         reserved_word: 0,
-        alpha_cutoff: core.alpha_cutoff,
-        base_color_factor,
-        metallic_factor: surface.metallic_factor,
-        roughness_factor: surface.roughness_factor,
-        emissive_factor,
-        base_color: surface.base_color,
-        metallic_roughness: surface.metallic_roughness,
-        normal: core.normal,
-        occlusion: core.occlusion,
-        emissive: core.emissive,
-        diffuse_factor,
-        specular_glossiness_factor,
-        glossiness_factor: glossiness.glossiness_factor,
-        diffuse: glossiness.diffuse,
-        specular_glossiness: glossiness.specular_glossiness,
-        transmission_factor: transmission.factor,
-        ior: single.ior,
-        emissive_strength: single.emissive_strength,
-        transmission: transmission.texture,
-        thickness_factor: volume.thickness_factor,
-        attenuation_distance: volume.attenuation_distance,
-        attenuation_color,
-        thickness: volume.thickness,
-        specular_factor: specular.factor,
-        specular_color_factor,
-        specular: specular.specular,
-        specular_color: specular.color,
-        reserved: [0; 8],
+        alpha_cutoff: number_else(material.alpha_cutoff.as_ref(), ALPHA_CUTOFF),
     }
+}
+
+fn write_shown(material: &Material, out: &mut GltfMaterial)
+    ensures { out.new ≡ shown_material material.now }
+{
+    out.core = core_of(material);
+    out.surface = surface_of(lent(&material.pbr_metallic_roughness));
+    out.emissive_factor = numbers_else(&material.emissive_factor, EMISSIVE_FACTOR);
+    out.surface_textures = surface_textures_of(lent(&material.pbr_metallic_roughness));
+    out.normal = normal_use(lent(&material.normal_texture));
+    out.occlusion = occlusion_use(lent(&material.occlusion_texture));
+    out.emissive = info_use(material.emissive_texture.as_ref());
+    out.glossiness = glossiness_in(material);
+    out.transmission_factor = transmission_factor_in(material);
+    out.ior = ior_in(material);
+    out.emissive_strength = emissive_strength_in(material);
+    out.transmission = transmission_use_in(material);
+    out.volume = volume_in(material);
+    out.specular = specular_in(material);
+    out.reserved = [0; 8];
+}
+
+fn write_default(out: &mut GltfMaterial)
+    ensures { out.new ≡ default_material }
+{
+    out.core = Core {
+        alpha_mode: 0,
+        double_sided: 0,
+        has: 0,
+        reserved_word: 0,
+        alpha_cutoff: ALPHA_CUTOFF,
+    };
+    out.surface = surface_of(None);
+    out.emissive_factor = EMISSIVE_FACTOR;
+    out.surface_textures = surface_textures_of(None);
+    out.normal = info_use(None);
+    out.occlusion = info_use(None);
+    out.emissive = info_use(None);
+    out.glossiness = glossiness_of(None);
+    out.transmission_factor = TRANSMISSION_FACTOR;
+    out.ior = IOR;
+    out.emissive_strength = EMISSIVE_STRENGTH;
+    out.transmission = info_use(None);
+    out.volume = volume_of(None);
+    out.specular = specular_of(None);
+    out.reserved = [0; 8];
 }

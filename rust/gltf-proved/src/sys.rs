@@ -487,6 +487,13 @@ extern "C" {
         file: *mut *mut gltf_file,
         fault: *mut gltf_fault,
     ) -> gltf_status;
+    pub fn gltf_open_owned(
+        bytes: *mut c_void,
+        size: usize,
+        options: *const gltf_open_options,
+        file: *mut *mut gltf_file,
+        fault: *mut gltf_fault,
+    ) -> gltf_status;
     pub fn gltf_give(
         file: *mut gltf_file,
         index: usize,

@@ -35,7 +35,7 @@ use denote.Triple.Call.{calls_at}
 use denote.Triple.Walked.{Stays, stay_dropped, walk_of}
 use Rattle.core.proofs.alloc.Calls.{Goes-blank}
 use Rattle.core.proofs.atomic.Steps.{fm}
-use Rattle.gltf_c_handle.specs.Heap.{right_to_free}
+use Rattle.gltf_c_block.specs.Heap.{right_to_free}
 use Rattle.std.proofs.raw_atomic.Walks.{proved_at, leaves}
 use Rattle.std.specs.contracts.alloc.Global as heap
 use Rattle.std_heap.specs.contracts.GlobalAllocator.TheImpl as allocator

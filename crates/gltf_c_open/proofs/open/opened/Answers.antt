@@ -1,5 +1,6 @@
 use Rattle.std.proofs.Common.{map}
 use Rattle.std.proofs.lemmas.Result.{err_from_is_err_and}
+use Rattle.std.specs.Cow.{cow_slice_items}
 use Rattle.gltf.specs.Shown.{blob_bytes}
 use Rattle.gltf_options.specs.Names.{texts}
 use Rattle.gltf_c_open.proofs.Opened.{document_refused, buffer_refused}
@@ -9,7 +10,7 @@ pub returns-in_err-gltf-clause-refused : goal.returns-in_err-gltf-clause-refused
 returns-in_err-gltf-clause-refused c =
     let passed = err_from_is_err_and c.from_residual.result c.from_residual.ensures.1 in
     rw (passed.1, passed.2)
-    (document_refused (map (λ k. k.now) c.args.also.now) c.args.bytes.now c.in_err-gltf.field-0.0
+    (document_refused (map (λ k. k.now) c.args.also.now) (cow_slice_items c.args.bytes) c.in_err-gltf.field-0.0
     c.in_err-gltf.ensures.refused c.in_err-gltf.ensures.exact)
 
 pub returns-in_err-buffers-clause-refused : goal.returns-in_err-buffers-clause-refused
@@ -18,7 +19,7 @@ returns-in_err-buffers-clause-refused c =
     let passed = err_from_is_err_and exit.result exit.ensures.1 in
     let file = c.in_ok-gltf.field-0 in
     rw (passed.1, passed.2)
-    (buffer_refused (map (λ k. k.now) c.args.also.now) c.args.bytes.now file.gltf.document
+    (buffer_refused (map (λ k. k.now) c.args.also.now) (cow_slice_items c.args.bytes) file.gltf.document
     (texts file.also_required.items) (blob_bytes file.gltf.blob) c.in_err-buffers.field-0.0
     c.in_ok-gltf.ensures.valid c.in_ok-gltf.ensures.only
     (rw (c.deref.ensures.value, c.as_json.ensures) at c.in_err-buffers.ensures.err))
