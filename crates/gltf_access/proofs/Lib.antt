@@ -7,3 +7,4 @@ mod Members
 mod Written
 mod Counts
 mod Flattened
+mod Joined

@@ -1,5 +1,6 @@
 pub mod Raw
 pub mod Flat
+pub mod Packed
 pub mod Texts
 pub mod Rows
 pub mod Why

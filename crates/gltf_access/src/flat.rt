@@ -1,6 +1,7 @@
 //! The bytes of all items of an accessor, one item after the other.
 
 ghost use Rattle.std.specs.Prelude.{◌≡◌, ◌*◌, ◌≤◌, IfOk, option_map};
+ghost use Rattle.std.specs.Option.{option_copied};
 ghost use Rattle.gltf_data.specs.Answers.{Reads, ReadsAlike};
 ghost use Rattle.gltf_data.specs.Iter.{counted_items};
 ghost use Rattle.gltf_handles.specs.Accessors.{accessor_handle};
@@ -8,6 +9,7 @@ ghost use Rattle.gltf_handles.specs.Sizes.{component_size, item_size, multiplici
 ghost use Rattle.gltf_access.specs.Flat.{IsFlat, IsFlatIn, IsWritten};
 
 use crate::item::ItemBytes;
+use crate::packed::{is_packed, packed_bytes, write_packed};
 use crate::write::write_items;
 use gltf_data::accessor::{Accessor, DataType, Dimensions, Item, Iter};
 use gltf_data::buffer::Buffer;
@@ -57,6 +59,10 @@ pub fn to_bytes<'s, F: Fn(Buffer) -> Option<&'s [u8]>>(
         IfOk result (λ flat. IsFlat (λ b o. F.post get_buffer_data.now b o) (item_size a.json)
         a.document a.json (option_map (λ bytes. bytes.items) flat)) }
 {
+    // The bytes of packed items are those of the view: one copy of these is all.
+    if is_packed(accessor) {
+        return copy(alloc, packed_bytes(accessor, get_buffer_data));
+    }
     if write_bytes(accessor, get_buffer_data, &mut []) == Err(NotWritten::Unreadable) {
         return Ok(None);
     }
@@ -68,6 +74,17 @@ pub fn to_bytes<'s, F: Fn(Buffer) -> Option<&'s [u8]>>(
     match write_bytes(accessor, get_buffer_data, &mut bytes) {
         Ok(_) => Ok(Some(bytes)),
         Err(_) => Ok(None),
+    }
+}
+
+/// A copy of these bytes, where there are any.
+fn copy(alloc: Global, bytes: Option<&[u8]>) -> Result<Option<Vec<u8>>, AllocError>
+    ensures { IfOk result (λ copied. option_map (λ bytes. bytes.items) copied
+        ≡ option_copied bytes.entry) }
+{
+    match bytes {
+        Some(bytes) => Ok(Some(Vec::from_slice(alloc, bytes)?)),
+        None => Ok(None),
     }
 }
 
@@ -83,6 +100,10 @@ pub fn write_bytes<'s, F: Fn(Buffer) -> Option<&'s [u8]>>(
         IsFlatIn (λ b o. F.post get_buffer_data.now b o) (item_size a.json) a.document a.json
         result out.old out.new }
 {
+    // The bytes of packed items are those of the view: one copy of these writes all items.
+    if is_packed(accessor) {
+        return write_packed(packed_bytes(accessor, get_buffer_data), out);
+    }
     of_type(
         accessor.data_type(),
         accessor.dimensions(),

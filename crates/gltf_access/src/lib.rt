@@ -8,6 +8,7 @@ mod item;
 pub mod laws;
 pub mod mesh;
 mod not_read;
+mod packed;
 mod raw;
 pub mod skin;
 mod why;
