@@ -8,3 +8,5 @@ pub mod Floats
 pub mod Extremes
 pub mod Columns
 pub mod Asked
+pub mod Settled
+pub mod Rows

@@ -31,7 +31,7 @@ use gltf_validation::location::Location;
 use std::alloc::AllocError;
 
 /// The distance in bytes from item to item.
-fn stride_of(view: &View, size: usize) -> usize
+pub(crate) fn stride_of(view: &View, size: usize) -> usize
     ensures { result ≡ stride view.now size }
 {
     match view.byte_stride {
@@ -41,7 +41,7 @@ fn stride_of(view: &View, size: usize) -> usize
 }
 
 /// Where a view begins in its buffer.
-fn offset_of(view: &View) -> usize
+pub(crate) fn offset_of(view: &View) -> usize
     ensures { result ≡ view_offset view.now }
 {
     view.byte_offset.unwrap_or(0) as usize
@@ -65,7 +65,7 @@ fn end_of(offset: usize, stride: usize, count: usize, size: usize) -> Option<usi
 }
 
 /// The same, where it is within the view.
-fn end_in(view: &View, offset: usize, count: usize, size: usize) -> Option<usize>
+pub(crate) fn end_in(view: &View, offset: usize, count: usize, size: usize) -> Option<usize>
     requires { 0 < count }
     ensures { let p = part_of view.now offset count size in
         result ≡ if nat_le (items_end p) view.now.byte_length then Some (items_end p) else None }
@@ -76,7 +76,7 @@ fn end_in(view: &View, offset: usize, count: usize, size: usize) -> Option<usize
 }
 
 /// Whether a view is within so many bytes.
-fn is_within(view: &View, len: usize) -> bool
+pub(crate) fn is_within(view: &View, len: usize) -> bool
     ensures { result ≡ nat_le (view_offset view.now + view.now.byte_length) len }
 {
     let length = view.byte_length as usize;
