@@ -1,5 +1,6 @@
 //! Items in a row: each stands at the same distance from the one before it.
-ghost use Rattle.std.specs.Prelude.{◌≡◌, ℕ, ◌+◌, ◌*◌, ◌<◌, ◌≤◌, true, None, IfSome, IsTrue, length, slice_get};
+ghost use Rattle.std.specs.Prelude.{◌≡◌, ℕ, ◌+◌, ◌*◌, ◌<◌, ◌≤◌, true, None, IfSome, IsTrue};
+ghost use Rattle.std.specs.Prelude.{length, slice_get};
 ghost use Rattle.std.specs.Option.{option_copied, option_and_then};
 ghost use Rattle.gltf.specs.Shown.{bytes_of_each};
 ghost use Rattle.gltf_data.specs.Parts.{part_of, stride, view_at, view_offset};
