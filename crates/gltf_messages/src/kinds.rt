@@ -1,5 +1,8 @@
 //! The kind of the JSON value at a place of a file: which is found, and which is wanted.
-use gltf_json_record::path::{Path, Step};
+ghost use Rattle.std.specs.Prelude.{OnOk, string_bytes};
+ghost use Rattle.gltf_messages.specs.Messages.{IsLonger};
+
+use gltf_json_record::path::Step;
 use serde_json::Value;
 use std::alloc::{AllocError, Global};
 
@@ -17,30 +20,18 @@ const INDEX: &str = "a whole number from 0 to 4294967295";
 /// A number of bytes or items, or the number of a table.
 const SIZE: &str = "a whole number from 0 to 18446744073709551615";
 
-/// The kind of the value at a place, a number by its text. `None` where nothing is there. Fails
-/// where there is no memory.
-pub(crate) fn found(
-    alloc: Global,
-    value: &Value,
-    place: &Path,
-) -> Result<Option<String>, AllocError> {
-    let pointer = place.pointer(alloc)?;
-    match value.pointer(pointer.as_str()) {
-        Some(part) => Ok(Some(kind_of(alloc, part)?)),
-        None => Ok(None),
+/// Appends the kind of a value, a number by its text. Fails where there is no memory.
+pub(crate) fn push_kind(alloc: Global, value: &Value, text: &mut String) -> Result<(), AllocError>
+    ensures { OnOk result (IsLonger (string_bytes text.old) (string_bytes text.new)) }
+{
+    match value {
+        Value::Null => text.push_str("null"),
+        Value::Bool(_) => text.push_str(FLAG),
+        Value::Number(number) => text.push_str(format!(in alloc; "{number}")?.as_str()),
+        Value::String(_) => text.push_str(STRING),
+        Value::Array(_) => text.push_str(LIST),
+        Value::Object(_) => text.push_str(OBJECT),
     }
-}
-
-fn kind_of(alloc: Global, value: &Value) -> Result<String, AllocError> {
-    let kind = match value {
-        Value::Null => "null",
-        Value::Bool(_) => FLAG,
-        Value::Number(number) => return format!(in alloc; "{number}"),
-        Value::String(_) => STRING,
-        Value::Array(_) => LIST,
-        Value::Object(_) => OBJECT,
-    };
-    String::from_str(alloc, kind)
 }
 
 /// The kind that the standard gives the value at a place, of those that this reader looks at: what

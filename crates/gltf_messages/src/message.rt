@@ -1,6 +1,11 @@
 //! What a finding says: the sentence of its code, and where it is about a number or a kind, what
 //! was found and what was wanted.
+ghost use Rattle.std.specs.Prelude.{IfOk, OnOk, ◌++◌, string_bytes};
+ghost use Rattle.gltf_findings.specs.Codes.{sentence};
+ghost use Rattle.gltf_messages.specs.Messages.{IsSaidOf, IsLonger};
+
 use crate::kinds;
+use crate::pointer::push_pointer;
 use gltf_findings::code::Code;
 use gltf_inspect_meshes::item::{component_size, item_size, last_size, or_zero};
 use gltf_inspect_meshes::target::target_count;
@@ -48,44 +53,83 @@ pub fn message(
     value: Option<&Value>,
     place: &Path,
     code: Code,
-) -> Result<String, AllocError> {
-    let sentence = code.sentence();
-    if let Some(value) = value {
-        if let Some(found) = kind_found(alloc, value, place, code)? {
-            let wanted = kinds::wanted(place.steps());
-            return format!(in alloc; "{sentence} Found {found}, wanted {wanted}.");
-        }
+) -> Result<String, AllocError>
+    ensures { IfOk result (λ text. IsSaidOf code (string_bytes text)) }
+{
+    let mut pointer = String::new(alloc);
+    if value.is_some() && is_about_a_kind(code) {
+        push_pointer(place, &mut pointer)?;
     }
-    let found = match root {
+    let mut text = String::new(alloc);
+    push_message(alloc, root, value, place, pointer.as_str(), code, &mut text)?;
+    Ok(text)
+}
+
+/// Appends the text that [`message`] gives, where `pointer` is the JSON Pointer of the place. Fails
+/// where there is no memory, and has then appended a part of it.
+pub(crate) fn push_message(
+    alloc: Global,
+    root: Option<&Root>,
+    value: Option<&Value>,
+    place: &Path,
+    pointer: &str,
+    code: Code,
+    text: &mut String,
+) -> Result<(), AllocError>
+    ensures { OnOk result
+        (IsLonger (string_bytes text.old ++ sentence code) (string_bytes text.new)) }
+{
+    text.push_str(code.sentence())?;
+    if let Some(part) = part_of_a_kind(value, pointer, code) {
+        let wanted = kinds::wanted(place.steps());
+        return push_kinds(alloc, part, wanted, text);
+    }
+    let numbers = match root {
         Some(root) => numbers_at(alloc, root, place.steps(), code)?,
         None => None,
     };
-    let Some(found) = found else {
-        return String::from_str(alloc, sentence);
-    };
-    let Numbers { found, wanted } = found;
-    match wanted {
-        Wanted::AtLeast(n) => format!(in alloc; "{sentence} Found {found}, wanted at least {n}."),
-        Wanted::AtMost(n) => format!(in alloc; "{sentence} Found {found}, wanted at most {n}."),
-        Wanted::Between(n, m) => {
-            format!(in alloc; "{sentence} Found {found}, wanted {n} to {m}.")
-        }
-        Wanted::MultipleOf(n) => {
-            format!(in alloc; "{sentence} Found {found}, wanted a multiple of {n}.")
-        }
-        Wanted::Exactly(n) => format!(in alloc; "{sentence} Found {found}, wanted {n}."),
+    match numbers {
+        Some(numbers) => push_numbers(numbers, text),
+        None => Ok(()),
     }
 }
 
-fn kind_found(
+fn is_about_a_kind(code: Code) -> bool {
+    matches!(code, Code::TypeMismatch | Code::ArrayTypeMismatch)
+}
+
+/// The part of the file where a finding stands that is about its kind.
+fn part_of_a_kind<'v>(value: Option<&'v Value>, pointer: &str, code: Code) -> Option<&'v Value> {
+    if is_about_a_kind(code) {
+        value?.pointer(pointer)
+    } else {
+        None
+    }
+}
+
+fn push_kinds(
     alloc: Global,
-    value: &Value,
-    place: &Path,
-    code: Code,
-) -> Result<Option<String>, AllocError> {
-    match code {
-        Code::TypeMismatch | Code::ArrayTypeMismatch => kinds::found(alloc, value, place),
-        _ => Ok(None),
+    part: &Value,
+    wanted: &str,
+    text: &mut String,
+) -> Result<(), AllocError>
+    ensures { OnOk result (IsLonger (string_bytes text.old) (string_bytes text.new)) }
+{
+    text.push_str(" Found ")?;
+    kinds::push_kind(alloc, part, text)?;
+    write!(text, ", wanted {wanted}.")
+}
+
+fn push_numbers(numbers: Numbers, text: &mut String) -> Result<(), AllocError>
+    ensures { OnOk result (IsLonger (string_bytes text.old) (string_bytes text.new)) }
+{
+    let Numbers { found, wanted } = numbers;
+    match wanted {
+        Wanted::AtLeast(n) => write!(text, " Found {found}, wanted at least {n}."),
+        Wanted::AtMost(n) => write!(text, " Found {found}, wanted at most {n}."),
+        Wanted::Between(n, m) => write!(text, " Found {found}, wanted {n} to {m}."),
+        Wanted::MultipleOf(n) => write!(text, " Found {found}, wanted a multiple of {n}."),
+        Wanted::Exactly(n) => write!(text, " Found {found}, wanted {n}."),
     }
 }
 
@@ -296,8 +340,11 @@ fn count_of(
     primitive: &Primitive,
     name: &str,
 ) -> Result<Option<u64>, AllocError> {
+    let mut room = String::new(alloc);
     for (semantic, index) in &primitive.attributes {
-        if semantic.to_string(alloc)?.as_str() == name {
+        room.clear();
+        write!(room, "{semantic}")?;
+        if room.as_str() == name {
             return Ok(match root.accessors.get(index.value()) {
                 Some(accessor) => Some(accessor.count),
                 None => None,
