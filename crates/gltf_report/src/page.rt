@@ -2,14 +2,13 @@
 use crate::layout::{HEAD, TAIL};
 use crate::picture::{add_number, picture};
 use crate::tables::{PARTS, table};
-use crate::text::shown_pointer;
 use gltf::buffer::Data;
 use gltf::{Document, Error};
 use gltf_findings::code::Severity;
 use gltf_findings::report::Report;
 use gltf_html::escape::{add_data, add_text};
 use gltf_json::root::Root;
-use gltf_messages::message::message;
+use gltf_messages::told::Told;
 use serde_json::Value;
 use std::alloc::{AllocError, Global};
 
@@ -140,9 +139,11 @@ fn add_rows(
     severity: Severity,
     html: &mut Vec<u8>,
 ) -> Result<(), AllocError> {
+    let mut told = Told::new(alloc);
     for finding in report.findings() {
-        let (place, code) = finding;
+        let code = finding.1;
         if code.severity().is(severity) {
+            told.tell(alloc, root, value, finding)?;
             add(html, "\n<tr><td class=\"")?;
             add(html, severity.name())?;
             add(html, "\">")?;
@@ -150,10 +151,9 @@ fn add_rows(
             add(html, "<td>")?;
             add(html, code.name())?;
             add(html, "<td>")?;
-            add_text(html, shown_pointer(alloc, place)?.as_str().as_bytes())?;
+            add_text(html, told.shown_pointer().as_bytes())?;
             add(html, "<td>")?;
-            let says = message(alloc, root, value, place, *code)?;
-            add_text(html, says.as_str().as_bytes())?;
+            add_text(html, told.says().as_bytes())?;
         }
     }
     Ok(())

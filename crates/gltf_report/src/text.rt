@@ -4,10 +4,9 @@ use gltf::Error;
 use gltf_findings::code::Severity;
 use gltf_findings::report::Report;
 use gltf_json::root::Root;
-use gltf_json_record::path::Path;
-use gltf_messages::message::message;
+use gltf_messages::told::Told;
 use serde_json::Value;
-use std::alloc::{AllocError, Global};
+use std::alloc::Global;
 use std::io::{self, Write};
 
 /// Writes a report as text: a line with the name of the file; the number of findings of each
@@ -60,23 +59,17 @@ fn write_findings<O: Write>(
     severity: Severity,
     out: &mut O,
 ) -> io::Result<()> {
+    let mut told = Told::new(alloc);
     for finding in report.findings() {
-        let (place, code) = finding;
+        let code = finding.1;
         if code.severity().is(severity) {
+            told.tell(alloc, root, value, finding)?;
             let grave = severity.name();
             let name = code.name();
-            let pointer = shown_pointer(alloc, place)?;
-            let says = message(alloc, root, value, place, *code)?;
+            let pointer = told.shown_pointer();
+            let says = told.says();
             writeln!(out, "{grave} {name} {pointer} {says}")?;
         }
     }
     Ok(())
-}
-
-/// The JSON Pointer of a place; `-` for the whole document, whose pointer is empty.
-pub(crate) fn shown_pointer(alloc: Global, place: &Path) -> Result<String, AllocError> {
-    if place.steps().is_empty() {
-        return String::from_str(alloc, "-");
-    }
-    place.pointer(alloc)
 }
