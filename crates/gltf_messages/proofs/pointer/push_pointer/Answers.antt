@@ -8,7 +8,8 @@ pub loop-step-preserved : goal.loop-step-preserved
 loop-step-preserved c =
     let old = string_bytes c.args.text.now in
     let token = reference_token (place_of c.step-item.result) in
-    let before = pointer_text (map place_of (take c.loop-step.step-index c.steps-step-items.result.now)) in
+    let steps = c.steps-step-items.result.now in
+    let before = pointer_text (map place_of (take c.loop-step.step-index steps)) in
     c.in_ok-push_token.ensures
     ∙ ap (λ t. t ++ token)
     (c.in_ok-push_str.ensures.bytes ∙ ap (λ t. t ++ codes "/") c.loop-step.invariant)
@@ -16,6 +17,5 @@ loop-step-preserved c =
     ∙ append_assoc old (before ++ codes "/") token
     ∙ ap (λ t. old ++ t)
     (
-    pointer_text-one_more c.steps-step-items.result.now c.loop-step.step-index _
-    (search rules) c.step-item.is
+    pointer_text-one_more steps c.loop-step.step-index _ (search rules) c.step-item.is
     )
