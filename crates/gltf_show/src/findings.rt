@@ -214,5 +214,5 @@ fn json_line(
 ) -> Result<Vec<u8>, AllocError> {
     let mut text = json_text(alloc, path, report, root, value, is_pretty)?;
     text.push_str("\n")?;
-    Vec::from_slice(alloc, text.as_str().as_bytes())
+    Ok(text.into_bytes())
 }
