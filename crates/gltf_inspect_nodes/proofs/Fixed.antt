@@ -1,5 +1,5 @@
 -- Doubling the steps of a table that leads nowhere else changes nothing.
-use Rattle.std.proofs.Common.{◌≡◌, ℕ, Bool, true, List, refl, ap, ◌∙◌, if◌then◌else◌, map}
+use Rattle.std.proofs.Common.{◌≡◌, ℕ, true, List, refl, ap, ◌∙◌, if◌then◌else◌, map}
 use Rattle.gltf_inspect_nodes.specs.Roots.{led, are_fixed, twice, times_16, times_65536}
 
 twice-fixed : (t : List ℕ) → are_fixed t t ≡ true → twice t ≡ t

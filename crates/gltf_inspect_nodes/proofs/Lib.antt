@@ -2,3 +2,5 @@ pub mod Marking
 pub mod Viewed
 pub mod Looped
 pub mod Fixed
+pub mod Falling
+pub mod Passing

@@ -4,3 +4,4 @@ pub mod Graphs
 pub mod ViewTargets
 pub mod ViewMarks
 pub mod Roots
+pub mod Orders

@@ -7,6 +7,7 @@ mod entry;
 pub mod graph;
 mod marks;
 mod named;
+pub mod order;
 mod repeats;
 pub mod roots;
 pub mod view;

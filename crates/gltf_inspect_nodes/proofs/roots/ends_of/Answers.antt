@@ -1,12 +1,16 @@
-use Rattle.std.proofs.Common.{◌≡◌, ◌∙◌, ap}
-use Rattle.gltf_inspect_nodes.specs.Roots.{ends_of, times_65536}
+use Rattle.std.proofs.Common.{◌≡◌, ◌∙◌, ap, refl, subst}
+use Rattle.std.specs.Prelude.{IfOk, List}
+use Rattle.gltf_json_scene.specs.declared.scene.Node.{Node}
+use Rattle.gltf_inspect_nodes.specs.Roots.{ends_of, parents_of}
+use Rattle.gltf_inspect_nodes.specs.Orders.{ends_by}
 use Rattle.gltf_inspect_nodes.proofs.roots.ends_of.Goals as goal
 
+by_parents : (ns : List Node) → ends_by (parents_of ns) ≡ ends_of ns
+unfolding ends_by ends_of
+by_parents ns = refl
+
 pub returns : goal.returns
-unfolding ends_of
 returns c =
-    c.in_ok-times_65536-4.ensures
-    ∙ ap (λ t. times_65536 t) (c.in_ok-times_65536-3.ensures
-    ∙ ap (λ t. times_65536 t) (c.in_ok-times_65536-2.ensures
-    ∙ ap (λ t. times_65536 t) (c.in_ok-times_65536.ensures
-    ∙ ap (λ t. times_65536 t) c.in_ok-table.ensures)))
+    subst (λ t. IfOk c.ends_by.result (λ ends. ends.items ≡ t))
+    (ap (λ t. ends_by t) c.in_ok-parents.ensures ∙ by_parents c.args.nodes.now)
+    c.ends_by.ensures

@@ -1,0 +1,6 @@
+use Rattle.std.proofs.Common.{ℕ, ◌<◌, ◌≤◌, get_or}
+use Rattle.gltf_inspect_nodes.proofs.order.parents_come_last.Given as goal
+
+-- it holds of those so far
+abbrev pub invariant-loop-i : goal.invariant-loop-i
+invariant-loop-i l = (k : ℕ) → k < l.i → k ≤ get_or l.table k k
