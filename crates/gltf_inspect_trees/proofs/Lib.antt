@@ -4,3 +4,5 @@ pub mod Counted
 pub mod Climbed
 pub mod Leading
 pub mod Same
+pub mod Jumping
+pub mod Rooting

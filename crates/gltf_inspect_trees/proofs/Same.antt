@@ -12,7 +12,7 @@ use Rattle.gltf_findings.specs.Checks.{Checks, told_after, elements_checks, list
 use Rattle.gltf_inspect_nodes.specs.Roots.{led, are_fixed, parents_of}
 use Rattle.gltf_inspect_trees.specs.Climbs.{Climb, first_climb, raised, climbed, reaches}
 use Rattle.gltf_inspect_trees.specs.Skeletons.{leads, all_below, fits_at, skeleton_checks}
-use Rattle.gltf_inspect_trees.specs.Skeletons.{have_skeleton, is_below, is_below_by, node_checks}
+use Rattle.gltf_inspect_trees.specs.Skeletons.{have_skeleton, is_below, node_checks}
 use Rattle.gltf_inspect_trees.proofs.Raised.{raised-is}
 use Rattle.gltf_inspect_trees.proofs.Steps.{after}
 use Rattle.gltf_inspect_trees.proofs.Counted.{Counts, first_counts, counts_up, grown, led_past}
@@ -44,7 +44,7 @@ rooted_by t ks v false h long e =
     let far : length t ≤ v = omega arith in
     ap (λ x. led t x) (led_past ks v past) ∙ led_past t v far ∙ sym (led_past ks v past)
 
-rooted : (t ks : List ℕ) → are_fixed t ks ≡ true → length t ≡ length ks → (v : ℕ)
+pub rooted : (t ks : List ℕ) → are_fixed t ks ≡ true → length t ≡ length ks → (v : ℕ)
     → led t (led ks v) ≡ led ks v
 rooted t ks h long v = rooted_by t ks v (nat_lt v (length ks)) h long refl
 
@@ -53,7 +53,7 @@ rooted t ks h long v = rooted_by t ks v (nat_lt v (length ks)) h long refl
 abbrev pub whole : List ℕ → Climb
 whole parents = raised 64 (first_climb parents)
 
-counted_of : (parents : List ℕ) → Counts (led parents) (length parents) (whole parents).top
+pub counted_of : (parents : List ℕ) → Counts (led parents) (length parents) (whole parents).top
     (whole parents).depths 18446744073709551616
 counted_of parents = counts_up (led parents) (length parents) 64 (first_climb parents) 1
     (first_counts parents)
@@ -153,15 +153,10 @@ pub same_skeletons : (f g : ℕ → ℕ → Bool) (count : ℕ) (ss : List Skin)
 same_skeletons f g count ss same = same_from f g count 0 ss same
 
 -- what is told by the tables of these nodes
-pub told_same : (ns : List Node) (c : Climb) (b : Bool) (ss : List Skin)
-    → c ≡ raised 64 (first_climb (parents_of ns)) → b ≡ are_fixed (parents_of ns) c.top
-    → list_checks (skeleton_checks (is_below_by b c) (length ns)) ss ≡ node_checks ns ss
-told_same ns c b ss e f =
-    same_skeletons (is_below_by b c) (is_below ns) (length ns) ss (λ s k.
-    ap (λ x. not x || reaches c s k) (f ∙ ap (λ (x : Climb). are_fixed (parents_of ns) x.top) e)
-    ∙ ap (λ (x : Climb). not (are_fixed (parents_of ns) (whole (parents_of ns)).top)
-    || reaches x s k) e
-    ∙ below_same (parents_of ns) s k)
+pub told_same : (ns : List Node) (below : ℕ → ℕ → Bool) (ss : List Skin)
+    → ((s k : ℕ) → below s k ≡ is_below ns s k)
+    → list_checks (skeleton_checks below (length ns)) ss ≡ node_checks ns ss
+told_same ns below ss same = same_skeletons below (is_below ns) (length ns) ss same
 
 -- ---- skins without a skeleton
 

@@ -1,2 +1,4 @@
 pub mod Climbs
 pub mod Skeletons
+pub mod Jumps
+pub mod Trees

@@ -86,7 +86,7 @@ impl Climbs {
     }
 }
 
-fn depth(depths: &[usize], node: usize) -> usize
+pub(crate) fn depth(depths: &[usize], node: usize) -> usize
     ensures { result ≡ get_or depths.now node 0 }
 {
     if node < depths.len() { depths[node] } else { 0 }
@@ -108,6 +108,8 @@ fn own_depth(node: usize, parent: usize) -> usize
     if parent == node { 0 } else { 1 }
 }
 
+/// Not inlined, so that the loop keeps its numbers in registers.
+#[inline(never)]
 fn deeper(alloc: Global, depths: &[usize], table: &[usize]) -> Result<Vec<usize>, AllocError>
     ensures { IfOk result (λ next. next.items ≡ deeper depths.now 0 table.now) }
 {

@@ -2,4 +2,6 @@
 #![tactic(auto)]
 
 mod climb;
+mod jumps;
 pub mod skeleton;
+mod trees;
