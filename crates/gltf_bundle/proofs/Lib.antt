@@ -1,5 +1,6 @@
 pub mod Joins
 pub mod Parts
+pub mod Opened
 pub mod Taken
 pub mod Uris
 pub mod Imported

@@ -7,6 +7,7 @@ mod images;
 pub mod laws;
 mod loading;
 mod media;
+mod opening;
 mod options;
 
 pub use bundling::bundle;

@@ -1,0 +1,100 @@
+-- What a file is opened as: for the contracts of `opening`.
+use Rattle.std.proofs.Common.{◌≡◌, ℕ, List, [], Option, None, true, inl, inr, refl, sym}
+use Rattle.std.proofs.Common.{subst}
+use Rattle.std.proofs.Common.{Ok, Err, Result, Vec, Global}
+use Rattle.std.specs.Prelude.{nat_eq, MatchBool, IfOk}
+use Rattle.std.specs.List.{starts_with}
+use Rattle.serde_json.specs.Data.{Data}
+use Rattle.gltf_glb.specs.Bytes.{magic}
+use Rattle.gltf_glb.specs.Causes.{from_json}
+use Rattle.gltf_glb.specs.Container.{IsContainer}
+use Rattle.gltf_glb.specs.declared.error.Error.{Error}
+use Rattle.gltf_glb.specs.declared.error.Error.TheVariants as error
+use Rattle.gltf_json.specs.Documents.{root}
+use Rattle.gltf_json.specs.Reading.{Reads, Refuses}
+use Rattle.gltf_json.specs.declared.root.Root.{Root}
+use Rattle.gltf_json_record.specs.declared.error.Error as json
+use Rattle.gltf_json_record.specs.declared.error.Error.TheVariants.{Memory}
+use Rattle.gltf_validation.specs.Documents.{Faults}
+use Rattle.gltf.specs.Errors.{OutOfMemoryOr, TellsRules}
+use Rattle.gltf.specs.Import.{AreParts, IsDocument, IsValidDocument, RefusesContainer}
+use Rattle.gltf.specs.Import.{RefusesDocument}
+use Rattle.gltf.specs.Laws.{OneTextAndBlob}
+use Rattle.gltf.specs.Shown.{blob_bytes}
+
+-- ---- the layers
+
+or_memory : (P : Error → Type 0) (e : Error) → P e → OutOfMemoryOr P e
+or_memory P error.Memory p = tt
+or_memory P _ p = p
+
+pub container_told : (bytes : List ℕ) (e : Error) → RefusesContainer bytes e
+    → OutOfMemoryOr (RefusesDocument bytes) e
+container_told bytes e told = or_memory (RefusesDocument bytes) e (inl (inl told))
+
+pub text_told : (bytes text : List ℕ) (blob : Option (List ℕ)) (cause : json.Error)
+    → AreParts bytes text blob → Refuses text cause
+    → OutOfMemoryOr (RefusesDocument bytes) (from_json cause)
+text_told bytes text blob Memory parts told = tt
+text_told bytes text blob cause parts told = inl (inr (record {
+  text = text;
+  blob = blob;
+  parts = parts;
+  cause = cause;
+  names = refl;
+  not_memory = λ is. cc;
+  fails = told;
+}))
+
+pub rules_told : (bytes : List ℕ) (r : Root) (blob : Option (List ℕ)) (e : Error)
+    → IsDocument bytes r blob → OutOfMemoryOr (TellsRules r) e
+    → OutOfMemoryOr (RefusesDocument bytes) e
+rules_told bytes r blob error.Memory document told = tt
+rules_told bytes r blob e document told =
+    or_memory (RefusesDocument bytes) e
+    (inr (record { root = r; blob = blob; document = document; fails = told }))
+
+pub is_document : (bytes text : List ℕ) (blob : Option (List ℕ)) (r : Root)
+    → AreParts bytes text blob → ((d : Data) × Reads text d × root.is d r)
+    → IsDocument bytes r blob
+is_document bytes text blob r parts read = record {
+  text = text;
+  value = read.0;
+  parts = parts;
+  reads = read.1;
+  records = read.2;
+}
+
+pub is_valid : (bytes : List ℕ) (blob : Option (List ℕ)) (r s : Root) → IsDocument bytes r blob
+    → s ≡ r → Faults r ≡ [] → IsValidDocument bytes s blob
+is_valid bytes blob r s document same rules =
+    subst (λ (x : Root). IsValidDocument bytes x blob) (sym same)
+    (record { document = document; rules = rules })
+
+-- ---- the blob
+
+-- bytes that begin with `glTF` have the parts of the container that they are
+pub container_parts : (bytes text : List ℕ) (blob : Option (List ℕ))
+    → starts_with nat_eq bytes magic ≡ true → IsContainer bytes text blob
+    → AreParts bytes text blob
+unfolding AreParts
+container_parts bytes text blob begins container =
+    subst (λ t. MatchBool t (IsContainer bytes text blob) ((text ≡ bytes) × (blob ≡ None)))
+    (sym begins) container
+
+-- the blob that was found is that of the document
+pub with_blob : OneTextAndBlob → (bytes : List ℕ) (r : Root) (text : List ℕ)
+    (blob found : Option (List ℕ)) → IsValidDocument bytes r blob → AreParts bytes text found
+    → IsValidDocument bytes r found
+with_blob law bytes r text blob found valid parts =
+    subst (λ (b : Option (List ℕ)). IsValidDocument bytes r b)
+    (law bytes text valid.document.text found blob parts valid.document.parts).1 valid
+
+-- a blob that was found is one of the bytes, also where it was copied or moved
+pub kept : (bytes text : List ℕ) (found : Option (List ℕ))
+    (made : Result (Option (Vec ℕ Global)) Error) → AreParts bytes text found
+    → IfOk made (λ blob. blob_bytes blob ≡ found)
+    → IfOk made (λ blob. (text : List ℕ) × AreParts bytes text (blob_bytes blob))
+kept bytes text found (Ok blob) parts same =
+    (text, subst (λ (b : Option (List ℕ)). AreParts bytes text b) (sym same) parts)
+kept bytes text found (Err e) parts same = tt
