@@ -1,6 +1,7 @@
 pub mod Joins
 pub mod Parts
 pub mod Opened
+pub mod Tried
 pub mod Taken
 pub mod Uris
 pub mod Imported

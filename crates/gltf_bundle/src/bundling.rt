@@ -14,8 +14,9 @@ ghost use Rattle.serde_json.specs.View.{view};
 use crate::error::BundleError;
 use crate::loading::{Gathered, gather};
 use crate::options::BundleOptions;
+use crate::trial::tried;
+use gltf::NamedBytes;
 use gltf::buffer::Data;
-use gltf::{NamedBytes, import_slice};
 use gltf_edit::{Fault, Picture, Span, append, bundled, embedded};
 use gltf_glb::Error;
 use gltf_pack::container;
@@ -69,8 +70,8 @@ pub fn bundle<S: NamedBytes>(
     drop(buffers);
     let value = edited(alloc, value, &pictures, &joined)?;
     let answer = container_of(alloc, &value, joined.blob)?;
-    match import_slice(alloc, &answer) {
-        Ok(_) => Ok(answer),
+    match tried(alloc, &answer) {
+        Ok(()) => Ok(answer),
         Err(Error::Memory) => Err(BundleError::Import(Error::Memory)),
         Err(error) => Err(BundleError::Answer(error)),
     }

@@ -9,6 +9,7 @@ mod loading;
 mod media;
 mod opening;
 mod options;
+mod trial;
 
 pub use bundling::bundle;
 pub use error::BundleError;

@@ -2,7 +2,6 @@ use Rattle.std.proofs.Common.{ℕ, List, ◌++◌, length, subst}
 use Rattle.std.proofs.lemmas.Result.{err_from_is_err_and}
 use Rattle.serde_json.specs.View.{view}
 use Rattle.gltf_buffers.specs.Names.{names_of}
-use Rattle.gltf.specs.Shown.{bytes_of_each}
 use Rattle.gltf_edit.specs.Embedded.{embedded}
 use Rattle.gltf_edit.specs.Faults.{NamesStray, IsTooLong}
 use Rattle.gltf_edit.specs.Joined.{joined}
@@ -28,12 +27,7 @@ returns-in-Ok-clause-bundle g c =
     c.in_ok-answer.answer.items c.in_ok-answer.ensures.written
 
 pub returns-in-Ok-clause-accepted : goal.returns-in-Ok-clause-accepted
-returns-in-Ok-clause-accepted g c =
-    let read = c.in-Ok.field-0 in (
-      read.0,
-      bytes_of_each read.1.items,
-      rw c.deref-3.ensures.value at c.in-Ok.ensures.accepted,
-    )
+returns-in-Ok-clause-accepted g c = rw c.deref-3.ensures.value at c.in-Ok.ensures.accepted
 
 pub returns-in_err-joined-clause-refused : goal.returns-in_err-joined-clause-refused
 returns-in_err-joined-clause-refused g c =
