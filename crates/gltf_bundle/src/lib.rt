@@ -4,6 +4,7 @@
 mod bundling;
 mod error;
 mod images;
+mod joining;
 pub mod laws;
 mod loading;
 mod media;
