@@ -3,3 +3,6 @@
 #![tactic(auto)]
 
 pub mod deserialize;
+mod grammar;
+#[cfg(test)]
+mod tests;
