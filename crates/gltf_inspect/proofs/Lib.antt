@@ -1,3 +1,4 @@
 pub mod Marks
+pub mod Once
 pub mod Refused
 pub mod Turns

@@ -4,6 +4,7 @@ ghost use Rattle.gltf_validation.specs.Locations.{places_of};
 ghost use Rattle.gltf_validation.specs.Documents.{counts_of, root_rules};
 ghost use Rattle.gltf_validation.specs.Rules.{broken, checks_at};
 ghost use Rattle.gltf_findings.specs.Checks.{told_after, findings_of};
+ghost use Rattle.gltf_inspect_nodes.specs.Hierarchies.{IsHierarchyOf};
 ghost use Rattle.gltf_inspect.specs.Documents.{document_checks, root_checks};
 ghost use Rattle.gltf_inspect.specs.Refusals.{root_refusals};
 
@@ -17,12 +18,13 @@ use gltf_findings::laws::a_walk_adds_what_is_found;
 use gltf_findings::report::Report;
 use gltf_inspect_extensions::root::inspect_extensions;
 use gltf_inspect_meshes::meshes::inspect_meshes;
-use gltf_inspect_nodes::graph::inspect_graph;
-use gltf_inspect_nodes::roots::inspect_roots;
+use gltf_inspect_nodes::graph::inspect_graph_in;
+use gltf_inspect_nodes::hierarchy::Hierarchy;
+use gltf_inspect_nodes::roots::inspect_roots_in;
 use gltf_inspect_nodes::view::inspect_views;
 use gltf_inspect_records::records::inspect_records;
 use gltf_inspect_scenes::scenes::inspect_scenes;
-use gltf_inspect_trees::skeleton::inspect_skeletons;
+use gltf_inspect_trees::skeleton::inspect_skeletons_in;
 use gltf_json::root::Root;
 use gltf_json_record::path::Path;
 use gltf_validation::counts::Counts;
@@ -38,8 +40,10 @@ use std::alloc::{AllocError, Global};
 /// a path exactly where the condition of that code stands at that path and is false.
 ///
 /// It takes time in proportion to the document, but n log n for its nodes and for the names of its
-/// extensions; and memory for the findings, for these names, 18 bytes for each node and a byte for
-/// each object. Fails where there is no memory.
+/// extensions; and memory for the findings, for these names, a byte for each object, and 25 bytes
+/// for each node: nine for the hierarchy, which is made once and lent to all that asks for it, and
+/// 16 beside it. Skins that name their skeleton take more (see `inspect_skeletons_in`). Fails where
+/// there is no memory.
 pub fn inspect(alloc: Global, root: &Root) -> Result<Report, AllocError>
     ensures { IfOk result (λ report. report ≡ findings_of [] (root_checks root.now)) }
 {
@@ -48,13 +52,14 @@ pub fn inspect(alloc: Global, root: &Root) -> Result<Report, AllocError>
     let mut findings = Findings::new(alloc);
     inspect_rules(alloc, root, &mut findings)?;
     inspect_records(root, &Location::Whole, &mut findings)?;
-    inspect_document(alloc, root, &Location::Whole, &mut findings)?;
+    let hierarchy = Hierarchy::of(alloc, root.nodes.as_slice())?;
+    inspect_document(alloc, root, &hierarchy, &Location::Whole, &mut findings)?;
     tell_unused(alloc, root, &Location::Whole, &mut findings)?;
     inspect_meshes(root, &Location::Whole, &mut findings)?;
     inspect_scenes(alloc, root, &Location::Whole, &mut findings)?;
-    inspect_graph(alloc, root, &Location::Whole, &mut findings)?;
-    inspect_roots(alloc, root, &Location::Whole, &mut findings)?;
-    inspect_skeletons(alloc, root, &Location::Whole, &mut findings)?;
+    inspect_graph_in(alloc, root, &hierarchy, &Location::Whole, &mut findings)?;
+    inspect_roots_in(alloc, root, &hierarchy, &Location::Whole, &mut findings)?;
+    inspect_skeletons_in(alloc, root, &hierarchy, &Location::Whole, &mut findings)?;
     inspect_views(alloc, root, &Location::Whole, &mut findings)?;
     inspect_extensions(alloc, root, &Location::Whole, &mut findings)?;
     let asset = Location::Member(&Location::Whole, "asset");
@@ -81,9 +86,11 @@ fn broken_rules(alloc: Global, root: &Root) -> Result<Vec<(Path, Error)>, AllocE
 fn inspect_document(
     alloc: Global,
     root: &Root,
+    hierarchy: &Hierarchy,
     location: &Location<'_>,
     findings: &mut Findings,
 ) -> Result<(), AllocError>
+    requires { IsHierarchyOf root.now.nodes.items hierarchy.now }
     ensures { OnOk result (findings.new ≡ told_after findings.old (places_of location.now)
         (document_checks root.now)) }
 {
@@ -102,5 +109,5 @@ fn inspect_document(
         findings,
     )?;
     let nodes = Location::Member(location, "nodes");
-    tell_parents(alloc, root.nodes.as_slice(), &nodes, findings)
+    tell_parents(alloc, root.nodes.as_slice(), hierarchy, &nodes, findings)
 }

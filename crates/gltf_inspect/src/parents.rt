@@ -2,28 +2,36 @@
 ghost use Rattle.std.specs.Prelude.{◌≡◌, OnOk, length, set, true, []};
 ghost use Rattle.gltf_validation.specs.Locations.{places_of};
 ghost use Rattle.gltf_findings.specs.Checks.{told_after};
+ghost use Rattle.gltf_inspect_nodes.specs.Hierarchies.{IsHierarchyOf};
 ghost use Rattle.gltf_inspect.specs.Marks.{is_marked, marked, marked_children_checks};
 ghost use Rattle.gltf_inspect.specs.Marks.{marked_parents_checks};
 ghost use Rattle.gltf_inspect.specs.Parents.{parents_checks};
 
 use gltf_findings::code::Code;
 use gltf_findings::findings::Findings;
+use gltf_inspect_nodes::hierarchy::Hierarchy;
 use gltf_json_record::index::Index;
 use gltf_json_record::kinds;
 use gltf_json_scene::scene::Node;
 use gltf_validation::location::Location;
 use std::alloc::{AllocError, Global};
 
-/// Reports each child that an earlier child is too. Takes a byte a node.
+/// Reports each child that an earlier child is too. Where it was found that no node is a child
+/// twice, there is none, and no list is gone over. Elsewhere it takes a byte a node.
 pub(crate) fn tell_parents(
     alloc: Global,
     nodes: &[Node],
+    hierarchy: &Hierarchy,
     location: &Location<'_>,
     findings: &mut Findings,
 ) -> Result<(), AllocError>
+    requires { IsHierarchyOf nodes.now hierarchy.now }
     ensures { OnOk result (findings.new ≡ told_after findings.old (places_of location.now)
         (parents_checks (length nodes.now) [] 0 nodes.now)) }
 {
+    if hierarchy.are_named_once {
+        return Ok(());
+    }
     let mut marks = vec![in alloc; false; nodes.len()]?;
     tell_marked(&mut marks, nodes, location, findings)
 }

@@ -1,4 +1,5 @@
 pub mod Marking
+pub mod Once
 pub mod Viewed
 pub mod Looped
 pub mod Fixed

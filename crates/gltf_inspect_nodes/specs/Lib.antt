@@ -5,3 +5,4 @@ pub mod ViewTargets
 pub mod ViewMarks
 pub mod Roots
 pub mod Orders
+pub mod Hierarchies

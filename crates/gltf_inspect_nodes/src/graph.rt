@@ -1,13 +1,17 @@
 //! All that is found here of the scenes, nodes and skins of a document.
-ghost use Rattle.std.specs.Prelude.{◌≡◌, ◌*◌, OnOk, length, []};
+ghost use Rattle.std.specs.Prelude.{◌≡◌, ◌*◌, OnOk, length, [], codes};
 ghost use Rattle.gltf_validation.specs.Locations.{places_of};
 ghost use Rattle.gltf_findings.specs.Checks.{told_after, list_checks};
 ghost use Rattle.gltf_inspect_nodes.specs.Graphs.{graph_checks, repeats_checks, empty_checks};
 ghost use Rattle.gltf_inspect_nodes.specs.Graphs.{is_child_in, is_joint_in, node_count};
 ghost use Rattle.gltf_inspect_nodes.specs.Graphs.{animation_checks};
 ghost use Rattle.gltf_inspect_nodes.specs.Graphs.{scene_checks, root_checks, is_empty};
+ghost use Rattle.gltf_inspect_nodes.specs.Graphs.{uniques_checks};
+ghost use Rattle.gltf_inspect_nodes.specs.Hierarchies.{IsHierarchyOf};
 ghost use Rattle.gltf_inspect_nodes.specs.Marks.{is_marked, AreMarks};
+ghost use Rattle.gltf_inspect_nodes.specs.Named.{children_of};
 
+use crate::hierarchy::Hierarchy;
 use crate::marks::{is_marked, marks_of, no_marks};
 use crate::repeats::{tell_each, tell_targets};
 use gltf_findings::code::Code;
@@ -20,8 +24,8 @@ use gltf_validation::location::Location;
 use std::alloc::{AllocError, Global};
 
 /// Reports what is found in the graph of nodes, in order: nodes of scenes that are children, empty
-/// nodes, lists that name a node twice, and channels whose target an earlier channel has. Takes
-/// four bytes a node, and memory for a finding; fails where there is none.
+/// nodes, lists that name a node twice, and channels whose target an earlier channel has. Takes 13
+/// bytes a node, and memory for a finding; fails where there is none.
 pub fn inspect_graph(
     alloc: Global,
     root: &Root,
@@ -31,9 +35,27 @@ pub fn inspect_graph(
     ensures { OnOk result (findings.new ≡ told_after findings.old (places_of location.now)
         (graph_checks root.now)) }
 {
-    tell_non_roots(alloc, root, &Location::Member(location, "scenes"), findings)?;
+    let hierarchy = Hierarchy::of(alloc, root.nodes.as_slice())?;
+    inspect_graph_in(alloc, root, &hierarchy, location, findings)
+}
+
+/// The same by the hierarchy of the document's nodes, which may have been made before. Takes four
+/// bytes a node beside it.
+pub fn inspect_graph_in(
+    alloc: Global,
+    root: &Root,
+    hierarchy: &Hierarchy,
+    location: &Location<'_>,
+    findings: &mut Findings,
+) -> Result<(), AllocError>
+    requires { IsHierarchyOf root.now.nodes.items hierarchy.now }
+    ensures { OnOk result (findings.new ≡ told_after findings.old (places_of location.now)
+        (graph_checks root.now)) }
+{
+    let scenes = Location::Member(location, "scenes");
+    tell_non_roots(root, hierarchy, &scenes, findings)?;
     tell_all_empty(alloc, root, &Location::Member(location, "nodes"), findings)?;
-    tell_all_repeats(alloc, root, location, findings)?;
+    tell_all_repeats(alloc, root, hierarchy, location, findings)?;
     let animations = Location::Member(location, "animations");
     tell_all_targets(alloc, root, &animations, findings)
 }
@@ -41,14 +63,16 @@ pub fn inspect_graph(
 fn tell_all_repeats(
     alloc: Global,
     root: &Root,
+    hierarchy: &Hierarchy,
     location: &Location<'_>,
     findings: &mut Findings,
 ) -> Result<(), AllocError>
+    requires { IsHierarchyOf root.now.nodes.items hierarchy.now }
     ensures { OnOk result (findings.new ≡ told_after findings.old (places_of location.now)
         (repeats_checks root.now)) }
 {
     let mut marks = no_marks(alloc, root.nodes.len())?;
-    tell_lists(&mut marks, root, location, findings)
+    tell_lists(&mut marks, root, hierarchy, location, findings)
 }
 
 fn tell_all_targets(
@@ -68,17 +92,21 @@ fn tell_all_targets(
 }
 
 fn tell_non_roots(
-    alloc: Global,
     root: &Root,
+    hierarchy: &Hierarchy,
     location: &Location<'_>,
     findings: &mut Findings,
 ) -> Result<(), AllocError>
+    requires { IsHierarchyOf root.now.nodes.items hierarchy.now }
     ensures { OnOk result (findings.new ≡ told_after findings.old (places_of location.now)
         (list_checks (scene_checks (is_child_in root.now)) root.now.scenes.items)) }
 {
-    let nodes = root.nodes.as_slice();
-    let children = marks_of(alloc, nodes.len(), nodes)?;
-    tell_scenes(&children, root.scenes.as_slice(), location, findings)
+    tell_scenes(
+        &hierarchy.are_children,
+        root.scenes.as_slice(),
+        location,
+        findings,
+    )
 }
 
 fn tell_all_empty(
@@ -160,17 +188,40 @@ fn is_empty(node: &Node) -> bool
 fn tell_lists(
     marks: &mut Vec<bool>,
     root: &Root,
+    hierarchy: &Hierarchy,
     location: &Location<'_>,
     findings: &mut Findings,
 ) -> Result<(), AllocError>
-    requires { AreMarks (length root.now.nodes.items) [] marks.old.items }
+    requires marks { AreMarks (length root.now.nodes.items) [] marks.old.items }
+    requires hierarchy { IsHierarchyOf root.now.nodes.items hierarchy.now }
     ensures { OnOk result (findings.new ≡ told_after findings.old (places_of location.now)
         (repeats_checks root.now)) }
 {
     let nodes = Location::Member(location, "nodes");
-    tell_each(marks, root.nodes.as_slice(), "children", &nodes, findings)?;
+    tell_children(marks, root.nodes.as_slice(), hierarchy, &nodes, findings)?;
     let scenes = Location::Member(location, "scenes");
     tell_each(marks, root.scenes.as_slice(), "nodes", &scenes, findings)?;
     let skins = Location::Member(location, "skins");
     tell_each(marks, root.skins.as_slice(), "joints", &skins, findings)
+}
+
+/// Reports each child that a node names twice. Where it was found that no node is a child twice,
+/// there is none, and the lists are left out.
+fn tell_children(
+    marks: &mut Vec<bool>,
+    nodes: &[Node],
+    hierarchy: &Hierarchy,
+    location: &Location<'_>,
+    findings: &mut Findings,
+) -> Result<(), AllocError>
+    requires marks { AreMarks (length nodes.now) [] marks.old.items }
+    requires hierarchy { IsHierarchyOf nodes.now hierarchy.now }
+    ensures told { OnOk result (findings.new ≡ told_after findings.old (places_of location.now)
+        (uniques_checks children_of (codes "children") (length nodes.now) nodes.now)) }
+    ensures marks { OnOk result (AreMarks (length nodes.now) [] marks.new.items) }
+{
+    if hierarchy.are_named_once {
+        return Ok(());
+    }
+    tell_each(marks, nodes, "children", location, findings)
 }

@@ -5,6 +5,7 @@
 
 mod entry;
 pub mod graph;
+pub mod hierarchy;
 mod marks;
 mod named;
 pub mod order;

@@ -4,14 +4,16 @@ ghost use Rattle.std.specs.Prelude.{◌≡◌, OnOk, IfOk, map};
 ghost use Rattle.gltf_validation.specs.Locations.{places_of};
 ghost use Rattle.gltf_findings.specs.Checks.{told_after};
 ghost use Rattle.gltf_inspect_nodes.specs.Marks.{is_marked, marked, AreMarks};
-ghost use Rattle.gltf_inspect_nodes.specs.Roots.{numbers, with_parent, with_parents, parents_of};
+ghost use Rattle.gltf_inspect_nodes.specs.Roots.{parents_of};
 ghost use Rattle.gltf_inspect_nodes.specs.Roots.{led, are_fixed, twice, times_16, times_65536};
 ghost use Rattle.gltf_inspect_nodes.specs.Roots.{ends_of, loop_checks, lead_to, first_end};
 ghost use Rattle.gltf_inspect_nodes.specs.Roots.{lead_together, skins_checks, roots_checks};
 ghost use Rattle.gltf_inspect_nodes.specs.Roots.{is_end_in, is_child_of};
 ghost use Rattle.gltf_inspect_nodes.specs.Orders.{ends_by};
+ghost use Rattle.gltf_inspect_nodes.specs.Hierarchies.{IsHierarchyOf};
 
-use crate::marks::{is_marked, mark, marks_of, no_marks};
+use crate::hierarchy::Hierarchy;
+use crate::marks::{is_marked, mark, no_marks};
 use crate::order::{end_backwards, end_forwards, parents_come_first, parents_come_last};
 use gltf_findings::code::Code;
 use gltf_findings::findings::Findings;
@@ -25,7 +27,7 @@ use std::alloc::{AllocError, Global};
 
 /// Reports each node that stands on a loop, and each skin whose joints have no common root. Takes
 /// time n for so many nodes where each parent stands before its children, or each behind them, and
-/// n log n elsewhere; 18 bytes a node, and memory for a finding; fails where there is none.
+/// n log n elsewhere; 25 bytes a node, and memory for a finding; fails where there is none.
 pub fn inspect_roots(
     alloc: Global,
     root: &Root,
@@ -35,10 +37,27 @@ pub fn inspect_roots(
     ensures { OnOk result (findings.new ≡ told_after findings.old (places_of location.now)
         (roots_checks root.now)) }
 {
+    let hierarchy = Hierarchy::of(alloc, root.nodes.as_slice())?;
+    inspect_roots_in(alloc, root, &hierarchy, location, findings)
+}
+
+/// The same by the hierarchy of the document's nodes, which may have been made before. Takes 16
+/// bytes a node beside it.
+pub fn inspect_roots_in(
+    alloc: Global,
+    root: &Root,
+    hierarchy: &Hierarchy,
+    location: &Location<'_>,
+    findings: &mut Findings,
+) -> Result<(), AllocError>
+    requires { IsHierarchyOf root.now.nodes.items hierarchy.now }
+    ensures { OnOk result (findings.new ≡ told_after findings.old (places_of location.now)
+        (roots_checks root.now)) }
+{
     let nodes = root.nodes.as_slice();
-    let ends = ends_of(alloc, nodes)?;
+    let ends = ends_in(alloc, nodes, hierarchy)?;
     let at = Location::Member(location, "nodes");
-    tell_loops(alloc, &ends, nodes, &at, findings)?;
+    tell_loops(alloc, &ends, hierarchy, nodes, &at, findings)?;
     let at = Location::Member(location, "skins");
     tell_skins(&ends, root.skins.as_slice(), &at, findings)
 }
@@ -46,16 +65,23 @@ pub fn inspect_roots(
 fn tell_loops(
     alloc: Global,
     ends: &[usize],
+    hierarchy: &Hierarchy,
     nodes: &[Node],
     location: &Location<'_>,
     findings: &mut Findings,
 ) -> Result<(), AllocError>
+    requires { IsHierarchyOf nodes.now hierarchy.now }
     ensures { OnOk result (findings.new ≡ told_after findings.old (places_of location.now)
         (loop_checks (is_end_in nodes.now ends.now) (is_child_of nodes.now) 0 nodes.now)) }
 {
     let are_ends = marks_at(alloc, nodes.len(), ends)?;
-    let are_children = marks_of(alloc, nodes.len(), nodes)?;
-    tell_marked(&are_ends, &are_children, nodes, location, findings)
+    tell_marked(
+        &are_ends,
+        &hierarchy.are_children,
+        nodes,
+        location,
+        findings,
+    )
 }
 
 /// The marks of these numbers, of so many.
@@ -153,10 +179,12 @@ pub fn led(table: &[usize], node: usize) -> usize
     }
 }
 
-fn ends_of(alloc: Global, nodes: &[Node]) -> Result<Vec<usize>, AllocError>
+/// Where each of these nodes leads to, by their hierarchy.
+fn ends_in(alloc: Global, nodes: &[Node], hierarchy: &Hierarchy) -> Result<Vec<usize>, AllocError>
+    requires { IsHierarchyOf nodes.now hierarchy.now }
     ensures { IfOk result (λ ends. ends.items ≡ ends_of nodes.now) }
 {
-    let parents = parents_of(alloc, nodes)?;
+    let parents = Vec::from_slice(alloc, &hierarchy.parents)?;
     ends_by(alloc, parents)
 }
 
@@ -251,36 +279,6 @@ pub fn mapped(alloc: Global, table: &[usize]) -> Result<Vec<usize>, AllocError>
 pub fn parents_of(alloc: Global, nodes: &[Node]) -> Result<Vec<usize>, AllocError>
     ensures { IfOk result (λ parents. parents.items ≡ parents_of nodes.now) }
 {
-    let mut parents = numbers(alloc, nodes)?;
-    set_parents(&mut parents, nodes);
-    Ok(parents)
-}
-
-fn numbers(alloc: Global, nodes: &[Node]) -> Result<Vec<usize>, AllocError>
-    ensures { IfOk result (λ found. found.items ≡ numbers 0 nodes.now) }
-{
-    let mut found = Vec::with_capacity(alloc, nodes.len())?;
-    for (i, _node) in nodes.iter().enumerate() {
-        found.push(i)?;
-    }
-    Ok(found)
-}
-
-fn set_parents(parents: &mut Vec<usize>, nodes: &[Node])
-    ensures { parents.new.items ≡ with_parents parents.old.items 0 nodes.now }
-{
-    for (i, node) in nodes.iter().enumerate() {
-        set_parent(parents, i, node.children.as_slice());
-    }
-}
-
-fn set_parent(parents: &mut Vec<usize>, parent: usize, children: &[Index<kinds::Node>])
-    ensures { parents.new.items ≡ with_parent parents.old.items parent children.now }
-{
-    for child in children {
-        let child = child.value();
-        if child < parents.len() {
-            parents[child] = parent;
-        }
-    }
+    let hierarchy = Hierarchy::of(alloc, nodes)?;
+    Ok(hierarchy.parents)
 }

@@ -2,6 +2,8 @@
 ghost use Rattle.std.specs.Prelude.{◌≡◌, OnOk};
 ghost use Rattle.gltf_validation.specs.Locations.{places_of};
 ghost use Rattle.gltf_findings.specs.Checks.{told_after, list_checks};
+ghost use Rattle.gltf_inspect_nodes.specs.Hierarchies.{IsHierarchyOf};
+ghost use Rattle.gltf_inspect_nodes.specs.Roots.{parents_of};
 ghost use Rattle.gltf_inspect_trees.specs.Skeletons.{skeletons_checks, skeleton_checks, all_below};
 ghost use Rattle.gltf_inspect_trees.specs.Skeletons.{fits_at, node_checks, have_skeleton};
 ghost use Rattle.gltf_inspect_trees.specs.Trees.{is_below_in};
@@ -9,6 +11,7 @@ ghost use Rattle.gltf_inspect_trees.specs.Trees.{is_below_in};
 use crate::trees::Trees;
 use gltf_findings::code::Code;
 use gltf_findings::findings::Findings;
+use gltf_inspect_nodes::hierarchy::Hierarchy;
 use gltf_inspect_nodes::roots::parents_of;
 use gltf_json::root::Root;
 use gltf_json_record::index::Index;
@@ -33,8 +36,33 @@ pub fn inspect_skeletons(
 {
     let skins = root.skins.as_slice();
     if have_skeleton(skins) {
+        let nodes = root.nodes.as_slice();
+        let parents = parents_of(alloc, nodes)?;
         let at = Location::Member(location, "skins");
-        tell_skeletons(alloc, root.nodes.as_slice(), skins, &at, findings)
+        tell_skeletons(alloc, nodes, parents, skins, &at, findings)
+    } else {
+        Ok(())
+    }
+}
+
+/// The same by the hierarchy of the document's nodes, which may have been made before. Takes as
+/// much beside it: its table of parents is copied where a skin has a skeleton.
+pub fn inspect_skeletons_in(
+    alloc: Global,
+    root: &Root,
+    hierarchy: &Hierarchy,
+    location: &Location<'_>,
+    findings: &mut Findings,
+) -> Result<(), AllocError>
+    requires { IsHierarchyOf root.now.nodes.items hierarchy.now }
+    ensures { OnOk result (findings.new ≡ told_after findings.old (places_of location.now)
+        (skeletons_checks root.now)) }
+{
+    let skins = root.skins.as_slice();
+    if have_skeleton(skins) {
+        let parents = Vec::from_slice(alloc, &hierarchy.parents)?;
+        let at = Location::Member(location, "skins");
+        tell_skeletons(alloc, root.nodes.as_slice(), parents, skins, &at, findings)
     } else {
         Ok(())
     }
@@ -55,14 +83,15 @@ fn have_skeleton(skins: &[Skin]) -> bool
 fn tell_skeletons(
     alloc: Global,
     nodes: &[Node],
+    parents: Vec<usize>,
     skins: &[Skin],
     location: &Location<'_>,
     findings: &mut Findings,
 ) -> Result<(), AllocError>
+    requires { parents.items ≡ parents_of nodes.now }
     ensures { OnOk result (findings.new ≡ told_after findings.old (places_of location.now)
         (node_checks nodes.now skins.now)) }
 {
-    let parents = parents_of(alloc, nodes)?;
     let trees = Trees::new(alloc, parents)?;
     tell_each(&trees, nodes.len(), skins, location, findings)
 }

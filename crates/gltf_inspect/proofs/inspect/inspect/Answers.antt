@@ -25,8 +25,8 @@ returns c =
     _ _ _ _ _ _ _ _ _ _ _ _ _
     c.in_ok-inspect_rules.ensures c.in_ok-inspect_records.ensures
     c.in_ok-inspect_document.ensures c.in_ok-tell_unused.ensures c.in_ok-inspect_meshes.ensures
-    c.in_ok-inspect_scenes.ensures c.in_ok-inspect_graph.ensures c.in_ok-inspect_roots.ensures
-    c.in_ok-inspect_skeletons.ensures c.in_ok-inspect_views.ensures
+    c.in_ok-inspect_scenes.ensures c.in_ok-inspect_graph_in.ensures c.in_ok-inspect_roots_in.ensures
+    c.in_ok-inspect_skeletons_in.ensures c.in_ok-inspect_views.ensures
     c.in_ok-inspect_extensions.ensures c.in_ok-tell_asset.ensures
     ∙ ap (λ told. told_after told [] (root_checks r)) c.new-findings.ensures
     ∙ c.a_walk_adds_what_is_found.ensures [] [] (root_checks r)

@@ -1,6 +1,14 @@
-use Rattle.std.proofs.Common.{◌≡◌, [], replicate, length, false}
+use Rattle.std.proofs.Common.{◌≡◌, [], replicate, length, false, sym}
+use Rattle.gltf_validation.specs.Locations.{places_of}
 use Rattle.gltf_inspect.proofs.Marks.{none-marked, same_parents}
+use Rattle.gltf_inspect.proofs.Once.{nothing_told}
 use Rattle.gltf_inspect.proofs.parents.tell_parents.Goals as goal
+
+pub returns-then-hierarchy : goal.returns-then-hierarchy
+returns-then-hierarchy c =
+    let ns = c.args.nodes.now in
+    sym (nothing_told (length ns) ns c.args.findings.now (places_of c.args.location.now)
+    (c.requires.once c.if-hierarchy.true))
 
 pub returns : goal.returns
 returns c =

@@ -7,10 +7,10 @@ pub returns : goal.returns
 returns c =
     let ns = c.args.nodes.now in
     let ends = c.in_ok-are_ends.are_ends.items in
-    let children = c.in_ok-are_children.are_children.items in
+    let children = c.args.hierarchy.now.are_children.items in
     rw (
       ← same_loops (is_marked ends) (is_end_in ns c.args.ends.now) (is_marked children)
-          (is_child_of ns) 0 ns c.in_ok-are_ends.ensures.each c.in_ok-are_children.ensures.each,
+          (is_child_of ns) 0 ns c.in_ok-are_ends.ensures.each c.requires.children.each,
       ← c.deref.ensures.value,
       ← c.deref-2.ensures.value,
     )

@@ -13,5 +13,5 @@ returns c =
     (told_same c.args.nodes.now (is_below_in c.in_ok-trees.trees) c.args.skins.now
     (λ s k.
     c.in_ok-trees.ensures s k
-    ∙ ap (λ ps. is_below_from ps s k) c.in_ok-parents.ensures))
+    ∙ ap (λ ps. is_below_from ps s k) c.requires))
     c.tell_each.ensures

@@ -1,6 +1,6 @@
 use Rattle.std.proofs.Common.{◌≡◌, drop, ◌++◌}
 use Rattle.gltf_inspect_nodes.specs.Roots.{numbers}
-use Rattle.gltf_inspect_nodes.proofs.roots.numbers.Given as goal
+use Rattle.gltf_inspect_nodes.proofs.hierarchy.numbers.Given as goal
 
 -- what is written and what is left to write is the whole
 abbrev pub invariant-loop-i : goal.invariant-loop-i
