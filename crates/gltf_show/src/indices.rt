@@ -4,19 +4,27 @@ use crate::refusal::Refusal;
 use gltf::buffer::{Data, bytes_of};
 use gltf::mesh::Reader;
 use gltf::mesh::util::ReadIndices;
-use gltf::mesh::util::indices::{CastingIter, U32};
 use gltf::{Buffer, Document};
-use std::io::{self, Write};
+use gltf_print::print;
+use std::alloc::Global;
+use std::fmt;
+use std::io::Write;
 
 /// Writes the indices of the primitive at a place, a line for each.
 pub(crate) fn write_indices<O: Write>(
+    alloc: Global,
     document: &Document,
     buffers: &[Data],
     place: Place,
     out: &mut O,
 ) -> Result<(), Refusal> {
-    let indices = indices_at(document, buffers, place)?;
-    write_lines(indices.into_u32(), out).map_err(Refusal::Write)
+    let _indices = indices_at(document, buffers, place)?;
+    let lines = Lines {
+        document,
+        buffers,
+        place,
+    };
+    print(alloc, out, &lines).map_err(Refusal::Write)
 }
 
 /// The indices of the primitive at a place, over the bytes of its document's buffers.
@@ -36,12 +44,25 @@ fn indices_at<'s>(
         .ok_or(Refusal::NoIndices)
 }
 
-/// Writes a line for each index.
-fn write_lines<O: Write>(mut indices: CastingIter<'_, U32>, out: &mut O) -> io::Result<()> {
-    for _ in 0..indices.len() {
-        if let Some(index) = indices.next() {
-            writeln!(out, "{index}")?;
+/// The indices of a primitive, a line for each.
+#[derive(Clone, Copy)]
+struct Lines<'a> {
+    document: &'a Document,
+    buffers: &'a [Data],
+    place: Place,
+}
+
+impl fmt::Display for Lines<'_> {
+    fn fmt<W: fmt::Write>(&self, f: &mut fmt::Formatter<W>) -> fmt::Result {
+        let Ok(indices) = indices_at(self.document, self.buffers, self.place) else {
+            return Err(fmt::Error);
+        };
+        let mut indices = indices.into_u32();
+        for _ in 0..indices.len() {
+            if let Some(index) = indices.next() {
+                writeln!(f, "{index}")?;
+            }
         }
+        Ok(())
     }
-    Ok(())
 }
