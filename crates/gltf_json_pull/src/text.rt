@@ -3,11 +3,9 @@ ghost use Rattle.std.specs.Prelude.{IfOk, IfSome};
 ghost use Rattle.gltf_json_pull.specs.Pulls.{IsOfText};
 
 use crate::pull::FromToken;
+use gltf_json_tokens::MAX_DEPTH;
 use json::{Reader, Scratch};
 use std::alloc::Global;
-
-// As deep as `serde_json` reads.
-const MAX_DEPTH: usize = 127;
 
 /// Where a reading in one pass gave up.
 #[derive(Clone, Copy, Debug, PartialEq, Eq)]

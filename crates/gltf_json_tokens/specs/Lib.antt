@@ -1,3 +1,4 @@
 pub mod Tokens
 pub mod Runs
 pub mod RunLaws
+pub mod Passed

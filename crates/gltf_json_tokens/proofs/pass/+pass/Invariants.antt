@@ -1,7 +1,7 @@
 use Rattle.std.proofs.Common.{ℕ, ◌+◌, ◌-◌, ◌*◌, List, length}
 use Rattle.serde_json.specs.Data.{Data}
 use Rattle.gltf_json_tokens.specs.Runs.{Items, Named}
-use Rattle.gltf_json_deserialize.proofs.grammar.+pass.Given as goal
+use Rattle.gltf_json_tokens.proofs.pass.+pass.Given as goal
 
 -- an array at depth n calls for values at depth n - 1
 abbrev pub decreases-pass : goal.decreases-pass

@@ -16,7 +16,7 @@ use Rattle.gltf_json_tokens.specs.RunLaws.{alone, data_at-alone, data_at-no_toke
 use Rattle.gltf_json_tokens.specs.RunLaws.{Items-push, array_closed, array_broken, array_too_deep}
 use Rattle.gltf_json_tokens.specs.RunLaws.{Named-push, object_closed}
 use Rattle.gltf_json_tokens.specs.RunLaws.{object_unnamed, object_unvalued, object_too_deep}
-use Rattle.gltf_json_deserialize.proofs.grammar.+pass.Goals as goal
+use Rattle.gltf_json_tokens.proofs.pass.+pass.Goals as goal
 
 -- a value of one token
 one : (n : ℕ) (first : Token) (t : spec.Token) (ts : List spec.Token) (d : Data)
@@ -40,7 +40,10 @@ pass-returns-in-Null t c =
     let ts = c.args.rest.now in
     ⊎_elim (λ e. (null, one n first spec.null ts null (ap token_of e) refl refl))
     (⊎_elim
-    (λ e. (boolean e.0, one n first (spec.boolean e.0) ts (boolean e.0) (ap token_of e.1) refl refl))
+    (λ e. (
+      boolean e.0,
+      one n first (spec.boolean e.0) ts (boolean e.0) (ap token_of e.1) refl refl,
+    ))
     (λ e. (
       string e.0.now,
       one n first (spec.string e.0.now) ts (string e.0.now) (ap token_of e.1)
