@@ -1,4 +1,5 @@
--- Why a file was not bundled: for the clauses `refused` of `load`, `gather`, `places_of` and `bundle`.
+-- Why a file was not bundled: for the clauses `refused` of `load`, `gather`, `places_of` and
+-- `bundle`.
 use Rattle.std.proofs.Common.{◌≡◌, ℕ, zero, suc, ◌+◌, ◌-◌, ◌%◌, ◌≤◌, ◌<◌, List, []}
 use Rattle.std.proofs.Common.{◌∷◌, ◌++◌}
 use Rattle.std.proofs.Common.{length, take, get_or, Option, subst, sym, ap, ◌∙◌, arith}

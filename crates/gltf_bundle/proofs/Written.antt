@@ -38,13 +38,6 @@ whole_length json bytes whole =
 
 -- ---- fillings
 
-spaces : (p : ℕ) → p < 4 → take {A = ℕ} p (32 ∷ 32 ∷ 32 ∷ []) ≡ replicate p 32
-spaces zero h = refl
-spaces (suc zero) h = refl
-spaces (suc (suc zero)) h = refl
-spaces (suc (suc (suc zero))) h = refl
-spaces (suc (suc (suc (suc p)))) h = absurd (omega arith)
-
 pub zeros : (p : ℕ) → p < 8 → take {A = ℕ} p (0 ∷ 0 ∷ 0 ∷ 0 ∷ 0 ∷ 0 ∷ 0 ∷ []) ≡ replicate p 0
 zeros zero h = refl
 zeros (suc zero) h = refl
@@ -55,21 +48,6 @@ zeros (suc (suc (suc (suc (suc zero))))) h = refl
 zeros (suc (suc (suc (suc (suc (suc zero)))))) h = refl
 zeros (suc (suc (suc (suc (suc (suc (suc zero))))))) h = refl
 zeros (suc (suc (suc (suc (suc (suc (suc (suc p)))))))) h = absurd (omega arith)
-
--- the chunk of a text that was written piece by piece
-pub text_pieces : (old json front filling : List ℕ) (p : ℕ) → p ≡ (4 - length json % 4) % 4
-    → front ≡ word (length json + p) → filling ≡ take {A = ℕ} p (32 ∷ 32 ∷ 32 ∷ [])
-    → (((old ++ front) ++ json_tag) ++ json) ++ filling ≡ old ++ json_chunk json
-text_pieces old json front filling p is_p is_front is_filling =
-    let few : p < 4 = omega arith in
-    let all : filling ≡ replicate ((4 - length json % 4) % 4) 32 =
-    is_filling ∙ spaces p few ∙ ap (λ (n : ℕ). replicate n 32) is_p in
-    let number : length json + p ≡ length (padded 32 json) =
-    omega (arith, length_padded 32 json) in
-    ap (λ (t : List ℕ). (((old ++ front) ++ json_tag) ++ json) ++ t) all
-    ∙ ap (λ (t : List ℕ). (((old ++ t) ++ json_tag) ++ json)
-    ++ replicate ((4 - length json % 4) % 4) 32) (is_front ∙ ap word number)
-    ∙ simp append_assoc
 
 pub filled_pieces : (old bytes filling : List ℕ) (p : ℕ) → p ≡ (8 - length bytes % 8) % 8
     → filling ≡ take {A = ℕ} p (0 ∷ 0 ∷ 0 ∷ 0 ∷ 0 ∷ 0 ∷ 0 ∷ [])

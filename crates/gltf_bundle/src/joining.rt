@@ -5,19 +5,18 @@ ghost use Rattle.std.specs.Prelude.{IfOk, IfErr, OnOk, SomeIff};
 ghost use Rattle.gltf_bundle.specs.Bundle.{ArePlaces, blob_of};
 ghost use Rattle.gltf_edit.specs.Faults.{IsTooLong};
 ghost use Rattle.gltf_edit.specs.Joined.{filled, joined};
-ghost use Rattle.gltf_glb.specs.Bytes.{bin_tag, magic, padded, word};
+ghost use Rattle.gltf_glb.specs.Bytes.{bin_tag, padded, word};
 ghost use Rattle.gltf_glb.specs.Glb.{IsWritten, RefusesToWrite};
 ghost use Rattle.gltf_glb.specs.Written.{json_chunk, total_of};
 ghost use Rattle.gltf.specs.Shown.{bytes_of_each};
 
-use byteorder::{ByteOrder, LittleEndian};
 use gltf::buffer::Data;
 use gltf_edit::{Fault, Span};
+use gltf_glb::binary::writing::{padding_of, put_chunk, put_header, too_long, word_of};
 use gltf_glb::{Error, Result};
 use gltf_pack::container;
 use std::alloc::{AllocError, Global};
 use std::borrow::CowSlice;
-use std::io;
 
 /// Where the bytes of all buffers stand in one, and how many these are.
 #[derive(Drop)]
@@ -101,58 +100,16 @@ fn length_of(json: &[u8], blob: u32) -> Option<u32>
         → SomeIff result (total_of json.now (Some bytes) < 2 ^ 32)
         (total_of json.now (Some bytes)) }
 {
-    let length = 28 + json.len() as u128 + padding_of(json.len()) as u128 + blob as u128;
+    let length = 28 + json.len() as u128 + padding_of(json) as u128 + blob as u128;
     u32::try_from(length).ok()
 }
 
-/// How many bytes fill so many up to a multiple of four.
-fn padding_of(length: usize) -> usize
-    ensures { result ≡ (4 - length % 4) % 4 }
-{
-    (4 - length % 4) % 4
-}
-
-/// A container would be longer than its header can say: the error of [`gltf_glb::Glb::to_vec`].
-fn too_long() -> io::Error {
-    io::Error::new(
-        io::ErrorKind::InvalidInput,
-        "a GLB container has at most 4294967295 bytes",
-    )
-}
-
-/// The four bytes of a number.
-#[tactic(auto, unfolding(gltf_glb::specs::Bytes::word))]
-fn word_of(number: u32) -> [u8; 4]
-    ensures { result ≡ word number }
-{
-    let mut bytes = [0; 4];
-    LittleEndian::write_u32(&mut bytes, number);
-    bytes
-}
-
-/// Adds the header of a container that has so many bytes.
-fn put_header(out: &mut Vec<u8>, whole: u32) -> Result<(), AllocError>
-    ensures { OnOk result (out.new.items ≡ out.old.items ++ (magic ++ (word 2 ++ word whole))) }
-{
-    out.extend_from_slice(b"glTF")?;
-    out.extend_from_slice(&word_of(2))?;
-    out.extend_from_slice(&word_of(whole))?;
-    Ok(())
-}
-
 /// Adds the chunk of a JSON text.
-#[tactic(auto, using(gltf_glb::specs::FillingLaws::length_padded))]
 fn put_text(out: &mut Vec<u8>, json: &[u8]) -> Result<(), AllocError>
     requires { length (padded 32 json.now) < 2 ^ 32 }
     ensures { OnOk result (out.new.items ≡ out.old.items ++ json_chunk json.now) }
 {
-    let padding = padding_of(json.len());
-    let length = word_of((json.len() + padding) as u32);
-    out.extend_from_slice(&length)?;
-    out.extend_from_slice(b"JSON")?;
-    out.extend_from_slice(json)?;
-    out.extend_from_slice(&b"   "[..padding])?;
-    Ok(())
+    put_chunk(out, *b"JSON", json, b' ')
 }
 
 /// Adds the header of a BIN chunk of so many bytes.
