@@ -1,9 +1,14 @@
-//! What programs print: texts of many pieces, each in one write.
+//! What programs print: texts of many pieces, each in one write, and lines, many in one write.
 #![tactic(auto)]
 
 ghost use Rattle.std.specs.Prelude.{OnOk, IfSome};
 ghost use Rattle.std.specs.Io.KnownBytes.{Appends};
 
+mod lines;
+#[cfg(test)]
+mod tests;
+
+pub use lines::print_lines;
 use std::alloc::Global;
 use std::fmt::Display;
 use std::io::{self, Write};
