@@ -51,8 +51,8 @@ fn adds_nothing<T: Component>(found: &Summary, item: &[u8]) -> bool
     found.exist && all_settled::<T>(&found.columns, item)
 }
 
-/// Adds what is found in a further item. This is seldom called, and stands apart so that a loop
-/// over items stays small.
+/// Adds what is found in a further item. It stands apart so that a loop over items stays small: of
+/// most accessors few items add something, of ascending times each does.
 #[inline(never)]
 fn add<T: Component>(found: &mut Summary, item: &[u8])
     ensures { found.new

@@ -12,7 +12,8 @@ invariant-loop-i l =
     let left = map float_of (map (λ (k : ℕ). take 4 (drop (l.start + k * l.stride) l.bytes))
     (range_with_len l.i (l.count - l.i))) in
     let all = map float_of (row_items 4 l.bytes l.start l.stride l.count) in
+    let falls_short = falls is_not_later in
     record {
       negative : (l.found.negative || list_any is_negative left) ≡ list_any is_negative all;
-      not_later : (l.found.not_later || falls is_not_later l.last left) ≡ falls is_not_later None all;
+      not_later : (l.found.not_later || falls_short l.last left) ≡ falls_short None all;
     }
