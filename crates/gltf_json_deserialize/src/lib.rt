@@ -3,6 +3,8 @@
 #![tactic(auto)]
 
 pub mod deserialize;
+#[cfg(test)]
+mod fault_tests;
 mod grammar;
 #[cfg(test)]
 mod tests;

@@ -66,7 +66,7 @@ fn said(alloc: Global, read: &Result<Root, Error>) -> Result<String, AllocError>
 }
 
 /// Whether both ways say the same of a text.
-fn is_same(alloc: Global, bytes: &[u8]) -> Result<bool, AllocError> {
+pub(crate) fn is_same(alloc: Global, bytes: &[u8]) -> Result<bool, AllocError> {
     let one = said(alloc, &from_slice(alloc, bytes))?;
     let other = said(alloc, &of_tree(alloc, bytes))?;
     Ok(one == other)
