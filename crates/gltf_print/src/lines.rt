@@ -2,11 +2,18 @@
 ghost use Rattle.std.specs.Iterator.{IsFinite};
 
 use std::alloc::Global;
-use std::io::{self, BufWriter, Write};
+use std::io::{self, Write};
 
-/// Writes a line for each number. Lines are gathered in a room of 8 kB, which is written each time
-/// that it is full and at the end; where there is no memory for it, each piece of a line is a write
-/// of its own. The error is that of the first write that failed, after which nothing is written.
+/// How many bytes are gathered at most.
+const ROOM: usize = 8192;
+
+/// How long a line is at most: ten digits and a line feed.
+const LINE: usize = 11;
+
+/// Writes a line for each number. Lines are gathered in a room of 8 kB, which is written when no
+/// other line may fit, and at the end; where there is no memory for it, each piece of a line is a
+/// write of its own. The error is that of the first write that failed, after which nothing is
+/// written.
 pub fn print_lines<I: Iterator<Item = u32>, W: Write>(
     alloc: Global,
     out: &mut W,
@@ -15,19 +22,21 @@ pub fn print_lines<I: Iterator<Item = u32>, W: Write>(
     requires can_next { I.can_next numbers }
     requires finite { IsFinite (I.remaining numbers) }
 {
-    let Ok(mut room) = BufWriter::new(alloc, &mut *out) else {
+    let Ok(mut room) = String::with_capacity(alloc, ROOM) else {
         return write_each(out, numbers);
     };
-    write_each(&mut room, numbers)?;
-    room.into_inner()?;
-    Ok(())
+    for number in numbers {
+        if room.len() > ROOM - LINE {
+            out.write_all(room.as_bytes())?;
+            room.clear();
+        }
+        writeln!(room, "{number}")?;
+    }
+    out.write_all(room.as_bytes())
 }
 
 // The same, with no room.
-pub(crate) fn write_each<I: Iterator<Item = u32>, W: Write>(
-    out: &mut W,
-    numbers: I,
-) -> io::Result<()>
+fn write_each<I: Iterator<Item = u32>, W: Write>(out: &mut W, numbers: I) -> io::Result<()>
     requires can_next { I.can_next numbers }
     requires finite { IsFinite (I.remaining numbers) }
 {
