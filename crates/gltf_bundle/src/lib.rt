@@ -4,13 +4,10 @@
 mod bundling;
 mod error;
 mod images;
-mod joining;
 pub mod laws;
 mod loading;
 mod media;
-mod opening;
 mod options;
-mod trial;
 
 pub use bundling::bundle;
 pub use error::BundleError;

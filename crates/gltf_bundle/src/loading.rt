@@ -1,17 +1,20 @@
 //! The value of a file's JSON, and the bytes of its buffers.
 ghost use Rattle.std.specs.Prelude.{◌≡◌, IfOk, IfErr, OnOk};
-ghost use Rattle.gltf_bundle.specs.Bundle.{IsLoaded, AreGathered};
+ghost use Rattle.gltf_bundle.specs.Bundle.{IsLoaded, IsValueOf, AreGathered};
 ghost use Rattle.gltf_bundle.specs.Refusals.{RefusesSource, RefusesFile};
+ghost use Rattle.gltf_bundle.specs.declared.error.BundleError.TheVariants.{Import};
+ghost use Rattle.gltf_glb.specs.declared.error.Error.TheVariants.{Memory};
 ghost use Rattle.gltf_buffers.specs.Names.{names_of};
+ghost use Rattle.serde_json.specs.View.{view};
 
 use crate::error::BundleError;
 use crate::images::pictures_of;
-use crate::opening::{Opened, opened_file};
 use gltf::buffer::Data;
 use gltf::laws::one_text_and_blob;
-use gltf::{Name, NamedBytes, import_buffers_from};
+use gltf::{Gltf, Name, NamedBytes, import_buffers_from, text_and_blob};
 use gltf_buffers::Ask;
 use gltf_edit::Picture;
+use gltf_glb::Error;
 use serde_json::Value;
 use std::alloc::Global;
 
@@ -39,15 +42,13 @@ pub fn load<S: NamedBytes>(alloc: Global, source: &mut S, path: &str) -> Result<
         Ok(bytes) => bytes,
         Err(error) => return Err(BundleError::Import(error)),
     };
-    let file = match opened_file(alloc, bytes) {
+    let file = match Gltf::from_slice(alloc, &bytes) {
         Ok(file) => file,
         Err(error) => return Err(BundleError::Import(error)),
     };
-    let Opened {
-        document,
-        value,
-        blob,
-    } = file;
+    let Gltf { document, blob } = file;
+    let value = value_of(alloc, &bytes)?;
+    drop(bytes);
     let buffers = match import_buffers_from(alloc, &document, Some(source), blob) {
         Ok(buffers) => buffers,
         Err(error) => return Err(BundleError::Import(error)),
@@ -87,4 +88,19 @@ pub(crate) fn gather<S: NamedBytes>(
         pictures,
         buffers,
     })
+}
+
+/// The value of the JSON text of a file.
+fn value_of(alloc: Global, bytes: &[u8]) -> Result<Value, BundleError>
+    ensures value { IfOk result (λ v. IsValueOf bytes.now (view v)) }
+    ensures memory { IfErr result (λ e. e ≡ Import Memory) }
+{
+    // The file was accepted, so it has a text, which is that of a value.
+    let Ok((text, _)) = text_and_blob(bytes) else {
+        return Err(BundleError::Import(Error::Memory));
+    };
+    match Value::from_slice(alloc, text.as_slice()) {
+        Ok(value) => Ok(value),
+        Err(_) => Err(BundleError::Import(Error::Memory)),
+    }
 }

@@ -4,7 +4,6 @@ use crate::words::{Conversion, Form, request};
 use gltf::{NamedBytes, base_of};
 use gltf_bundle::{BundleOptions, bundle};
 use gltf_detach::Part;
-use gltf_print::print;
 use gltf_put::{put, put_all};
 use gltf_split::{Pieces, SplitOptions, split};
 use std::alloc::{AllocError, Global};
@@ -33,24 +32,17 @@ pub fn run<S: NamedBytes, O: Write, E: Write>(
         Ok(()) => 0,
         Err(refusal) => {
             // Where this write fails too, the status alone says so.
-            let _ = report(rt.alloc(), &refusal, source.last_failed(), err);
+            let _ = report(&refusal, source.last_failed(), err);
             refusal.status()
         }
     }
 }
 
 /// Writes why nothing was converted; where a file was not read, after the name of that file.
-fn report<E: Write>(
-    alloc: Global,
-    refusal: &Refusal,
-    failed: Option<&str>,
-    err: &mut E,
-) -> io::Result<()> {
+fn report<E: Write>(refusal: &Refusal, failed: Option<&str>, err: &mut E) -> io::Result<()> {
     match failed {
-        Some(name) if refusal.is_failed_read() => {
-            print(alloc, err, &format_args!("{name}: {refusal}\n"))
-        }
-        _ => print(alloc, err, &format_args!("{refusal}\n")),
+        Some(name) if refusal.is_failed_read() => writeln!(err, "{name}: {refusal}"),
+        _ => writeln!(err, "{refusal}"),
     }
 }
 

@@ -3,7 +3,7 @@
 mod drawing;
 mod glb;
 mod reading;
-pub mod writing;
+mod writing;
 
 pub use drawing::read_bytes;
 pub use glb::Glb;

@@ -13,7 +13,7 @@ use Rattle.gltf_json_geometry.specs.declared.accessor.ComponentType.{ComponentTy
 use Rattle.gltf_json_geometry.specs.declared.accessor.ComponentType.TheVariants.{I8, U8, I16, U16}
 use Rattle.gltf_json_geometry.specs.declared.accessor.ComponentType.TheVariants.{U32, F32}
 use Rattle.gltf_findings.specs.declared.code.Code.{Code}
-use Rattle.gltf_findings.specs.Checks.{Nothing, ◌&◌, told_after, member}
+use Rattle.gltf_findings.specs.Checks.{Checks, Nothing, ◌&◌, told_after, member}
 use Rattle.gltf_inspect_values.specs.Accessors.{infinite_checks, are_floats, are_asked_for}
 use Rattle.gltf_inspect_values.specs.Accessors.{items_checks}
 use Rattle.gltf_inspect_values.specs.Bounds.{bound_checks, bounds_checks, are_looked_at}

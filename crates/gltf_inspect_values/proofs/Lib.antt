@@ -8,5 +8,3 @@ pub mod Floats
 pub mod Extremes
 pub mod Columns
 pub mod Asked
-pub mod Settled
-pub mod Rows

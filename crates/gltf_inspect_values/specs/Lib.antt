@@ -3,9 +3,6 @@ pub mod Items
 pub mod Bounds
 pub mod Extents
 pub mod Summaries
-pub mod Settled
-pub mod SettledLemmas
-pub mod Rows
 pub mod Falls
 pub mod Stored
 pub mod Times

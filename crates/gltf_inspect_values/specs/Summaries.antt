@@ -1,5 +1,5 @@
 -- What one walk over the items of an accessor finds.
-use Rattle.std.specs.Prelude.{ℕ, ◌&&◌, ◌||◌, not, if◌then◌else◌, Bool, true, false, List, codes}
+use Rattle.std.specs.Prelude.{ℕ, ◌&&◌, not, if◌then◌else◌, Bool, true, false, List, codes}
 use Rattle.std.specs.Prelude.{Option}
 use Rattle.std.specs.List.{list_any}
 use Rattle.std.specs.Float.{Float}
@@ -13,7 +13,6 @@ use Rattle.gltf_findings.specs.Checks.{Checks, Nothing, ◌&◌, member}
 use Rattle.gltf_inspect_values.specs.Bounds.{each_checks, elements, is_padded}
 use Rattle.gltf_inspect_values.specs.Components.{component, has_infinite}
 use Rattle.gltf_inspect_values.specs.Extents.{extent, columns, nothing, listed, extents_checks}
-use Rattle.gltf_inspect_values.specs.Extents.{widened_columns}
 use Rattle.gltf_inspect_values.specs.declared.bounds.Bound.{Bound}
 use Rattle.gltf_inspect_values.specs.declared.bounds.Bound.TheVariants.{Least, Greatest}
 use Rattle.gltf_inspect_values.specs.declared.extent.Extent.{Extent}
@@ -31,14 +30,6 @@ summary number is_infinite items = record {
 -- that of no items
 abbrev pub no_items : Summary
 no_items = record { exist = false; infinite = false; columns = columns (λ c. nothing) }
-
--- what is found in a further item too
-abbrev pub with_item : (ℕ → List ℕ → Option Float) → (List ℕ → Bool) → Summary → List ℕ → Summary
-with_item number is_infinite found item = record {
-  exist = true;
-  infinite = found.infinite || is_infinite item;
-  columns = widened_columns (λ (c : ℕ). number c item) found.columns;
-}
 
 -- a float of an item with these bytes is infinite or not a number, where its components are floats
 abbrev pub any_infinite : Checked ComponentType → List ℕ → Bool

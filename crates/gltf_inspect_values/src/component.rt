@@ -1,15 +1,12 @@
 //! The components of an item (glTF 2.0, section 3.6.2.2, "Accessor Data Types").
-ghost use Rattle.std.specs.Prelude.{◌≡◌, ◌≤◌, ◌&&◌, not, ℕ, pos, List, Bool, true, false};
+ghost use Rattle.std.specs.Prelude.{◌≡◌, ◌≤◌, ℕ, pos, List, Bool, false};
 ghost use Rattle.std.specs.Float.{Float, binary64};
 ghost use Rattle.std.specs.Float.Ieee.{of_int};
 ghost use Rattle.std.proofs.Common.{arith};
 ghost use Rattle.gltf_items.specs.Floats.{float_of};
 ghost use Rattle.gltf_inspect_values.specs.Components.{at_column, number_at, is_infinite};
 ghost use Rattle.gltf_inspect_values.specs.Components.{has_infinite};
-ghost use Rattle.gltf_inspect_values.specs.Settled.{FiniteHasNone, is_within};
-ghost use Rattle.gltf_inspect_values.specs.SettledLemmas.{whole-finite, floats-finite};
 
-use crate::extent::Extent;
 use byteorder::{ByteOrder, LE};
 use gltf_items::{F32, Item};
 use std::num::{f32_to_f64_with_nan, nearest_i64_to_f64, nearest_u64_to_f64};
@@ -22,9 +19,6 @@ pub(crate) trait Component: Item {
     /// Whether a component of an item with these bytes is infinite or not a number.
     ghost any_infinite: { List ℕ → Bool };
 
-    /// Whether a component is finite.
-    ghost is_finite: { Self → Bool };
-
     /// The number that it is: a double holds each of them exactly.
     fn number(self) -> f64
         ensures { result ≡ number self };
@@ -33,15 +27,8 @@ pub(crate) trait Component: Item {
     fn is_infinite(item: &[u8]) -> bool
         ensures { result ≡ any_infinite item.now };
 
-    /// Whether it is finite and its number within an extent.
-    fn is_within(self, extent: Extent) -> bool
-        ensures { result ≡ (is_finite self && is_within extent (number self)) };
-
     /// A component has at most four bytes.
     ghost is_short: { Self.size ≤ 4 };
-
-    /// An item whose components are all finite has no other.
-    ghost finite_has_none: { FiniteHasNone Self.size Self.value is_finite any_infinite };
 }
 
 impl Component for i8 {
@@ -49,11 +36,7 @@ impl Component for i8 {
 
     ghost any_infinite = { λ item. false };
 
-    ghost is_finite = { λ x. true };
-
     ghost is_short = { Prim.omega arith };
-
-    ghost finite_has_none = { whole-finite Self.size Self.value };
 
     fn number(self) -> f64 {
         nearest_i64_to_f64(self as i64)
@@ -61,11 +44,6 @@ impl Component for i8 {
 
     fn is_infinite(_item: &[u8]) -> bool {
         false
-    }
-
-    #[inline(always)]
-    fn is_within(self, extent: Extent) -> bool {
-        within(extent, self.number())
     }
 }
 
@@ -74,11 +52,7 @@ impl Component for u8 {
 
     ghost any_infinite = { λ item. false };
 
-    ghost is_finite = { λ x. true };
-
     ghost is_short = { Prim.omega arith };
-
-    ghost finite_has_none = { whole-finite Self.size Self.value };
 
     fn number(self) -> f64 {
         nearest_u64_to_f64(self as u64)
@@ -86,11 +60,6 @@ impl Component for u8 {
 
     fn is_infinite(_item: &[u8]) -> bool {
         false
-    }
-
-    #[inline(always)]
-    fn is_within(self, extent: Extent) -> bool {
-        within(extent, self.number())
     }
 }
 
@@ -99,11 +68,7 @@ impl Component for i16 {
 
     ghost any_infinite = { λ item. false };
 
-    ghost is_finite = { λ x. true };
-
     ghost is_short = { Prim.omega arith };
-
-    ghost finite_has_none = { whole-finite Self.size Self.value };
 
     fn number(self) -> f64 {
         nearest_i64_to_f64(self as i64)
@@ -112,11 +77,6 @@ impl Component for i16 {
     fn is_infinite(_item: &[u8]) -> bool {
         false
     }
-
-    #[inline(always)]
-    fn is_within(self, extent: Extent) -> bool {
-        within(extent, self.number())
-    }
 }
 
 impl Component for u16 {
@@ -124,11 +84,7 @@ impl Component for u16 {
 
     ghost any_infinite = { λ item. false };
 
-    ghost is_finite = { λ x. true };
-
     ghost is_short = { Prim.omega arith };
-
-    ghost finite_has_none = { whole-finite Self.size Self.value };
 
     fn number(self) -> f64 {
         nearest_u64_to_f64(self as u64)
@@ -136,11 +92,6 @@ impl Component for u16 {
 
     fn is_infinite(_item: &[u8]) -> bool {
         false
-    }
-
-    #[inline(always)]
-    fn is_within(self, extent: Extent) -> bool {
-        within(extent, self.number())
     }
 }
 
@@ -149,11 +100,7 @@ impl Component for u32 {
 
     ghost any_infinite = { λ item. false };
 
-    ghost is_finite = { λ x. true };
-
     ghost is_short = { Prim.omega arith };
-
-    ghost finite_has_none = { whole-finite Self.size Self.value };
 
     fn number(self) -> f64 {
         nearest_u64_to_f64(self as u64)
@@ -162,11 +109,6 @@ impl Component for u32 {
     fn is_infinite(_item: &[u8]) -> bool {
         false
     }
-
-    #[inline(always)]
-    fn is_within(self, extent: Extent) -> bool {
-        within(extent, self.number())
-    }
 }
 
 impl Component for F32 {
@@ -174,11 +116,7 @@ impl Component for F32 {
 
     ghost any_infinite = { has_infinite };
 
-    ghost is_finite = { λ bytes. not (has_infinite bytes) };
-
     ghost is_short = { Prim.omega arith };
-
-    ghost finite_has_none = { floats-finite };
 
     fn number(self) -> f64 {
         let bits = LE::read_u32(&self.to_bytes());
@@ -193,32 +131,11 @@ impl Component for F32 {
     fn is_infinite(item: &[u8]) -> bool {
         has_infinite(item)
     }
-
-    /// The size is looked at as a whole, so that the bytes are read as one word.
-    #[inline(always)]
-    fn is_within(self, extent: Extent) -> bool {
-        let bits = LE::read_u32(&self.to_bytes());
-        let size = bits % 0x8000_0000;
-        if size <= 0x7f80_0000 {
-            let number = f32::from_bits(bits);
-            within(extent, number as f64) && size != 0x7f80_0000
-        } else {
-            false
-        }
-    }
-}
-
-/// Whether a number is not below the least one, and not above the greatest one.
-#[inline(always)]
-pub(crate) fn within(extent: Extent, number: f64) -> bool
-    ensures { result ≡ is_within extent number }
-{
-    extent.least <= number && number <= extent.greatest
 }
 
 /// What stands in a column of an item, where the item has so many.
 #[inline(always)]
-pub(crate) fn at_column<T: Item>(item: &[u8], column: usize) -> Option<T>
+fn at_column<T: Item>(item: &[u8], column: usize) -> Option<T>
     requires { T.size ≤ 4 }
     ensures { result ≡ at_column T.size T.value column item.now }
 {

@@ -1,12 +1,12 @@
 //! The least and the greatest number of each column.
-ghost use Rattle.std.specs.Prelude.{◌≡◌, ℕ, ◌≤◌};
-ghost use Rattle.gltf_inspect_values.specs.Components.{at_column, number_at};
+ghost use Rattle.std.specs.Prelude.{◌≡◌, ℕ, ◌≤◌, ◌&&◌};
+ghost use Rattle.std.specs.Float.Ieee.{le};
+ghost use Rattle.gltf_inspect_values.specs.Components.{number_at};
 ghost use Rattle.gltf_inspect_values.specs.Extents.{nothing, widened, columns, listed};
 ghost use Rattle.gltf_inspect_values.specs.Extents.{widened_four, widened_columns};
 ghost use Rattle.gltf_inspect_values.specs.Extents.{least_is, greatest_is};
-ghost use Rattle.gltf_inspect_values.specs.Settled.{is_settled, four_settled, all_settled};
 
-use crate::component::{Component, at_column, number_at, within};
+use crate::component::{Component, number_at};
 
 /// The least and the greatest of some numbers. Of no numbers the least is infinite, and the
 /// greatest is infinite below zero.
@@ -73,6 +73,14 @@ pub(crate) fn no_columns() -> Columns
     }
 }
 
+/// Whether a number is not below the least one, and not above the greatest one.
+#[inline(always)]
+fn is_within(extent: Extent, number: f64) -> bool
+    ensures { result ≡ (le extent.least number && le number extent.greatest) }
+{
+    extent.least <= number && number <= extent.greatest
+}
+
 /// An extent with a further number. Most numbers are within the extent so far, so that this is
 /// seldom called.
 #[cold]
@@ -103,7 +111,7 @@ fn widened(extent: Extent, number: Option<f64>) -> Extent
     match number {
         None => extent,
         Some(number) => {
-            if within(extent, number) {
+            if is_within(extent, number) {
                 extent
             } else {
                 with(extent, number)
@@ -139,44 +147,6 @@ pub(crate) fn widened_columns<T: Component>(columns: Columns, item: &[u8]) -> Co
         third: widened_four::<T>(columns.third, 8, item),
         fourth: widened_four::<T>(columns.fourth, 12, item),
     }
-}
-
-/// Whether the component in a column of an item, where the item has so many, is finite and within
-/// an extent.
-#[inline(always)]
-fn is_settled<T: Component>(extent: Extent, column: usize, item: &[u8]) -> bool
-    ensures { result ≡ is_settled T.is_finite T.number extent
-        (at_column T.size T.value column item.now) }
-{
-    match at_column::<T>(item, column) {
-        None => true,
-        Some(component) => component.is_within(extent),
-    }
-}
-
-/// The same of four columns.
-#[inline(always)]
-fn four_settled<T: Component>(four: &Four, column: usize, item: &[u8]) -> bool
-    requires { column ≤ 12 }
-    ensures { result ≡ four_settled T.is_finite T.number
-        (λ (c : ℕ). at_column T.size T.value c item.now) column four.now }
-{
-    is_settled::<T>(four.first, column, item)
-        && is_settled::<T>(four.second, column + 1, item)
-        && is_settled::<T>(four.third, column + 2, item)
-        && is_settled::<T>(four.fourth, column + 3, item)
-}
-
-/// The same of all columns.
-#[inline(always)]
-pub(crate) fn all_settled<T: Component>(columns: &Columns, item: &[u8]) -> bool
-    ensures { result ≡ all_settled T.is_finite T.number
-        (λ (c : ℕ). at_column T.size T.value c item.now) columns.now }
-{
-    four_settled::<T>(&columns.first, 0, item)
-        && four_settled::<T>(&columns.second, 4, item)
-        && four_settled::<T>(&columns.third, 8, item)
-        && four_settled::<T>(&columns.fourth, 12, item)
 }
 
 /// The extents of columns, one after the other.

@@ -22,8 +22,8 @@ use std::alloc::{AllocError, Global};
 /// accessor has a view and can be read, and stored indices where these can be read.
 ///
 /// It takes time in proportion to the items of all accessors, of which each is passed over once at
-/// most, and to the times of all samplers, of which each is passed over at most twice, and memory
-/// for the findings alone. Fails where there is no memory.
+/// most, and to the times of all samplers, of which each is passed over twice, and memory for the
+/// findings alone. Fails where there is no memory.
 pub fn inspect_values(
     alloc: Global,
     document: &Document,

@@ -9,7 +9,6 @@ mod extent;
 pub mod inspect;
 mod item;
 pub mod laws;
-mod row;
 mod stored;
 mod summary;
 mod times;

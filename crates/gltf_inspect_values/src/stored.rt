@@ -31,7 +31,7 @@ use gltf_validation::location::Location;
 use std::alloc::AllocError;
 
 /// The distance in bytes from item to item.
-pub(crate) fn stride_of(view: &View, size: usize) -> usize
+fn stride_of(view: &View, size: usize) -> usize
     ensures { result ≡ stride view.now size }
 {
     match view.byte_stride {
@@ -41,7 +41,7 @@ pub(crate) fn stride_of(view: &View, size: usize) -> usize
 }
 
 /// Where a view begins in its buffer.
-pub(crate) fn offset_of(view: &View) -> usize
+fn offset_of(view: &View) -> usize
     ensures { result ≡ view_offset view.now }
 {
     view.byte_offset.unwrap_or(0) as usize
@@ -65,7 +65,7 @@ fn end_of(offset: usize, stride: usize, count: usize, size: usize) -> Option<usi
 }
 
 /// The same, where it is within the view.
-pub(crate) fn end_in(view: &View, offset: usize, count: usize, size: usize) -> Option<usize>
+fn end_in(view: &View, offset: usize, count: usize, size: usize) -> Option<usize>
     requires { 0 < count }
     ensures { let p = part_of view.now offset count size in
         result ≡ if nat_le (items_end p) view.now.byte_length then Some (items_end p) else None }
@@ -76,7 +76,7 @@ pub(crate) fn end_in(view: &View, offset: usize, count: usize, size: usize) -> O
 }
 
 /// Whether a view is within so many bytes.
-pub(crate) fn is_within(view: &View, len: usize) -> bool
+fn is_within(view: &View, len: usize) -> bool
     ensures { result ≡ nat_le (view_offset view.now + view.now.byte_length) len }
 {
     let length = view.byte_length as usize;

@@ -1,23 +1,17 @@
 //! The times of animations (glTF 2.0, section 3.11, "Animations").
-ghost use Rattle.std.specs.Prelude.{◌≡◌, ◌||◌, ℕ, ◌+◌, ◌*◌, ◌<◌, ◌≤◌, None, IfSome, OnOk, length};
-ghost use Rattle.std.specs.Prelude.{map, slice_get};
+ghost use Rattle.std.specs.Prelude.{◌≡◌, None, OnOk, map, slice_get};
 ghost use Rattle.std.specs.List.{list_any};
 ghost use Rattle.gltf.specs.Shown.{bytes_of_each};
 ghost use Rattle.gltf_items.specs.Floats.{float_of};
 ghost use Rattle.gltf_data.specs.Iter.{counted_items};
 ghost use Rattle.gltf_validation.specs.Locations.{places_of};
 ghost use Rattle.gltf_findings.specs.Checks.{told_after, list_checks};
-ghost use Rattle.gltf_inspect_items.specs.Reading.{items_at, items_left};
+ghost use Rattle.gltf_inspect_items.specs.Reading.{items_left};
 ghost use Rattle.gltf_inspect_values.specs.Falls.{after, falls};
-ghost use Rattle.gltf_inspect_values.specs.Items.{as_bytes};
-ghost use Rattle.gltf_inspect_values.specs.Rows.{IsRow, row_items};
 ghost use Rattle.gltf_inspect_values.specs.Times.{are_times, times, is_negative, is_not_later};
 ghost use Rattle.gltf_inspect_values.specs.Times.{times_checks, sampler_checks};
 ghost use Rattle.gltf_inspect_values.specs.Times.{animation_checks};
 
-use crate::row::{Row, row_of};
-use crate::walk::Place;
-use byteorder::{ByteOrder, LE};
 use gltf::Document;
 use gltf::accessor::Iter;
 use gltf::buffer::Data;
@@ -111,92 +105,6 @@ fn are_not_later(items: Option<Iter<'_, F32>>) -> bool
     }
 }
 
-/// What is found in times.
-#[derive(Clone, Copy)]
-struct Marks {
-    /// Whether one is negative.
-    negative: bool,
-    /// Whether one is not later than the one before it.
-    not_later: bool,
-}
-
-/// What is found with a further time.
-#[inline(always)]
-fn marked(found: Marks, last: Option<f32>, time: f32) -> Marks
-    ensures { result ≡ record {
-      negative = found.negative || is_negative time;
-      not_later = found.not_later || after is_not_later last time;
-    } }
-{
-    Marks {
-        negative: found.negative || is_negative(time),
-        not_later: found.not_later || is_after(last, time),
-    }
-}
-
-/// What is found in times in a row, which it passes over once, up to where both are found.
-fn marks_in_row(bytes: &[u8], start: usize, stride: usize, count: usize) -> Marks
-    requires { (i : ℕ) → i < count → start + i * stride + 4 ≤ length bytes.now }
-    ensures negative { result.negative
-        ≡ list_any is_negative (map float_of (row_items 4 bytes.now start stride count)) }
-    ensures not_later { result.not_later ≡ falls is_not_later None
-        (map float_of (row_items 4 bytes.now start stride count)) }
-{
-    let mut found = Marks {
-        negative: false,
-        not_later: false,
-    };
-    let mut last = None;
-    for i in 0..count {
-        let at = start + i * stride;
-        let time = LE::read_f32(&bytes[at..at + 4]);
-        found = marked(found, last, time);
-        if found.negative && found.not_later {
-            return found;
-        }
-        last = Some(time);
-    }
-    found
-}
-
-/// The row of the times of the accessor at an index, where it is one of times, which stand in one.
-fn row_of_times<'s>(document: &'s Document, buffers: &'s [Data], index: usize) -> Option<Row<'s>>
-    ensures row { IfSome result (λ row. IsRow 4 (items_at (as_bytes 4) document.now
-        (slice_get (bytes_of_each buffers.now)) index)
-        row.bytes.now row.start row.stride row.count) }
-    ensures times { IfSome result (λ _. times document.now (slice_get (bytes_of_each buffers.now))
-        index ≡ map float_of (items_at (as_bytes 4) document.now
-        (slice_get (bytes_of_each buffers.now)) index)) }
-{
-    let accessor = document.as_json().accessors.as_slice().get(index)?;
-    if !are_times(accessor.component_type, accessor.type_) {
-        return None;
-    }
-    let place = Place {
-        document,
-        buffers,
-        index,
-    };
-    row_of(place, 4)
-}
-
-/// What is found in the times at an accessor: in a row, where they stand in one, else one after the
-/// other as they are read.
-fn marks_of(document: &Document, buffers: &[Data], index: usize) -> Marks
-    ensures negative { result.negative ≡ list_any is_negative
-        (times document.now (slice_get (bytes_of_each buffers.now)) index) }
-    ensures not_later { result.not_later ≡ falls is_not_later None
-        (times document.now (slice_get (bytes_of_each buffers.now)) index) }
-{
-    match row_of_times(document, buffers, index) {
-        Some(row) => marks_in_row(row.bytes, row.start, row.stride, row.count),
-        None => Marks {
-            negative: are_negative(times(document, buffers, index)),
-            not_later: are_not_later(times(document, buffers, index)),
-        },
-    }
-}
-
 /// Reports what is found in the times at an accessor.
 fn tell_times(
     document: &Document,
@@ -208,13 +116,10 @@ fn tell_times(
     ensures { OnOk result (findings.new ≡ told_after findings.old (places_of location.now)
         (times_checks (times document.now (slice_get (bytes_of_each buffers.now)) index))) }
 {
-    let found = marks_of(document, buffers, index);
-    findings.tell(!found.negative, Code::AnimationInputNegative, location)?;
-    findings.tell(
-        !found.not_later,
-        Code::AnimationInputNonIncreasing,
-        location,
-    )
+    let negative = are_negative(times(document, buffers, index));
+    findings.tell(!negative, Code::AnimationInputNegative, location)?;
+    let not_later = are_not_later(times(document, buffers, index));
+    findings.tell(!not_later, Code::AnimationInputNonIncreasing, location)
 }
 
 fn tell_samplers(

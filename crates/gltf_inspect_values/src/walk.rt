@@ -1,5 +1,5 @@
 //! What a walk over the items of an accessor finds, whatever the size of its items.
-ghost use Rattle.std.specs.Prelude.{◌≡◌, ◌*◌, ◌<◌, ◌≤◌, true, slice_get};
+ghost use Rattle.std.specs.Prelude.{◌≡◌, ◌*◌, ◌≤◌, true, slice_get};
 ghost use Rattle.std.specs.List.{list_any};
 ghost use Rattle.gltf.specs.Shown.{bytes_of_each};
 ghost use Rattle.gltf_data.specs.Iter.{counted_items};
@@ -12,8 +12,7 @@ ghost use Rattle.gltf_inspect_values.specs.Summaries.{summary, summary_of};
 
 use crate::component::Component;
 use crate::item::ItemBytes;
-use crate::row::{row_of, summary_in_row};
-use crate::summary::{Summary, no_items, pass, without_numbers};
+use crate::summary::{Summary, no_items, with_item, without_numbers};
 use gltf::Document;
 use gltf::accessor::Iter;
 use gltf::buffer::Data;
@@ -30,13 +29,13 @@ fn summary_left<T: Component, const N: usize>(items: &mut Iter<'_, ItemBytes<N>>
 {
     let mut found = no_items();
     while let Some(item) = take(items) {
-        pass::<T>(&mut found, &item.bytes);
+        found = with_item::<T>(found, &item.bytes);
     }
     found
 }
 
 /// What is found in these items, where there are items.
-fn summary_read<T: Component, const N: usize>(items: Option<Iter<'_, ItemBytes<N>>>) -> Summary
+fn summary<T: Component, const N: usize>(items: Option<Iter<'_, ItemBytes<N>>>) -> Summary
     requires { N ≤ 64 }
     ensures { result ≡ summary (number_at T.size T.value T.number) T.any_infinite
         (items_left items.entry) }
@@ -68,22 +67,6 @@ pub(crate) struct Place<'a> {
     pub(crate) index: usize,
 }
 
-/// What is found in the items of an accessor, of N bytes each: in a row, where they stand in one,
-/// else one after the other as they are read.
-fn summary<T: Component, const N: usize>(place: Place<'_>) -> Summary
-    requires some { 0 < N }
-    requires few { N ≤ 64 }
-    ensures { let p = place.entry in
-        result ≡ summary (number_at T.size T.value T.number) T.any_infinite
-        (items_at (as_bytes N) p.document.now (slice_get (bytes_of_each p.buffers.now))
-        p.index) }
-{
-    match row_of(place, N) {
-        Some(row) => summary_in_row::<T, N>(row.bytes, row.start, row.stride, row.count),
-        None => summary_read::<T, N>(items_at(place.document, place.buffers, place.index)),
-    }
-}
-
 /// What is found in the items of an accessor, where components have one byte.
 fn summary_of_bytes<T: Component>(place: Place<'_>, shape: Checked<Type>) -> Summary
     ensures { let p = place.entry in
@@ -91,18 +74,21 @@ fn summary_of_bytes<T: Component>(place: Place<'_>, shape: Checked<Type>) -> Sum
         (items_at (as_bytes (1 * code_of (λ c. multiplicity (dimensions c)) shape))
         p.document.now (slice_get (bytes_of_each p.buffers.now)) p.index) }
 {
+    let Place {
+        document,
+        buffers,
+        index,
+    } = place;
     match shape {
-        Checked::Invalid => {
-            summary_read::<T, 0>(items_at(place.document, place.buffers, place.index))
-        }
+        Checked::Invalid => summary::<T, 0>(items_at(document, buffers, index)),
         Checked::Valid(shape) => match shape {
-            Type::Scalar => summary::<T, 1>(place),
-            Type::Vec2 => summary::<T, 2>(place),
-            Type::Vec3 => summary::<T, 3>(place),
-            Type::Vec4 => summary::<T, 4>(place),
-            Type::Mat2 => summary::<T, 4>(place),
-            Type::Mat3 => summary::<T, 9>(place),
-            Type::Mat4 => summary::<T, 16>(place),
+            Type::Scalar => summary::<T, 1>(items_at(document, buffers, index)),
+            Type::Vec2 => summary::<T, 2>(items_at(document, buffers, index)),
+            Type::Vec3 => summary::<T, 3>(items_at(document, buffers, index)),
+            Type::Vec4 => summary::<T, 4>(items_at(document, buffers, index)),
+            Type::Mat2 => summary::<T, 4>(items_at(document, buffers, index)),
+            Type::Mat3 => summary::<T, 9>(items_at(document, buffers, index)),
+            Type::Mat4 => summary::<T, 16>(items_at(document, buffers, index)),
         },
     }
 }
@@ -114,18 +100,21 @@ fn summary_of_halves<T: Component>(place: Place<'_>, shape: Checked<Type>) -> Su
         (items_at (as_bytes (2 * code_of (λ c. multiplicity (dimensions c)) shape))
         p.document.now (slice_get (bytes_of_each p.buffers.now)) p.index) }
 {
+    let Place {
+        document,
+        buffers,
+        index,
+    } = place;
     match shape {
-        Checked::Invalid => {
-            summary_read::<T, 0>(items_at(place.document, place.buffers, place.index))
-        }
+        Checked::Invalid => summary::<T, 0>(items_at(document, buffers, index)),
         Checked::Valid(shape) => match shape {
-            Type::Scalar => summary::<T, 2>(place),
-            Type::Vec2 => summary::<T, 4>(place),
-            Type::Vec3 => summary::<T, 6>(place),
-            Type::Vec4 => summary::<T, 8>(place),
-            Type::Mat2 => summary::<T, 8>(place),
-            Type::Mat3 => summary::<T, 18>(place),
-            Type::Mat4 => summary::<T, 32>(place),
+            Type::Scalar => summary::<T, 2>(items_at(document, buffers, index)),
+            Type::Vec2 => summary::<T, 4>(items_at(document, buffers, index)),
+            Type::Vec3 => summary::<T, 6>(items_at(document, buffers, index)),
+            Type::Vec4 => summary::<T, 8>(items_at(document, buffers, index)),
+            Type::Mat2 => summary::<T, 8>(items_at(document, buffers, index)),
+            Type::Mat3 => summary::<T, 18>(items_at(document, buffers, index)),
+            Type::Mat4 => summary::<T, 32>(items_at(document, buffers, index)),
         },
     }
 }
@@ -137,18 +126,21 @@ fn summary_of_words<T: Component>(place: Place<'_>, shape: Checked<Type>) -> Sum
         (items_at (as_bytes (4 * code_of (λ c. multiplicity (dimensions c)) shape))
         p.document.now (slice_get (bytes_of_each p.buffers.now)) p.index) }
 {
+    let Place {
+        document,
+        buffers,
+        index,
+    } = place;
     match shape {
-        Checked::Invalid => {
-            summary_read::<T, 0>(items_at(place.document, place.buffers, place.index))
-        }
+        Checked::Invalid => summary::<T, 0>(items_at(document, buffers, index)),
         Checked::Valid(shape) => match shape {
-            Type::Scalar => summary::<T, 4>(place),
-            Type::Vec2 => summary::<T, 8>(place),
-            Type::Vec3 => summary::<T, 12>(place),
-            Type::Vec4 => summary::<T, 16>(place),
-            Type::Mat2 => summary::<T, 16>(place),
-            Type::Mat3 => summary::<T, 36>(place),
-            Type::Mat4 => summary::<T, 64>(place),
+            Type::Scalar => summary::<T, 4>(items_at(document, buffers, index)),
+            Type::Vec2 => summary::<T, 8>(items_at(document, buffers, index)),
+            Type::Vec3 => summary::<T, 12>(items_at(document, buffers, index)),
+            Type::Vec4 => summary::<T, 16>(items_at(document, buffers, index)),
+            Type::Mat2 => summary::<T, 16>(items_at(document, buffers, index)),
+            Type::Mat3 => summary::<T, 36>(items_at(document, buffers, index)),
+            Type::Mat4 => summary::<T, 64>(items_at(document, buffers, index)),
         },
     }
 }

@@ -8,11 +8,9 @@ ghost use Rattle.gltf_json.specs.Documents.{root};
 ghost use Rattle.gltf_json.specs.Reading.{Reads, Refuses};
 ghost use Rattle.gltf_json.specs.declared.root.Root.{Root};
 
-use crate::grammar::fault_of_grammar;
 use gltf_json::laws::two_readings_of_a_text_are_alike;
 use gltf_json::root::Root;
-use gltf_json_faults::text::fault_of_text;
-use gltf_json_pull::text::{GaveUp, try_pull};
+use gltf_json_pull::text::pull;
 use gltf_json_record::error::Error;
 use gltf_json_record::read::read;
 use serde_json::Value;
@@ -38,11 +36,9 @@ pub fn from_value(alloc: Global, value: &Value) -> Result<Root, Error>
 
 /// The document of a JSON text (glTF 2.0, section 5.17, "glTF"): that of the value which
 /// `serde_json` reads from it. It is read in one pass over the text, with no tree of values, where
-/// that gives a document. A fault of its records is found by a second pass, which makes none, and
-/// one of its grammar without values too; the tree is asked where these say nothing. `Text` is
-/// answered only where the bytes are no JSON text in UTF-8; `Record` with a fault that stands in
-/// the value at its path; and `Memory` where there was not enough, in `serde_json` or here.
-#[tactic(auto, using(crate::proofs::Faults::fault_refuses))]
+/// that gives a document; every refusal comes from the tree. `Text` is answered only where the
+/// bytes are no JSON text in UTF-8; `Record` with a fault that stands in the value at its path; and
+/// `Memory` where there was not enough, in `serde_json` or here.
 pub fn from_slice(alloc: Global, bytes: &[u8]) -> Result<Root, Error>
     ensures ok { IfOk result (λ r. (d : Data) × Reads bytes.now d × root.is d r) }
     ensures alike { IfOk result (λ r. (d : Data) (s : Root) → Reads bytes.now d → root.is d s
@@ -51,21 +47,10 @@ pub fn from_slice(alloc: Global, bytes: &[u8]) -> Result<Root, Error>
     ensures exact { IfErr result (λ e. e ≢ Memory
         → (d : Data) → Reads bytes.now d → root.fits d → ⊥) }
 {
-    let gave_up = match try_pull::<Root>(alloc, bytes) {
-        Ok(document) => {
-            // A law that the proof stands on; the call does nothing.
-            two_readings_of_a_text_are_alike();
-            return Ok(document);
-        }
-        Err(gave_up) => gave_up,
-    };
-    if gave_up == GaveUp::AtEnd {
-        if let Some(refused) = fault_of_grammar(alloc, bytes) {
-            return Err(Error::Text(refused));
-        }
-    }
-    if let Some(fault) = fault_of_text::<Root>(alloc, bytes) {
-        return Err(fault);
+    if let Some(document) = pull::<Root>(alloc, bytes) {
+        // A law that the proof stands on; the call does nothing.
+        two_readings_of_a_text_are_alike();
+        return Ok(document);
     }
     let value = Value::from_slice(alloc, bytes)?;
     from_value(alloc, &value)

@@ -3,8 +3,3 @@
 #![tactic(auto)]
 
 pub mod deserialize;
-#[cfg(test)]
-mod fault_tests;
-mod grammar;
-#[cfg(test)]
-mod tests;

@@ -1,11 +1,13 @@
 //! Records, read by their tables from the tokens of a text.
-ghost use Rattle.std.specs.Prelude.{◌≡◌, ◌∷◌, map, true, IfSome};
+ghost use Rattle.std.specs.Prelude.{◌≡◌, ◌∷◌, map, true, Some, IfSome};
 ghost use Rattle.json.specs.Reads.{token_of};
+ghost use Rattle.serde_json.specs.Data.{Data};
 ghost use Rattle.gltf_json_record.specs.Table.{table};
+ghost use Rattle.gltf_json_tokens.specs.Tokens.{data_at};
 ghost use Rattle.gltf_json_pull.specs.Pulls.{IsPulled, Takes, are_distinct};
 
 use crate::rows::PullRows;
-use gltf_json_tokens::pass::pass_next;
+use gltf_json_tokens::build::build;
 use json::{Reader, Token};
 use std::alloc::Global;
 
@@ -67,6 +69,20 @@ fn take<R: PullRows>(
     if took {
         return Some(());
     }
-    pass_next(rest, depth)?;
+    pass(alloc, rest, depth)?;
+    Some(())
+}
+
+// Passes over a value.
+#[cold]
+#[inline(never)]
+fn pass(alloc: Global, rest: &mut Reader<'_>, depth: usize) -> Option<()>
+    ensures { IfSome result
+        (λ _. (d : Data) × (data_at depth rest.old ≡ Some (d, rest.new))) }
+{
+    let first = rest.next()?;
+    let Ok(Some(_)) = build(alloc, first, rest, depth) else {
+        return None;
+    };
     Some(())
 }

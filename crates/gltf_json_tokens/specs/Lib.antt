@@ -1,4 +1,3 @@
 pub mod Tokens
 pub mod Runs
 pub mod RunLaws
-pub mod Passed

@@ -4,7 +4,3 @@
 
 pub mod build;
 pub mod number;
-pub mod pass;
-
-/// How deep the arrays and objects of a text may nest: as deep as `serde_json` reads.
-pub const MAX_DEPTH: usize = 127;

@@ -4,21 +4,19 @@ use crate::refusal::Refusal;
 use gltf::buffer::{Data, bytes_of};
 use gltf::mesh::Reader;
 use gltf::mesh::util::ReadIndices;
+use gltf::mesh::util::indices::{CastingIter, U32};
 use gltf::{Buffer, Document};
-use gltf_print::print_lines;
-use std::alloc::Global;
-use std::io::Write;
+use std::io::{self, Write};
 
 /// Writes the indices of the primitive at a place, a line for each.
 pub(crate) fn write_indices<O: Write>(
-    alloc: Global,
     document: &Document,
     buffers: &[Data],
     place: Place,
     out: &mut O,
 ) -> Result<(), Refusal> {
-    let indices = indices_at(document, buffers, place)?.into_u32();
-    print_lines(alloc, out, indices).map_err(Refusal::Write)
+    let indices = indices_at(document, buffers, place)?;
+    write_lines(indices.into_u32(), out).map_err(Refusal::Write)
 }
 
 /// The indices of the primitive at a place, over the bytes of its document's buffers.
@@ -36,4 +34,14 @@ fn indices_at<'s>(
     Reader::new(&primitive, &bytes)
         .read_indices()
         .ok_or(Refusal::NoIndices)
+}
+
+/// Writes a line for each index.
+fn write_lines<O: Write>(mut indices: CastingIter<'_, U32>, out: &mut O) -> io::Result<()> {
+    for _ in 0..indices.len() {
+        if let Some(index) = indices.next() {
+            writeln!(out, "{index}")?;
+        }
+    }
+    Ok(())
 }

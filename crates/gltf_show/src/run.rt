@@ -6,7 +6,6 @@ use crate::kept::{Kept, Part};
 use crate::refusal::Refusal;
 use crate::summary::Summary;
 use gltf::{Glb, Name, NamedBytes, import_from};
-use gltf_print::print;
 use std::alloc::Global;
 use std::io::{self, Write};
 
@@ -29,7 +28,7 @@ pub fn run<S: NamedBytes + Drop, O: Write, E: Write>(
         Ok(()) => 0,
         Err(refusal) => {
             // Where this write fails too, the status alone says so.
-            let _ = tell(alloc, &refusal, source.last_failed(), err);
+            let _ = tell(&refusal, source.last_failed(), err);
             let is_check = matches!(Call::of(words), Some(Call::Check(_)));
             if is_check && refusal.is_of_content() && source.says_first_version(alloc) {
                 let _ = writeln!(err, "this is a glTF 1.0 file; glTF 2.0 is supported");
@@ -40,17 +39,10 @@ pub fn run<S: NamedBytes + Drop, O: Write, E: Write>(
 }
 
 /// Writes why a call is not answered; where a file was not read, after the name of that file.
-fn tell<E: Write>(
-    alloc: Global,
-    refusal: &Refusal,
-    failed: Option<&str>,
-    err: &mut E,
-) -> io::Result<()> {
+fn tell<E: Write>(refusal: &Refusal, failed: Option<&str>, err: &mut E) -> io::Result<()> {
     match failed {
-        Some(name) if refusal.is_failed_read() => {
-            print(alloc, err, &format_args!("{name}: {refusal}\n"))
-        }
-        _ => print(alloc, err, &format_args!("{refusal}\n")),
+        Some(name) if refusal.is_failed_read() => writeln!(err, "{name}: {refusal}"),
+        _ => writeln!(err, "{refusal}"),
     }
 }
 
@@ -72,7 +64,7 @@ fn answer<S: NamedBytes, O: Write>(
         }
         Some(Call::Indices(path, place)) => {
             let (document, buffers) = import_from(alloc, source, path)?;
-            write_indices(alloc, &document, &buffers, place, out)
+            write_indices(&document, &buffers, place, out)
         }
         None => Err(Refusal::Usage),
     }

@@ -1,4 +1,4 @@
-//! The bytes of a container out of its parts (glTF 2.0, section 4.4).
+//! The bytes of a container out of its parts.
 ghost use Rattle.std.specs.Prelude.{◌≡◌, ℕ, ◌+◌, ◌<◌, ◌^◌, ◌-◌, ◌%◌, ◌++◌, length, replicate};
 ghost use Rattle.std.specs.Prelude.{OnOk, OnErr, SomeIff, option_copied};
 ghost use Rattle.std.specs.Io.KnownBytes.{Appends};
@@ -13,7 +13,7 @@ use std::io;
 use std::io::Write;
 
 /// How many bytes fill contents up to a multiple of four.
-pub fn padding_of(contents: &[u8]) -> usize
+fn padding_of(contents: &[u8]) -> usize
     ensures { result ≡ (4 - length contents.now % 4) % 4 }
 {
     (4 - contents.len() % 4) % 4
@@ -32,9 +32,9 @@ pub(crate) fn total_of(json: &[u8], bin: Option<&[u8]>) -> Option<u32>
     u32::try_from(total).ok()
 }
 
-/// The four bytes of a number, the lowest first.
+/// The four bytes of a number.
 #[tactic(auto, unfolding(crate::specs::Bytes::word))]
-pub fn word_of(number: u32) -> [u8; 4]
+fn word_of(number: u32) -> [u8; 4]
     ensures { result ≡ word number }
 {
     let mut bytes = [0; 4];
@@ -42,8 +42,8 @@ pub fn word_of(number: u32) -> [u8; 4]
     bytes
 }
 
-/// Adds the header of a container that has so many bytes (section 4.4.2).
-pub fn put_header(out: &mut Vec<u8>, total: u32) -> Result<(), AllocError>
+/// Adds a header.
+pub(crate) fn put_header(out: &mut Vec<u8>, total: u32) -> Result<(), AllocError>
     ensures { OnOk result (out.new.items ≡ out.old.items ++ (magic ++ (word 2 ++ word total))) }
 {
     out.extend_from_slice(b"glTF")?;
@@ -52,9 +52,9 @@ pub fn put_header(out: &mut Vec<u8>, total: u32) -> Result<(), AllocError>
     Ok(())
 }
 
-/// Adds a chunk, filled up to a multiple of four bytes (section 4.4.3).
+/// Adds a chunk, filled up to a multiple of four bytes.
 #[tactic(auto, using(crate::specs::FillingLaws::length_padded))]
-pub fn put_chunk(
+pub(crate) fn put_chunk(
     out: &mut Vec<u8>,
     tag: [u8; 4],
     contents: &[u8],
@@ -73,8 +73,8 @@ pub fn put_chunk(
     Ok(())
 }
 
-/// A container would be longer than its header can say: the error of [`crate::Glb::to_vec`].
-pub fn too_long() -> io::Error {
+/// A container would be longer than its header can say.
+pub(crate) fn too_long() -> io::Error {
     io::Error::new(
         io::ErrorKind::InvalidInput,
         "a GLB container has at most 4294967295 bytes",

@@ -15,7 +15,7 @@ returns-in-Invalid g c =
     g.T.Component.any_infinite in
     let some = λ (n : ℕ). found (items_at (as_bytes n) c.args.place.document.now
     (slice_get (bytes_of_each c.args.place.buffers.now)) c.args.place.index) in
-    c.summary_read.ensures ∙ ap found c.items_at.ensures
+    c.summary.ensures ∙ ap found c.items_at.ensures
     ∙ ap some (in_no_shape 1 c.args.shape c.in-Invalid.is)
 
 pub returns-in-Scalar : goal.returns-in-Scalar
@@ -24,7 +24,7 @@ returns-in-Scalar g c =
     g.T.Component.any_infinite in
     let some = λ (n : ℕ). found (items_at (as_bytes n) c.args.place.document.now
     (slice_get (bytes_of_each c.args.place.buffers.now)) c.args.place.index) in
-    c.summary.ensures
+    c.summary-in-Scalar.ensures ∙ ap found c.items_at-in-Scalar.ensures
     ∙ ap some (in_shape 1 c.args.shape _ shape.Scalar c.in-Valid.is c.in-Scalar.is)
 
 pub returns-in-Vec2 : goal.returns-in-Vec2
@@ -33,7 +33,7 @@ returns-in-Vec2 g c =
     g.T.Component.any_infinite in
     let some = λ (n : ℕ). found (items_at (as_bytes n) c.args.place.document.now
     (slice_get (bytes_of_each c.args.place.buffers.now)) c.args.place.index) in
-    c.summary-in-Vec2.ensures
+    c.summary-in-Vec2.ensures ∙ ap found c.items_at-in-Vec2.ensures
     ∙ ap some (in_shape 1 c.args.shape _ shape.Vec2 c.in-Valid.is c.in-Vec2.is)
 
 pub returns-in-Vec3 : goal.returns-in-Vec3
@@ -42,7 +42,7 @@ returns-in-Vec3 g c =
     g.T.Component.any_infinite in
     let some = λ (n : ℕ). found (items_at (as_bytes n) c.args.place.document.now
     (slice_get (bytes_of_each c.args.place.buffers.now)) c.args.place.index) in
-    c.summary-in-Vec3.ensures
+    c.summary-in-Vec3.ensures ∙ ap found c.items_at-in-Vec3.ensures
     ∙ ap some (in_shape 1 c.args.shape _ shape.Vec3 c.in-Valid.is c.in-Vec3.is)
 
 pub returns-in-Vec4 : goal.returns-in-Vec4
@@ -51,7 +51,7 @@ returns-in-Vec4 g c =
     g.T.Component.any_infinite in
     let some = λ (n : ℕ). found (items_at (as_bytes n) c.args.place.document.now
     (slice_get (bytes_of_each c.args.place.buffers.now)) c.args.place.index) in
-    c.summary-in-Vec4.ensures
+    c.summary-in-Vec4.ensures ∙ ap found c.items_at-in-Vec4.ensures
     ∙ ap some (in_shape 1 c.args.shape _ shape.Vec4 c.in-Valid.is c.in-Vec4.is)
 
 pub returns-in-Mat2 : goal.returns-in-Mat2
@@ -60,7 +60,7 @@ returns-in-Mat2 g c =
     g.T.Component.any_infinite in
     let some = λ (n : ℕ). found (items_at (as_bytes n) c.args.place.document.now
     (slice_get (bytes_of_each c.args.place.buffers.now)) c.args.place.index) in
-    c.summary-in-Mat2.ensures
+    c.summary-in-Mat2.ensures ∙ ap found c.items_at-in-Mat2.ensures
     ∙ ap some (in_shape 1 c.args.shape _ shape.Mat2 c.in-Valid.is c.in-Mat2.is)
 
 pub returns-in-Mat3 : goal.returns-in-Mat3
@@ -69,7 +69,7 @@ returns-in-Mat3 g c =
     g.T.Component.any_infinite in
     let some = λ (n : ℕ). found (items_at (as_bytes n) c.args.place.document.now
     (slice_get (bytes_of_each c.args.place.buffers.now)) c.args.place.index) in
-    c.summary-in-Mat3.ensures
+    c.summary-in-Mat3.ensures ∙ ap found c.items_at-in-Mat3.ensures
     ∙ ap some (in_shape 1 c.args.shape _ shape.Mat3 c.in-Valid.is c.in-Mat3.is)
 
 pub returns-in-Mat4 : goal.returns-in-Mat4
@@ -78,5 +78,5 @@ returns-in-Mat4 g c =
     g.T.Component.any_infinite in
     let some = λ (n : ℕ). found (items_at (as_bytes n) c.args.place.document.now
     (slice_get (bytes_of_each c.args.place.buffers.now)) c.args.place.index) in
-    c.summary-in-Mat4.ensures
+    c.summary-in-Mat4.ensures ∙ ap found c.items_at-in-Mat4.ensures
     ∙ ap some (in_shape 1 c.args.shape _ shape.Mat4 c.in-Valid.is c.in-Mat4.is)

@@ -5,7 +5,7 @@ use Rattle.serde_json.specs.Data.{null}
 use Rattle.gltf_json_tokens.specs.Tokens.{data_at}
 use Rattle.gltf_json_tokens.specs.RunLaws.{data_at-alone}
 use Rattle.gltf_json_pull.specs.PullLaws.{not_null, there_member}
-use Rattle.gltf_json_pull.specs.TokenLaws.{not_null_token}
+use Rattle.gltf_json_pull.proofs.Tokens.{not_null_token}
 use Rattle.gltf_json_pull.proofs.pull.member.Goals as goal
 
 pub returns-in-Null : goal.returns-in-Null

@@ -15,7 +15,7 @@ returns g c =
     let name = c.args.name.now in
     let left : (c.step.new.rest ≡ c.args.rest.now) × (c.step.new.found ≡ c.args.found.now)
     × (is_one_of names name ≡ false) = rw c.if-took.false at c.in_ok-took.ensures in
-    let passed = c.in_ok-pass_next.ensures in
+    let passed = c.in_ok-pass.ensures in
     let some = λ (e : [] ≡ name). true≢false
     (ap (λ s. length s == 0) e ∙ sym c.is_empty.ensures ∙ c.if-is_empty.false) in (
       passed.0,

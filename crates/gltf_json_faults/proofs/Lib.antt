@@ -1,3 +1,0 @@
-mod Items
-mod Names
-mod Scalars
