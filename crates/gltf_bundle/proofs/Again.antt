@@ -1,5 +1,5 @@
 -- A document whose buffers became one is, edited once more, as it was.
-use Rattle.std.proofs.Common.{◌≡◌, ℕ, ◌+◌, List, [], ◌∷◌, Option, Some, None, option_map, codes}
+use Rattle.std.proofs.Common.{◌≡◌, ℕ, ◌+◌, List, Option, Some, None, option_map, codes}
 use Rattle.std.proofs.Common.{arith}
 use Rattle.std.proofs.Common.{refl, sym, ap, subst, ◌∙◌, unwrap_or, slice_get}
 use Rattle.std.specs.Prelude.{MatchOption, IsSome, option_and_then, ⊤}

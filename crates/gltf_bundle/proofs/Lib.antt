@@ -1,5 +1,8 @@
 pub mod Joins
+pub mod Written
 pub mod Parts
+pub mod Opened
+pub mod Tried
 pub mod Taken
 pub mod Uris
 pub mod Imported

@@ -1,5 +1,7 @@
--- Why a file was not bundled: for the clauses `refused` of `load`, `gather`, `join` and `bundle`.
-use Rattle.std.proofs.Common.{◌≡◌, ℕ, zero, suc, ◌+◌, ◌≤◌, ◌<◌, List, [], ◌∷◌, ◌++◌}
+-- Why a file was not bundled: for the clauses `refused` of `load`, `gather`, `places_of` and
+-- `bundle`.
+use Rattle.std.proofs.Common.{◌≡◌, ℕ, zero, suc, ◌+◌, ◌-◌, ◌%◌, ◌≤◌, ◌<◌, List, []}
+use Rattle.std.proofs.Common.{◌∷◌, ◌++◌}
 use Rattle.std.proofs.Common.{length, take, get_or, Option, subst, sym, ap, ◌∙◌, arith}
 use Rattle.std.proofs.Common.{inl, inr, length-append, Bool, false, codes}
 use Rattle.std.specs.declared.io.Error.{Error as IoError}
@@ -15,22 +17,22 @@ use Rattle.gltf_buffers.specs.Names.{Names, Gives}
 use Rattle.gltf.specs.Errors.{OutOfMemoryOr}
 use Rattle.gltf.specs.Files.{FailsOrRefuses, RefusesFileAt}
 use Rattle.gltf.specs.Import.{IsValidDocument, RefusesDocument, RefusesImport}
-use Rattle.gltf.specs.Shown.{bytes_of_each, blob_bytes}
+use Rattle.gltf.specs.Shown.{bytes_of_each}
 use Rattle.gltf_edit.specs.Bundled.{bundled, ArePlaced}
 use Rattle.gltf_edit.specs.Embedded.{embedded, items_at}
 use Rattle.gltf_edit.specs.Faults.{NamesStray, IsTooLong}
 use Rattle.gltf_edit.specs.Joined.{filled, joined, spans_from}
-use Rattle.gltf_edit.specs.JoinedLaws.{joined_last}
+use Rattle.gltf_edit.specs.JoinedLaws.{joined_last, length_filled}
 use Rattle.gltf_edit.specs.declared.fault.Fault.{Fault}
 use Rattle.gltf_edit.specs.declared.fault.Fault.TheVariants as fault
 use Rattle.gltf_edit.specs.declared.picture.Picture.{Picture}
 use Rattle.gltf_moved.specs.Laws.{moved_value}
-use Rattle.gltf_bundle.specs.Bundle.{IsSource, IsGathered, IsJoined, IsBundle, blob_of}
+use Rattle.gltf_bundle.specs.Bundle.{IsSource, IsGathered, ArePlaces, IsBundle, blob_of}
 use Rattle.gltf_bundle.specs.Causes.{of_fault}
 use Rattle.gltf_bundle.specs.Images.{RefusesImages}
 use Rattle.gltf_bundle.specs.Refusals.{RefusesSource, RefusesFile, RefusesBundle}
 use Rattle.gltf_bundle.specs.Refusals.{RefusesContainerOf, HasNoContainer}
-use Rattle.gltf_bundle.specs.declared.bundling.Joined.{Joined}
+use Rattle.gltf_bundle.specs.declared.joining.Places.{Places}
 use Rattle.gltf_bundle.specs.declared.error.BundleError.{BundleError}
 use Rattle.gltf_bundle.specs.declared.error.BundleError.TheVariants as bundle
 use Rattle.gltf_bundle.proofs.Joins.{each_more}
@@ -208,19 +210,17 @@ module _ (names : Names) (path : List ℕ) (keep : Bool) (old new : List Named) 
         fault = inl told.2;
       }
 
-  pub answer_refused : (all : Joined) → IsJoined whole all
+  pub answer_refused : (all : Places) → ArePlaces whole all
       → ArePlaced all.spans.items (embedded ps value) → (after : Data)
       → after ≡ bundled all.spans.items all.total (embedded ps value)
-      → (e : BundleError) → RefusesContainerOf after (blob_bytes all.blob) e
+      → (e : BundleError) → RefusesContainerOf after (blob_of whole) e
       → RefusesBundle names path keep old new e
   answer_refused all is placed after edited e told =
       let same : after ≡ moved_value whole ps value =
       edited ∙ (λ i. bundled (is.spans i) (is.total i) (embedded ps value)) in
       container_refused e
       (subst (λ spans. ArePlaced spans (embedded ps value)) is.spans placed)
-      (subst (λ (b : Option (List ℕ)).
-      RefusesContainerOf (moved_value whole ps value) b e) is.blob
-      (subst (λ (d : Data). RefusesContainerOf d (blob_bytes all.blob) e) same told))
+      (subst (λ (d : Data). RefusesContainerOf d (blob_of whole) e) same told)
 
 -- the container was made, and the import refuses it
 pub import_refused : (names : Names) (path : List ℕ) (keep : Bool) (answer : List ℕ) (e : Error)
@@ -254,18 +254,18 @@ no_longer (b ∷ buffers) (suc n) =
     let all = length-append (filled b.0.items) (joined (bytes_of_each buffers)) in
     omega arith
 
-pub with_one_more : (buffers : List Buffer) (i : ℕ) (b : Buffer) (bytes : List ℕ)
+pub with_one_more : (buffers : List Buffer) (i : ℕ) (b : Buffer) (total n : ℕ)
     → i < length buffers → b ≡ get_or buffers i b
-    → bytes ≡ joined (bytes_of_each (take i buffers))
-    → length bytes + length (filled b.0.items) ≤ length (joined (bytes_of_each buffers))
-with_one_more buffers i b bytes h is far =
+    → total ≡ length (joined (bytes_of_each (take i buffers))) → n ≡ length b.0.items
+    → total + (n + (8 - n % 8) % 8) ≤ length (joined (bytes_of_each buffers))
+with_one_more buffers i b total n h is far count =
     let before = bytes_of_each (take i buffers) in
     let after = bytes_of_each (take (i + 1) buffers) in
     let more : joined after ≡ joined before ++ filled b.0.items =
     ap joined (each_more buffers i b h is) ∙ joined_last before b.0.items in
     let long : length (joined after) ≡ length (joined before) + length (filled b.0.items) =
     ap (λ (xs : List ℕ). length xs) more ∙ length-append (joined before) (filled b.0.items) in
-    let here : length bytes ≡ length (joined before) = ap (λ (xs : List ℕ). length xs) far in
+    let here = length_filled b.0.items in
     let whole = no_longer buffers (i + 1) in
     omega arith
 

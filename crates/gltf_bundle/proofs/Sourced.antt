@@ -1,5 +1,5 @@
 -- What was loaded, and what is made of it.
-use Rattle.std.proofs.Common.{◌≡◌, ℕ, ◌≤◌, ◌<◌, ◌^◌, List, length, Option, Bool, sym, ap, subst}
+use Rattle.std.proofs.Common.{◌≡◌, ℕ, ◌≤◌, List, length, Option, Bool, sym, subst}
 use Rattle.std.proofs.Common.{◌∙◌, arith}
 use Rattle.std.proofs.Common.{◌++◌, false}
 use Rattle.serde_json.specs.Data.{Data, depth}
@@ -9,12 +9,10 @@ use Rattle.gltf_json.specs.Documents.{root}
 use Rattle.gltf_json.specs.Reading.{Reads}
 use Rattle.gltf_json.specs.declared.root.Root.{Root}
 use Rattle.gltf.specs.Laws.{OneTextAndBlob}
-use Rattle.gltf_glb.specs.Written.{container_bytes, total_of}
 use Rattle.gltf_names.specs.Named.{File}
 use Rattle.gltf_buffers.specs.Buffers.{sources_of, AreBytes}
 use Rattle.gltf_buffers.specs.Names.{Names, Gives}
 use Rattle.gltf.specs.Import.{IsValidDocument}
-use Rattle.gltf.specs.Shown.{blob_bytes}
 use Rattle.gltf_edit.specs.Bundled.{bundled, ArePlaced}
 use Rattle.gltf_edit.specs.DepthLaws.{bundled_depth}
 use Rattle.gltf_edit.specs.Embedded.{embedded}
@@ -22,9 +20,9 @@ use Rattle.gltf_edit.specs.EmbeddedLaws.{embedded_depth}
 use Rattle.gltf_edit.specs.Joined.{joined, spans_from}
 use Rattle.gltf_edit.specs.declared.picture.Picture.{Picture}
 use Rattle.gltf_moved.specs.Laws.{moved_value}
-use Rattle.gltf_bundle.specs.declared.bundling.Joined.{Joined}
-use Rattle.gltf_bundle.specs.Bundle.{IsValueOf, IsSource, IsGathered, IsJoined, IsContainerOf}
-use Rattle.gltf_bundle.specs.Bundle.{IsBundle}
+use Rattle.gltf_bundle.specs.declared.joining.Places.{Places}
+use Rattle.gltf_bundle.specs.Bundle.{IsValueOf, IsSource, IsGathered, ArePlaces, IsContainerOf}
+use Rattle.gltf_bundle.specs.Bundle.{IsBundle, blob_of}
 use Rattle.gltf_bundle.proofs.Parts.{one_value}
 
 pub loaded : OneTextAndBlob → (names : Names) (path bytes : List ℕ) → Gives names (File path) bytes
@@ -64,10 +62,10 @@ moved_depth all ps value nests =
 pub is_bundle : (names : Names) (path : List ℕ) (keep : Bool) (value : Data) (r : Root)
     (buffers images : List (List ℕ)) (ps : List (Option Picture))
     → IsGathered names path keep value r buffers images ps
-    → (all : Joined) → IsJoined (buffers ++ images) all
+    → (all : Places) → ArePlaces (buffers ++ images) all
     → ArePlaced all.spans.items (embedded ps value)
     → (after : Data) → after ≡ bundled all.spans.items all.total (embedded ps value)
-    → (answer : List ℕ) → IsContainerOf after (blob_bytes all.blob) answer
+    → (answer : List ℕ) → IsContainerOf after (blob_of (buffers ++ images)) answer
     → IsBundle names path keep answer
 is_bundle names path keep value r buffers images ps gathered all is placed after edited answer
     container =
@@ -90,9 +88,6 @@ is_bundle names path keep value r buffers images ps gathered all is placed after
       compact =
           subst (λ (d : Data). has_float d ≡ false → container.json ≡ compact_text d) same
           container.compact;
-      fits = subst (λ (b : Option (List ℕ)). total_of container.json b < 2 ^ 32) is.blob
-          container.fits;
-      written =
-          container.written
-          ∙ ap (λ (b : Option (List ℕ)). container_bytes container.json b) is.blob;
+      fits = container.fits;
+      written = container.written;
     }

@@ -20,8 +20,8 @@ use Rattle.gltf_names.specs.Named.{File}
 use Rattle.gltf_buffers.specs.Buffers.{sources_of, AreBytes}
 use Rattle.gltf_buffers.specs.Names.{Names, Gives}
 use Rattle.gltf.specs.Import.{AreParts, Accepts}
-use Rattle.gltf.specs.Shown.{blob_bytes, bytes_of_each}
-use Rattle.gltf_bundle.specs.declared.bundling.Joined.{Joined}
+use Rattle.gltf.specs.Shown.{bytes_of_each}
+use Rattle.gltf_bundle.specs.declared.joining.Places.{Places}
 use Rattle.gltf_bundle.specs.declared.loading.Loaded.{Loaded}
 use Rattle.gltf_bundle.specs.declared.loading.Gathered.{Gathered}
 use Rattle.gltf_bundle.specs.Images.{AreTaken}
@@ -71,8 +71,8 @@ abbrev pub blob_of : List (List ℕ) → Option (List ℕ)
 blob_of [] = None
 blob_of (bytes ∷ more) = Some (joined (bytes ∷ more))
 
-pub record IsJoined (buffers : List (List ℕ)) (all : Joined) : Type 0 where
-  pub blob : blob_bytes all.blob ≡ blob_of buffers
+-- where the bytes of buffers stand in one, and how many all are
+pub record ArePlaces (buffers : List (List ℕ)) (all : Places) : Type 0 where
   pub spans : all.spans.items ≡ spans_from 0 buffers
   pub total : all.total ≡ length (joined buffers)
   pub fits : length (joined buffers) < 2 ^ 32

@@ -1,27 +1,26 @@
 //! One container out of a file and the files that its buffers and images name.
-ghost use Rattle.std.specs.Prelude.{◌≡◌, IfOk, IfErr, OnOk, if◌then◌else◌, length};
+ghost use Rattle.std.specs.Prelude.{◌≡◌, IfOk, IfErr, OnOk, length};
 ghost use Rattle.gltf_buffers.specs.Names.{names_of};
-ghost use Rattle.gltf_bundle.specs.Bundle.{IsBundle, IsJoined, IsAccepted, IsContainerOf};
+ghost use Rattle.gltf_bundle.specs.Bundle.{IsBundle, IsAccepted, IsContainerOf, blob_of};
 ghost use Rattle.gltf_bundle.specs.Refusals.{RefusesBundle, RefusesContainerOf};
 ghost use Rattle.gltf_edit.specs.Bundled.{bundled, ArePlaced};
 ghost use Rattle.gltf_edit.specs.Embedded.{embedded};
-ghost use Rattle.gltf_edit.specs.Faults.{IsTooLong, NamesStray};
+ghost use Rattle.gltf_edit.specs.Faults.{NamesStray};
 ghost use Rattle.gltf_edit.specs.Joined.{joined};
-ghost use Rattle.gltf_glb.specs.Glb.{items_of};
-ghost use Rattle.gltf.specs.Shown.{blob_bytes, bytes_of_each};
+ghost use Rattle.gltf.specs.Shown.{bytes_of_each};
 ghost use Rattle.serde_json.specs.View.{view};
 
 use crate::error::BundleError;
+use crate::joining::{Places, joined_container, places_of};
 use crate::loading::{Gathered, gather};
 use crate::options::BundleOptions;
+use crate::trial::tried;
+use gltf::NamedBytes;
 use gltf::buffer::Data;
-use gltf::{NamedBytes, import_slice};
-use gltf_edit::{Fault, Picture, Span, append, bundled, embedded};
+use gltf_edit::{Fault, Picture, bundled, embedded};
 use gltf_glb::Error;
-use gltf_pack::container;
 use serde_json::Value;
 use std::alloc::Global;
-use std::borrow::CowSlice;
 
 /// The file at a path as one GLB container (glTF 2.0, section 4.4) that needs no other file, where
 /// files are asked of a source as [`gltf::import_from`] asks them.
@@ -65,12 +64,12 @@ pub fn bundle<S: NamedBytes>(
         pictures,
         buffers,
     } = gather(alloc, source, path, options.keep_images)?;
-    let joined = join(alloc, &buffers)?;
+    let places = places_of(alloc, &buffers)?;
+    let value = edited(alloc, value, &pictures, &places)?;
+    let answer = container_of(alloc, &value, &buffers, places.total)?;
     drop(buffers);
-    let value = edited(alloc, value, &pictures, &joined)?;
-    let answer = container_of(alloc, &value, joined.blob)?;
-    match import_slice(alloc, &answer) {
-        Ok(_) => Ok(answer),
+    match tried(alloc, &answer) {
+        Ok(()) => Ok(answer),
         Err(Error::Memory) => Err(BundleError::Import(Error::Memory)),
         Err(error) => Err(BundleError::Answer(error)),
     }
@@ -81,7 +80,7 @@ fn edited(
     alloc: Global,
     value: Value,
     pictures: &[Option<Picture>],
-    all: &Joined,
+    all: &Places,
 ) -> Result<Value, Fault>
     ensures value { IfOk result (λ v. view v
         ≡ bundled all.now.spans.items all.now.total (embedded pictures.now (view value))) }
@@ -94,66 +93,24 @@ fn edited(
     bundled(alloc, value, &all.spans, all.total)
 }
 
-/// The bytes of all buffers in one, where there are buffers, and where they stand there.
-#[derive(Drop)]
-struct Joined {
-    blob: Option<Vec<u8>>,
-    spans: Vec<Span>,
+/// The text of the value and the bytes of all buffers, joined, as a container.
+fn container_of(
+    alloc: Global,
+    value: &Value,
+    buffers: &[Data],
     total: u32,
-}
-
-/// Joins the bytes of all buffers.
-fn join(alloc: Global, buffers: &[Data]) -> Result<Joined, Fault>
-    ensures joined { IfOk result (IsJoined (bytes_of_each buffers.now)) }
-    ensures refused { IfErr result (IsTooLong (length (joined (bytes_of_each buffers.now)))) }
-{
-    let mut bytes = Vec::with_capacity(alloc, room_for(buffers))?;
-    let mut spans = Vec::with_capacity(alloc, buffers.len())?;
-    for buffer in buffers {
-        append(&mut bytes, &mut spans, &buffer.0)?;
-    }
-    let total = bytes.len() as u32;
-    let blob = unless(buffers.is_empty(), bytes);
-    Ok(Joined { blob, spans, total })
-}
-
-/// The bytes, unless there are to be none.
-fn unless(none: bool, bytes: Vec<u8>) -> Option<Vec<u8>>
-    ensures { blob_bytes result ≡ (if none then None else Some bytes.items) }
-{
-    if none { None } else { Some(bytes) }
-}
-
-/// Room for all bytes, so that memory is taken once.
-fn room_for(buffers: &[Data]) -> usize {
-    let mut room: usize = 0;
-    for buffer in buffers {
-        room = room.saturating_add(buffer.0.len()).saturating_add(7);
-    }
-    room.min(u32::MAX as usize)
-}
-
-/// The value's text and the blob as a container.
-fn container_of(alloc: Global, value: &Value, blob: Option<Vec<u8>>) -> Result<Vec<u8>, BundleError>
-    ensures written { IfOk result (λ answer. IsContainerOf (view value.now) (blob_bytes blob)
-        answer.items) }
-    ensures refused { IfErr result (RefusesContainerOf (view value.now) (blob_bytes blob)) }
+) -> Result<Vec<u8>, BundleError>
+    requires { total ≡ length (joined (bytes_of_each buffers.now)) }
+    ensures written { IfOk result (λ answer. IsContainerOf (view value.now)
+        (blob_of (bytes_of_each buffers.now)) answer.items) }
+    ensures refused { IfErr result (RefusesContainerOf (view value.now)
+        (blob_of (bytes_of_each buffers.now))) }
 {
     let written = value.to_string(alloc)?;
     let text = written.as_str();
-    match container(alloc, CowSlice::Borrowed(text.as_bytes()), owned(blob)) {
+    match joined_container(alloc, text.as_bytes(), buffers, total) {
         Ok(answer) => Ok(answer),
         Err(Error::Memory) => Err(BundleError::Import(Error::Memory)),
         Err(error) => Err(BundleError::Answer(error)),
-    }
-}
-
-/// The blob, owned.
-fn owned(blob: Option<Vec<u8>>) -> Option<CowSlice<'static, u8>>
-    ensures { items_of result ≡ blob_bytes blob }
-{
-    match blob {
-        Some(blob) => Some(CowSlice::Owned(blob)),
-        None => None,
     }
 }

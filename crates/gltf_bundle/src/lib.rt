@@ -4,10 +4,12 @@
 mod bundling;
 mod error;
 mod images;
+mod joining;
 pub mod laws;
 mod loading;
 mod media;
 mod options;
+mod trial;
 
 pub use bundling::bundle;
 pub use error::BundleError;

@@ -3,7 +3,7 @@
 mod drawing;
 mod glb;
 mod reading;
-mod writing;
+pub mod writing;
 
 pub use drawing::read_bytes;
 pub use glb::Glb;

@@ -1,6 +1,7 @@
-//! The bytes of a container out of its parts.
+//! The bytes of a container out of its parts (glTF 2.0, section 4.4).
 ghost use Rattle.std.specs.Prelude.{◌≡◌, ℕ, ◌+◌, ◌<◌, ◌^◌, ◌-◌, ◌%◌, ◌++◌, length, replicate};
-ghost use Rattle.std.specs.Prelude.{OnOk, OnErr, SomeIff, option_copied};
+ghost use Rattle.std.specs.Prelude.{OnOk, OnErr, SomeIff, None, option_copied};
+ghost use Rattle.std.specs.IoError.{error_kind, raw_os_error};
 ghost use Rattle.std.specs.Io.KnownBytes.{Appends};
 ghost use Rattle.gltf_glb.specs.Bytes.{magic, word, chunk, padded};
 ghost use Rattle.gltf_glb.specs.Written.{total_of, container_bytes};
@@ -10,10 +11,10 @@ use byteorder::{ByteOrder, LittleEndian};
 use gltf_stream::write_pieces;
 use std::alloc::AllocError;
 use std::io;
-use std::io::Write;
+use std::io::{ErrorKind, Write};
 
 /// How many bytes fill contents up to a multiple of four.
-fn padding_of(contents: &[u8]) -> usize
+pub fn padding_of(contents: &[u8]) -> usize
     ensures { result ≡ (4 - length contents.now % 4) % 4 }
 {
     (4 - contents.len() % 4) % 4
@@ -32,9 +33,9 @@ pub(crate) fn total_of(json: &[u8], bin: Option<&[u8]>) -> Option<u32>
     u32::try_from(total).ok()
 }
 
-/// The four bytes of a number.
+/// The four bytes of a number, the lowest first.
 #[tactic(auto, unfolding(crate::specs::Bytes::word))]
-fn word_of(number: u32) -> [u8; 4]
+pub fn word_of(number: u32) -> [u8; 4]
     ensures { result ≡ word number }
 {
     let mut bytes = [0; 4];
@@ -42,8 +43,8 @@ fn word_of(number: u32) -> [u8; 4]
     bytes
 }
 
-/// Adds a header.
-pub(crate) fn put_header(out: &mut Vec<u8>, total: u32) -> Result<(), AllocError>
+/// Adds the header of a container that has so many bytes (section 4.4.2).
+pub fn put_header(out: &mut Vec<u8>, total: u32) -> Result<(), AllocError>
     ensures { OnOk result (out.new.items ≡ out.old.items ++ (magic ++ (word 2 ++ word total))) }
 {
     out.extend_from_slice(b"glTF")?;
@@ -52,9 +53,9 @@ pub(crate) fn put_header(out: &mut Vec<u8>, total: u32) -> Result<(), AllocError
     Ok(())
 }
 
-/// Adds a chunk, filled up to a multiple of four bytes.
+/// Adds a chunk, filled up to a multiple of four bytes (section 4.4.3).
 #[tactic(auto, using(crate::specs::FillingLaws::length_padded))]
-pub(crate) fn put_chunk(
+pub fn put_chunk(
     out: &mut Vec<u8>,
     tag: [u8; 4],
     contents: &[u8],
@@ -73,10 +74,15 @@ pub(crate) fn put_chunk(
     Ok(())
 }
 
-/// A container would be longer than its header can say.
-pub(crate) fn too_long() -> io::Error {
+/// A container would be longer than its header can say: the error of [`crate::Glb::to_vec`] and of
+/// [`crate::Glb::to_writer`]. What a contract sees of an error is its kind, and that it is none of
+/// the system's.
+pub fn too_long() -> io::Error
+    ensures kind { error_kind result ≡ ErrorKind.InvalidInput }
+    ensures not_os { raw_os_error result ≡ None }
+{
     io::Error::new(
-        io::ErrorKind::InvalidInput,
+        ErrorKind::InvalidInput,
         "a GLB container has at most 4294967295 bytes",
     )
 }

@@ -6,7 +6,7 @@ pub returns-in-Ok-clause-written : goal.returns-in-Ok-clause-written
 returns-in-Ok-clause-written c =
     let text = c.as_bytes.result.now in
     let whole = c.as_bytes.ensures.value ∙ c.as_str-text.ensures.value in
-    let w = rw c.owned.ensures at c.in-Ok.ensures.written in
+    let w = c.in-Ok.ensures.written in
     record {
       json = text;
       reads = λ short. (

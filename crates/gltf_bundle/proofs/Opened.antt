@@ -1,0 +1,70 @@
+-- The layers of a file up to its document: for the contract of `document_of`.
+use Rattle.std.proofs.Common.{◌≡◌, ℕ, List, [], Option, None, true, inl, inr, refl, sym}
+use Rattle.std.proofs.Common.{subst}
+use Rattle.std.proofs.Common.{Ok, Err, Result, Vec, Global}
+use Rattle.std.specs.Prelude.{nat_eq, MatchBool, IfOk}
+use Rattle.std.specs.List.{starts_with}
+use Rattle.serde_json.specs.Data.{Data}
+use Rattle.gltf_glb.specs.Bytes.{magic}
+use Rattle.gltf_glb.specs.Causes.{from_json}
+use Rattle.gltf_glb.specs.Container.{IsContainer}
+use Rattle.gltf_glb.specs.declared.error.Error.{Error}
+use Rattle.gltf_glb.specs.declared.error.Error.TheVariants as error
+use Rattle.gltf_json.specs.Documents.{root}
+use Rattle.gltf_json.specs.Reading.{Reads, Refuses}
+use Rattle.gltf_json.specs.declared.root.Root.{Root}
+use Rattle.gltf_json_record.specs.declared.error.Error as json
+use Rattle.gltf_json_record.specs.declared.error.Error.TheVariants.{Memory}
+use Rattle.gltf_validation.specs.Documents.{Faults}
+use Rattle.gltf.specs.Errors.{OutOfMemoryOr, TellsRules}
+use Rattle.gltf.specs.Import.{AreParts, IsDocument, IsValidDocument, RefusesContainer}
+use Rattle.gltf.specs.Import.{RefusesDocument}
+use Rattle.gltf.specs.Laws.{OneTextAndBlob}
+use Rattle.gltf.specs.Shown.{blob_bytes}
+
+or_memory : (P : Error → Type 0) (e : Error) → P e → OutOfMemoryOr P e
+or_memory P error.Memory p = tt
+or_memory P _ p = p
+
+pub container_told : (bytes : List ℕ) (e : Error) → RefusesContainer bytes e
+    → OutOfMemoryOr (RefusesDocument bytes) e
+container_told bytes e told = or_memory (RefusesDocument bytes) e (inl (inl told))
+
+pub text_told : (bytes text : List ℕ) (blob : Option (List ℕ)) (cause : json.Error)
+    → AreParts bytes text blob → Refuses text cause
+    → OutOfMemoryOr (RefusesDocument bytes) (from_json cause)
+text_told bytes text blob Memory parts told = tt
+text_told bytes text blob cause parts told = inl (inr (record {
+  text = text;
+  blob = blob;
+  parts = parts;
+  cause = cause;
+  names = refl;
+  not_memory = λ is. cc;
+  fails = told;
+}))
+
+pub rules_told : (bytes : List ℕ) (r : Root) (blob : Option (List ℕ)) (e : Error)
+    → IsDocument bytes r blob → OutOfMemoryOr (TellsRules r) e
+    → OutOfMemoryOr (RefusesDocument bytes) e
+rules_told bytes r blob error.Memory document told = tt
+rules_told bytes r blob e document told =
+    or_memory (RefusesDocument bytes) e
+    (inr (record { root = r; blob = blob; document = document; fails = told }))
+
+pub is_document : (bytes text : List ℕ) (blob : Option (List ℕ)) (r : Root)
+    → AreParts bytes text blob → ((d : Data) × Reads text d × root.is d r)
+    → IsDocument bytes r blob
+is_document bytes text blob r parts read = record {
+  text = text;
+  value = read.0;
+  parts = parts;
+  reads = read.1;
+  records = read.2;
+}
+
+pub is_valid : (bytes : List ℕ) (blob : Option (List ℕ)) (r s : Root) → IsDocument bytes r blob
+    → s ≡ r → Faults r ≡ [] → IsValidDocument bytes s blob
+is_valid bytes blob r s document same rules =
+    subst (λ (x : Root). IsValidDocument bytes x blob) (sym same)
+    (record { document = document; rules = rules })

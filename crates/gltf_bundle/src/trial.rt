@@ -1,0 +1,57 @@
+//! Whether bytes that were made are accepted.
+ghost use Rattle.std.specs.Prelude.{◌≡◌, ℕ, List, true, map, length, OnOk, IfOk, IfErr};
+ghost use Rattle.gltf_bundle.specs.Bundle.{IsAccepted};
+ghost use Rattle.gltf_buffers.specs.Buffers.{AreBytes, source_of};
+ghost use Rattle.gltf_buffers.specs.Names.{Nowhere};
+ghost use Rattle.gltf_glb.specs.Glb.{items_of};
+ghost use Rattle.gltf.specs.Errors.{OutOfMemoryOr};
+ghost use Rattle.gltf.specs.Import.{IsValidDocument, RefusesDocument, RefusesImport};
+
+use gltf::{Document, owned_blob, text_and_blob};
+use gltf_buffers::{NoNames, read_buffers};
+use gltf_glb::Result;
+use gltf_json::buffer::Buffer;
+use gltf_json_deserialize::deserialize;
+use std::alloc::Global;
+use std::borrow::CowSlice;
+
+/// Tries bytes as [`gltf::import_slice`] does, with the same error. Where the one buffer is the
+/// blob, nothing but its length decides, so that it is not copied.
+pub(crate) fn tried(alloc: Global, bytes: &[u8]) -> Result<()>
+    ensures accepted { OnOk result (IsAccepted bytes.now) }
+    ensures refused { IfErr result (OutOfMemoryOr (RefusesImport bytes.now)) }
+{
+    let (document, blob) = document_of(alloc, bytes)?;
+    let buffers = document.as_json().buffers.as_slice();
+    if is_the_one(buffers, &blob) {
+        return Ok(());
+    }
+    let blob = owned_blob(alloc, blob)?;
+    read_buffers(alloc, buffers, &mut NoNames, blob)?;
+    Ok(())
+}
+
+/// The document of a file, as [`gltf::Gltf::from_slice`] makes it, and the blob, which is lent.
+fn document_of(alloc: Global, bytes: &[u8]) -> Result<(Document, Option<CowSlice<'_, u8>>)>
+    ensures valid { IfOk result (λ read. IsValidDocument bytes.now read.0 (items_of read.1)) }
+    ensures refused { IfErr result (OutOfMemoryOr (RefusesDocument bytes.now)) }
+{
+    let (text, blob) = text_and_blob(bytes)?;
+    let root = deserialize::from_slice(alloc, text.as_slice())?;
+    let document = Document::from_json(alloc, root)?;
+    Ok((document, blob))
+}
+
+/// Whether there is one buffer, which has no URI and no more bytes than the blob.
+fn is_the_one(buffers: &[Buffer], blob: &Option<CowSlice<'_, u8>>) -> bool
+    ensures { result ≡ true → (all : List (List ℕ)) × AreBytes Nowhere (map source_of buffers.now)
+        (items_of blob.now) (length (map source_of buffers.now)) all }
+{
+    let Some(blob) = blob else {
+        return false;
+    };
+    match buffers {
+        [buffer] => buffer.uri.is_none() && buffer.byte_length <= blob.as_slice().len() as u64,
+        _ => false,
+    }
+}
