@@ -201,6 +201,18 @@ def cut(call, file, shrinks, room, library):
                 (own, found) if number else own)
 
 
+def lacks(call, file, lacking, room, library):
+    """A file that the system has no memory for, when it is opened and when it is read: that is a
+    failed read of this file, which is named, and not want of memory here."""
+    for way in ("open", "read"):
+        before = state(room)
+        got = ran(call, call.on(file), room, env={
+            "LD_PRELOAD": library, "LACKS_FILE": str(room / lacking), "LACKS_CALL": way})
+        good = (got.returncode == call.status and is_line(got.stderr, lacking)
+                and got.stderr != b"out of memory\n" and state(room) == before)
+        RESULTS.row(f"{call.shown} {file}, where {way} has no memory for {lacking}", good, got)
+
+
 # ---- What is printed.
 
 def is_container(data):
@@ -377,7 +389,7 @@ def fill(room):
     room.chmod(0o777)
 
 
-def read_rows(call, room, library):
+def read_rows(call, room, libraries):
     for file in ("folder", "locked", "missing", LONG):
         refuses(call, file, room)
     for file in ("/dev/zero", "/dev/full"):
@@ -385,12 +397,14 @@ def read_rows(call, room, library):
     from_null(call, room)
     for file in ("in.glb", "large.glb", "short.glb", "empty.glb"):
         from_pipe(call, file, room)
-    if library is None:
-        RESULTS.not_tried(f"{call.shown} of files that are cut", "there is no rt")
+    if libraries is None:
+        RESULTS.not_tried(f"{call.shown} of files that are cut", "there is no compiler")
         return
-    cut(call, "cut.glb", "cut.glb", room, library)
+    cut(call, "cut.glb", "cut.glb", room, libraries["cut"])
+    lacks(call, "in.glb", "in.glb", room, libraries["lacks"])
     if call.name != "gltf_repack":
-        cut(call, "outside.gltf", "outside.bin", room, library)
+        cut(call, "outside.gltf", "outside.bin", room, libraries["cut"])
+        lacks(call, "outside.gltf", "outside.bin", room, libraries["lacks"])
 
 
 def write_rows(call, room):
@@ -401,10 +415,10 @@ def write_rows(call, room):
     on_read_only_disk(call, room)
 
 
-def library_in(place):
-    """The library that cuts files; None where the toolchain is not there."""
+def libraries_in(place):
+    """The libraries that cut files and that fail their reads; None where no compiler is there."""
     try:
-        return preload.library("cut", place)
+        return {name: preload.library(name, place) for name in ("cut", "lacks")}
     except (OSError, subprocess.CalledProcessError, IndexError):
         return None
 
@@ -417,9 +431,9 @@ def main():
         room = place / "room"
         room.mkdir()
         fill(room)
-        library = library_in(place)
+        libraries = libraries_in(place)
         for call in CALLS:
-            read_rows(call, room, library)
+            read_rows(call, room, libraries)
             for rows in (to_full, to_nobody, to_nothing, prints_to_full_disk):
                 rows(call, room)
         for call in WRITERS:

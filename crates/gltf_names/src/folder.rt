@@ -10,12 +10,14 @@ use crate::name::{Name, NamedBytes, NamedFault};
 use gltf_stream::{PIECE, ReadFault, read_to_end};
 use std::alloc::{AllocError, Global};
 use std::fs::{File, OpenFile};
-use std::io;
 use std::io::Read;
 use std::rt::Files;
 
 /// Files by name: [`Name::File`] as it stands, [`Name::Relative`] after the base, but one that
 /// begins with `/` as it stands.
+///
+/// What the system reports of an open or a read, want of memory too, is a failed read with its name;
+/// out of memory is answered only where there was no room for the bytes here.
 ///
 /// It looks at no name: `..` leads out of the folder, and what is there is read to its end, also a
 /// device that has none. For names that are not trusted, write a source that looks at them.
@@ -47,7 +49,7 @@ impl<'a, R: Files> Folder<'a, R> {
                 let size = file.metadata().map_or(0, |about| about.len());
                 all_of(alloc, &mut file, size)
             }
-            Err(cause) => Err(fault_of(cause)),
+            Err(cause) => Err(NamedFault::Io(cause)),
         }
     }
 }
@@ -102,7 +104,7 @@ fn all_of<R: Read>(alloc: Global, reader: &mut R, size: u64) -> Result<Vec<u8>, 
     match read_to_end(reader, &mut bytes) {
         Ok(()) => Ok(bytes),
         Err(ReadFault::Ended) => unreachable!(),
-        Err(ReadFault::Failed(cause)) => Err(fault_of(cause)),
+        Err(ReadFault::Failed(cause)) => Err(NamedFault::Io(cause)),
         Err(ReadFault::Memory) => Err(NamedFault::Memory),
     }
 }
@@ -110,11 +112,4 @@ fn all_of<R: Read>(alloc: Global, reader: &mut R, size: u64) -> Result<Vec<u8>, 
 /// Room for so many bytes, and for the read after the last of them that finds the end.
 fn room_for(size: u64) -> usize {
     size.saturating_add(PIECE as u64) as usize
-}
-
-fn fault_of(cause: io::Error) -> NamedFault {
-    match cause.kind() {
-        io::ErrorKind::OutOfMemory => NamedFault::Memory,
-        _ => NamedFault::Io(cause),
-    }
 }
