@@ -78,7 +78,8 @@ check:
 case:
 	@python3 tools/case.py
 
-# Each in turn. WORDS are passed on, as in `make bench NAME=peers WORDS=--quick`.
+# Each in turn. WORDS are passed on, as in `make bench NAME=peers WORDS=--quick`. What needs words is
+# not among them: `make bench NAME=inputs WORDS="OLD NEW"`.
 BENCHES += profile memory inspect
 bench:
 	@for it in $(or $(NAME),$(BENCHES)); do \

@@ -61,9 +61,8 @@ def over_one_buffer(buffer, views, accessors, **members):
     return {name: spelled(value) for name, value in lists.items()}
 
 
-def many_records(divisor, pretty=False):
-    """Accessors with bounds, views, and nodes below one root."""
-    count = 79_000 // divisor
+def records(count, pretty=False):
+    """So many accessors with bounds, as many views, and as many nodes below one root."""
     data = "data:application/octet-stream;base64," + base64.b64encode(bytes(384)).decode()
     bounds = {"min": [-0.5, -0.5, -0.5], "max": [0.5, 0.5, 0.5]}
     node = {"mesh": 0, "name": "node @", "translation": [0.5, 1.25, -3.0],
@@ -83,8 +82,12 @@ def many_records(divisor, pretty=False):
     return document(members, pretty)
 
 
+def many_records(divisor):
+    return records(79_000 // divisor)
+
+
 def pretty_records(divisor):
-    return many_records(divisor, pretty=True)
+    return records(79_000 // divisor, pretty=True)
 
 
 def accessors(divisor):
@@ -103,13 +106,27 @@ class Blob:
     def __init__(self):
         self.bytes, self.views, self.accessors = bytearray(), [], []
 
-    def add(self, items, count, kind, component=FLOAT, **more):
-        """The index of a new accessor over new bytes."""
+    def view(self, items):
+        """The index of a new view of new bytes."""
         self.views.append((len(self.bytes), len(items)))
         self.bytes += items + bytes(-len(items) % 4)
-        self.accessors.append({"bufferView": len(self.views) - 1, "componentType": component,
-                               "count": count, "type": kind, **more})
+        return len(self.views) - 1
+
+    def over(self, view, count, kind, component=FLOAT, **more):
+        """The index of a new accessor over a view."""
+        self.accessors.append({"bufferView": view, "componentType": component, "count": count,
+                               "type": kind, **more})
         return len(self.accessors) - 1
+
+    def add(self, items, count, kind, component=FLOAT, **more):
+        """The index of a new accessor over new bytes."""
+        return self.over(self.view(items), count, kind, component, **more)
+
+    def file(self, **members):
+        """A container of a document with these accessors and other members."""
+        buffer = {"byteLength": len(self.bytes)}
+        text = document(over_one_buffer(buffer, self.views, self.accessors, **members))
+        return container(text, self.bytes)
 
 
 def skinned_mesh(blob, count, joint_count, target_count):
@@ -160,11 +177,9 @@ def character(divisor):
     skin = {"joints": list(range(joint_count)), "skeleton": 0,
             "inverseBindMatrices": blob.add(binds, joint_count, "MAT4")}
     moves = [animation(blob, f"move {k}", joint_count, 30) for k in range(max(60 // divisor, 1))]
-    members = over_one_buffer(
-        {"byteLength": len(blob.bytes)}, blob.views, blob.accessors,
+    return blob.file(
         nodes=[*joints, {"mesh": 0, "skin": 0}], scenes=[{"nodes": [0, joint_count]}], scene=0,
         meshes=[mesh], skins=[skin], animations=moves, materials=[{"name": "skin"}])
-    return container(document(members), bytes(blob.bytes))
 
 
 def large(divisor, **uri):

@@ -36,9 +36,9 @@ def below(*names):
     return order
 
 
-def program(name):
-    """Where the program of a crate is, once it is built."""
-    return TOP / "crates" / name / "out" / name
+def program(name, top=TOP):
+    """Where the program of a crate is, once it is built, in this checkout or in another one."""
+    return top / "crates" / name / "out" / name
 
 
 def is_fresh(name):

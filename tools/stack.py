@@ -1,7 +1,7 @@
 #!/usr/bin/env python3
 """Measures the stack that the programs and the calls of the library for C take, on files that go as
-deep as the format lets them: 126 levels of JSON in many places, a chain of 100,000 nodes, lists of
-100,000 elements, 200,000 broken rules.
+deep as the format lets them: 126 levels of JSON in many places, 127 levels and a fault of a record
+before or behind them, a chain of 100,000 nodes, lists of 100,000 elements, 200,000 broken rules.
 
     stack.py             each program gives the same answer with PROGRAM KiB of stack as with 8 MiB,
                          and all calls of the library are made in threads of THREAD KiB
@@ -64,6 +64,15 @@ def deep(is_list):
     return f'{{"asset":{{"version":"2.0",{kept(2)}}},{records},{mesh},{kept(1)}}}'
 
 
+def faulty(is_before):
+    """A text as deep as is accepted, 127 levels, in extras and in an extension that nobody knows,
+    and a fault of a record before these or behind them."""
+    values = [f'"extras":{nested(126, True)},"extensions":{{"EXT_mark":{nested(125, False)}}}']
+    fault = ['"nodes":[{"mesh":"0"}]']
+    members = fault + values if is_before else values + fault
+    return f'{{"asset":{{"version":"2.0"}},{",".join(members)}}}'
+
+
 def document(**members):
     return json.dumps({"asset": {"version": "2.0"}, **members}, separators=(",", ":"))
 
@@ -79,6 +88,8 @@ def texts():
     return {
         "deep_lists": deep(True),
         "deep_objects": deep(False),
+        "fault_before_deep": faulty(True),
+        "fault_behind_deep": faulty(False),
         "too_deep": f'{{"asset":{{"version":"2.0"}},"extras":{nested(200_000, True)}}}',
         "chain": chain(),
         "loop": chain(children=[0]),

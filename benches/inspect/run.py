@@ -9,7 +9,6 @@ alternate between the calls. The memory is the most that a process had. The fact
 Exit status: 0; 1 where a call does not end as it has to."""
 import argparse
 import multiprocessing
-import os
 import pathlib
 import subprocess
 import sys
@@ -21,6 +20,7 @@ sys.path[:0] = [str(HERE.parent), str(HERE.parent.parent / "tools")]
 
 import crates
 from make_files import FLOAT, container, document, floats, over_one_buffer, spelled
+from processes import ended
 
 CALLS = {"check": ["check"], "inspect": ["inspect"], "inspect --json": ["inspect", "--json"]}
 BOUNDS = {"min": [0, 0, 0], "max": [0.999, 0.999, 0.999]}
@@ -74,12 +74,11 @@ def ran(program, words, path):
     """The processor time in seconds, the most memory in bytes, and the last line of a call."""
     with subprocess.Popen([program, *words, path], stdout=subprocess.PIPE) as process:
         out = process.stdout.read()
-        _, status, usage = os.wait4(process.pid, 0)
-        process.returncode = os.waitstatus_to_exitcode(status)
+        seconds, memory = ended(process)
     if process.returncode:
         print(f"inspect: {words} ends with {process.returncode}: {out[:300]!r}", file=sys.stderr)
         sys.exit(1)
-    return usage.ru_utime + usage.ru_stime, usage.ru_maxrss * 1024
+    return seconds, memory
 
 
 def row(program, name, path, runs):
