@@ -1,14 +1,13 @@
 #!/usr/bin/env python3
-"""Builds the library for C and tries it: `make c`, and, after `rt ci`, `make test`.
+"""Builds the library for C and tries it: `make c`, and a part of `make test`.
 
-The prover proves `crates/gltf_c` before a byte of it is built: the exports, over the calls in
-`crates/gltf_c_calls` and `gltf_c_rooms`. `out/c/libgltf.a` is that library, the few lines of C in
-`c/gltf_shim.c` and those of the toolchain over malloc, joined, and shows the calls of `c/gltf.h`
-alone.
-`out/c/libgltf.so` is the same as a shared library.
+`rt lib` proves `crates/gltf_c` before a byte of it is built: the exports, over the calls in
+`crates/gltf_c_calls` and `gltf_c_rooms`; and before that the crates below it, where they have
+changed. `out/c/libgltf.a` is that library, the few lines of C in `c/gltf_shim.c` and those of the
+toolchain over malloc, joined, and shows the calls of `c/gltf.h` alone. `out/c/libgltf.so` is the
+same as a shared library.
 
-With the word `after-ci` it uses the libraries as `rt ci` left them, and proves only the exports
-again. With `--long` the tests take more files and more turns, some forty minutes.
+With `--long` the tests take more files and more turns, some forty minutes.
 
 A test whose tool is not there is reported as not tried, and counts neither as passed nor as failed.
 The last line is `N passed, M failed`."""
@@ -39,32 +38,14 @@ def ran(*words, **how):
 
 
 def kit():
+    """The folder of the toolchain, which has libraries to link with."""
     return pathlib.Path(ran("rt", "doc").strip()).parent
 
 
-def build(after_ci):
-    """The archive of the crate."""
-    archive = CRATE / "out" / "libgltf_c.a"
-    if not after_ci:
-        subprocess.run(["rt", "lib"], cwd=CRATE, check=True)
-        return archive
-    listed, top = crates.listed(), crates.TOP / "crates"
-    of_kit = ["std", *(name for name in listed["gltf_c"] if name not in listed)]
-    words = ["--crate-name", "gltf_c", "src/lib.rt", "-L", f"dependency={kit()}/rlibs"]
-    for name in dict.fromkeys(of_kit):
-        words += ["--extern", f"{name}={kit()}/rlibs/{name}.rlib"]
-    for name in listed["gltf_c"]:
-        if name in listed:
-            words += ["--extern", f"{name}={top}/{name}/out/rlib/{name}.rlib"]
-    for name in crates.below("gltf_c")[:-1]:
-        words += ["-L", f"dependency={top}/{name}/out/rlib"]
-    words += ["--antt-project", f"{kit()}/rattle/logic/antt-project.json"]
-    words += ["--logic-built", f"{kit()}/logic_built", "--jobs", "2", "--links", "gltf_c="]
-    words += ["--crate-type", "staticlib", "--toolchain", f"{kit()}/toolchain"]
-    (CRATE / "out").mkdir(exist_ok=True)
-    words += ["--backend", "llvm", "-o", archive]
-    ran(f"{kit()}/bin/rattle", "build", *words, cwd=CRATE)
-    return archive
+def build():
+    """The archive of the crate, proved."""
+    subprocess.run(["rt", "lib"], cwd=CRATE, check=True)
+    return CRATE / "out" / "libgltf_c.a"
 
 
 def join(archive):
@@ -100,7 +81,7 @@ def share():
 def main():
     import c_tests
 
-    join(build("after-ci" in sys.argv[1:]))
+    join(build())
     share()
     results = c_tests.results("--long" in sys.argv[1:])
     print(f"{results.count(True)} passed, {results.count(False)} failed")

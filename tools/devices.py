@@ -398,7 +398,7 @@ def read_rows(call, room, libraries):
     for file in ("in.glb", "large.glb", "short.glb", "empty.glb"):
         from_pipe(call, file, room)
     if libraries is None:
-        RESULTS.not_tried(f"{call.shown} of files that are cut", "there is no compiler")
+        RESULTS.not_tried(f"{call.shown} of files that are cut", "there is no cc")
         return
     cut(call, "cut.glb", "cut.glb", room, libraries["cut"])
     lacks(call, "in.glb", "in.glb", room, libraries["lacks"])
@@ -416,10 +416,10 @@ def write_rows(call, room):
 
 
 def libraries_in(place):
-    """The libraries that cut files and that fail their reads; None where no compiler is there."""
+    """The libraries that cut files and that fail their reads; None where there is no C compiler."""
     try:
         return {name: preload.library(name, place) for name in ("cut", "lacks")}
-    except (OSError, subprocess.CalledProcessError, IndexError):
+    except (OSError, subprocess.CalledProcessError):
         return None
 
 
