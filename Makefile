@@ -40,6 +40,7 @@ help:
 	@echo '  make coverage [FILES=400]                  says which code of that library the fuzzer reaches'
 	@echo '  make wrong [NAME=CRATE]                    tries the wrong bodies of a crate'
 	@echo '  make bench [NAME=NAME] [WORDS=..]          runs a benchmark of benches/, or all of them'
+	@echo '  make cost [NAME=CRATE] [WORDS=--write]     times the proof, tests and wrong bodies of each crate'
 	@echo '  make test                                  the gate: all proofs and all tests'
 
 show:
@@ -138,5 +139,8 @@ coverage:
 wrong:
 	@tools/wrong.sh $(NAME)
 
+cost:
+	@python3 tools/cost.py $(NAME) $(WORDS)
+
 .PHONY: help show prove c install uninstall dist deb reference check case bench test wrong python
-.PHONY: wheel rust packages many fuzz soak peers devices memory stack coverage
+.PHONY: wheel rust packages many fuzz soak peers devices memory stack coverage cost

@@ -36,6 +36,12 @@ def below(*names):
     return order
 
 
+def has_tests(name):
+    """Whether a crate has test functions."""
+    sources = (TOP / "crates" / name / "src").rglob("*.rt")
+    return any("#[test]" in file.read_text(encoding="utf-8") for file in sources)
+
+
 def program(name, top=TOP):
     """Where the program of a crate is, once it is built, in this checkout or in another one."""
     return top / "crates" / name / "out" / name

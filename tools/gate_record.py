@@ -12,7 +12,8 @@ import tempfile
 import crates
 
 RECORD = crates.TOP / "out" / "gate.json"
-# The page that the gate itself writes, after its tests: trees that differ in it alone are the same.
+# The page of what the gate costs, which is written after the tests: trees that differ in it alone
+# are the same.
 PAGE = "docs/GATE.md"
 
 

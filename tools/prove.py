@@ -32,13 +32,8 @@ def calls(crate, asked):
     the examples, a library is built, and the crate that is asked for is checked, and its tests
     run."""
     if crate == asked:
-        return [["check"], ["test"]] if has_tests(crate) else [["check"]]
+        return [["check"], ["test"]] if crates.has_tests(crate) else [["check"]]
     return [["run", "--", *WORDS[crate]] if crate in WORDS else ["lib"]]
-
-
-def has_tests(crate):
-    sources = (crates.TOP / "crates" / crate / "src").rglob("*.rt")
-    return any("#[test]" in file.read_text(encoding="utf-8") for file in sources)
 
 
 def prove(crate, asked, log):
