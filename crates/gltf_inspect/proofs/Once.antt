@@ -7,7 +7,7 @@ use Rattle.gltf_findings.specs.declared.code.Code.{Code}
 use Rattle.gltf_findings.specs.Checks.{told_after}
 use Rattle.gltf_inspect_nodes.specs.Hierarchies.{AreNamedOnce}
 use Rattle.gltf_inspect_nodes.specs.Named.{all_named, children_of}
-use Rattle.gltf_inspect_nodes.proofs.Once.{OnceAfter, first_part, last_part}
+use Rattle.gltf_inspect_nodes.specs.OnceLaws.{OnceAfter, first_part, last_part}
 use Rattle.gltf_inspect.specs.Parents.{is_named_before, children_checks, parents_checks}
 
 children_told : (count : ℕ) (before : List ℕ) (k : ℕ) (children : List ℕ)

@@ -13,6 +13,7 @@ use Rattle.gltf_inspect_nodes.specs.Named.{is_named, all_named}
 use Rattle.gltf_inspect_nodes.specs.Graphs.{unique_checks, node_key, node_told, uniques_checks}
 use Rattle.gltf_inspect_nodes.specs.Marks.{is_marked, marked, are_new, are_all_new, AreMarks}
 use Rattle.gltf_inspect_nodes.specs.Hierarchies.{AreNamedOnce}
+use Rattle.gltf_inspect_nodes.specs.OnceLaws.{OnceAfter, first_part, last_part}
 use Rattle.gltf_inspect_nodes.proofs.Marking.{one-more}
 
 -- ---- by marks
@@ -58,25 +59,7 @@ pub named-once : (count : ℕ) (marks : List Bool) (ks : List ℕ) → AreMarks 
 named-once count marks ks h new before after k e =
     once_from count [] marks before after k h (subst (λ xs. are_new marks xs ≡ true) e new)
 
--- ---- parts of what is named once
-
--- no number below count stands there twice, or was seen before
-abbrev pub OnceAfter : ℕ → List ℕ → List ℕ → Type 0
-OnceAfter count seen ks =
-    (before after : List ℕ) (k : ℕ) → ks ≡ before ++ (k ∷ after)
-    → is_named count (seen ++ before) k ≡ false
-
-pub first_part : (count : ℕ) (seen xs ys : List ℕ) → OnceAfter count seen (xs ++ ys)
-    → OnceAfter count seen xs
-first_part count seen xs ys h before after k e =
-    h before (after ++ ys) k (ap (λ zs. zs ++ ys) e ∙ append_assoc before (k ∷ after) ys)
-
-pub last_part : (count : ℕ) (seen xs ys : List ℕ) → OnceAfter count seen (xs ++ ys)
-    → OnceAfter count (seen ++ xs) ys
-last_part count seen xs ys h before after k e =
-    rw (append_assoc seen xs before)
-    (h (xs ++ before) after k
-    (ap (λ zs. xs ++ zs) e ∙ sym (append_assoc xs before (k ∷ after))))
+-- ---- what was seen before does not matter
 
 and_last : (a b c : Bool) → (a && (b || c)) ≡ false → (a && c) ≡ false
 and_last true true c h = cc

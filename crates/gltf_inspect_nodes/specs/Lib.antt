@@ -6,3 +6,4 @@ pub mod ViewMarks
 pub mod Roots
 pub mod Orders
 pub mod Hierarchies
+pub mod OnceLaws
