@@ -15,6 +15,8 @@ import tempfile
 sys.dont_write_bytecode = True
 
 import crates
+import graphs
+from graphs import ROOTED, apart, nodes
 
 U8, U16, U32, FLOAT = 5121, 5123, 5125, 5126
 
@@ -314,11 +316,6 @@ ROWS += [
 ]
 
 
-def nodes(*nodes, **members):
-    return {"nodes": [*nodes], **members}
-
-
-ROOTED = {"extras": "a root"}
 CHILD = [("SCENE_NON_ROOT_NODE", "/scenes/0/nodes/1")]
 # The nodes of scenes are roots (3.5.1).
 ROWS += [
@@ -345,62 +342,8 @@ ROWS += [
 ]
 
 
-def loops(*nodes):
-    return [("NODE_LOOP", f"/nodes/{i}") for i in nodes]
-
-
-def apart(*skins):
-    return [("SKIN_NO_COMMON_ROOT", f"/skins/{i}/joints") for i in skins]
-
-
-def chain(n):
-    """Nodes of which each is the child of the one before."""
-    return [{"children": [i + 1]} for i in range(n - 1)] + [ROOTED]
-
-
-def skins(*joints):
-    return {"skins": [{"joints": them} for them in joints]}
-
-
-# Nodes on loops (3.5.2), and the common roots of joints (3.7.3.2).
-ROWS += [
-    (nodes(*chain(1000)), []),
-    (nodes({"children": [0]}), loops(0)),
-    (nodes({"children": [1]}, {"children": [0]}), loops(0, 1)),
-    (nodes({"children": [1]}, {"children": [2]}, {"children": [0]}), loops(0, 1, 2)),
-    (nodes({"children": [1, 3]}, {"children": [2]}, {"children": [0]}, ROOTED), loops(0, 1, 2)),
-    (nodes({"children": [1]}, ROOTED, {"children": [2]}), loops(2)),
-    (nodes(*chain(5), **skins([4, 2], [0, 1])), []),
-    (nodes(*chain(3), ROOTED, **skins([2, 0], [2, 3], [3])), apart(1)),
-    (nodes({"children": [1, 2]}, ROOTED, {"children": [3]}, ROOTED, **skins([1, 3], [3, 2, 1])), []),
-    (nodes(ROOTED, ROOTED, **skins([0, 1], [1, 1, 0])),
-     apart(0, 1) + [("DUPLICATE_ELEMENTS", "/skins/1/joints/1")]),
-]
-
-
-def skeleton(joints, node):
-    return {"joints": joints, "skeleton": node}
-
-
-def astray(*skins):
-    return [("SKIN_SKELETON_INVALID", f"/skins/{i}/skeleton") for i in skins]
-
-
-FORK = [{"children": [1, 2]}, {"children": [3]}, ROOTED, {"children": [4]}, ROOTED]
-# The skeleton is each joint or above it (3.7.3.2).
-ROWS += [
-    (nodes(*chain(5), skins=[skeleton([2, 3, 4], node) for node in range(5)]), astray(3, 4)),
-    (nodes(*FORK, skins=[skeleton([3, 4], node) for node in range(5)]), astray(2, 4)),
-    (nodes(*FORK, skins=[skeleton([4, 2], node) for node in range(5)]), astray(1, 2, 3, 4)),
-    (nodes(*FORK, ROOTED, skins=[skeleton([5], 5), skeleton([4], 5)]), astray(1)),
-    (nodes(ROOTED, *({"children": [i]} for i in range(999)),
-           skins=[skeleton([0], node) for node in (0, 1, 511, 512, 998, 999)]), []),
-    (nodes(*chain(1000), skins=[skeleton([512], node) for node in (0, 511, 512, 513, 999)]),
-     astray(3, 4)),
-    (nodes(*chain(2), skins=[skeleton([0], 2), skeleton([1, 2], 0)]),
-     [("UNRESOLVED_REFERENCE", "/skins/0/skeleton"), ("UNRESOLVED_REFERENCE", "/skins/1/joints/1")]),
-    (nodes({"children": [1]}, {"children": [0]}, ROOTED, skins=[skeleton([2], 0)]), loops(0, 1)),
-]
+# Loops, common roots and skeletons.
+ROWS += graphs.ROWS
 
 
 def twice(place):
