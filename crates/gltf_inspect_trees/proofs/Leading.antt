@@ -72,7 +72,7 @@ less_by f depth v h (inr moved) =
     let is_one : one f v ≡ 1 = one-moved f v moved in
     omega arith
 
-less : (f depth : ℕ → ℕ) (v : ℕ) → Depths f depth → depth (f v) ≡ depth v - 1
+pub less : (f depth : ℕ → ℕ) (v : ℕ) → Depths f depth → depth (f v) ≡ depth v - 1
 less f depth v h = less_by f depth v h (same_or_other (f v) v (nat_eq (f v) v) refl)
 
 depth_after : (f depth : ℕ → ℕ) (d v : ℕ) → Depths f depth → depth (after f d v) ≡ depth v - d
@@ -83,7 +83,7 @@ depth_after f depth (suc d) v h =
     let e : depth (after f d (f v)) ≡ depth v - suc d = omega arith in
     e
 
-none_left : (f depth : ℕ → ℕ) (v : ℕ) → Depths f depth → depth v ≡ 0
+pub none_left : (f depth : ℕ → ℕ) (v : ℕ) → Depths f depth → depth v ≡ 0
     → (f v ≡ v) ⊎ (f v ≢ v) → f v ≡ v
 none_left f depth v h none (inl still) = still
 none_left f depth v h none (inr moved) =

@@ -6,3 +6,6 @@ pub mod Leading
 pub mod Same
 pub mod Jumping
 pub mod Rooting
+pub mod Deep
+pub mod Tables
+pub mod Setting

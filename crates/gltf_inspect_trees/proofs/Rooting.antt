@@ -66,15 +66,19 @@ once_falls r p m c h = record {
   far = λ v. rw (once-led c v) (twice_far r p m c.top v h (h.far v) (h.far (led c.top v)));
 }
 
-raised_falls : (first : Bool) (p : List ℕ) (n : ℕ) → IsInOrder first p
-    → Falls (rank first) p (grown n 1) (raised n (first_climb p)).top
+-- each that has a parent leads to one of less rank
+abbrev pub AreRanked : (ℕ → ℕ) → List ℕ → Type 0
+AreRanked r p = (v : ℕ) → led p v ≢ v → r (led p v) < r v
+
+raised_falls : (r : ℕ → ℕ) (p : List ℕ) (n : ℕ) → AreRanked r p
+    → Falls r p (grown n 1) (raised n (first_climb p)).top
 unfolding raised
-raised_falls first p zero order = record {
+raised_falls r p zero order = record {
   still = λ v e. e;
-  far = λ v. first_far (rank first) p v (order v) (cases_eq (led p v) v);
+  far = λ v. first_far r p v (order v) (cases_eq (led p v) v);
 }
-raised_falls first p (suc n) order =
-    once_falls (rank first) p (grown n 1) (raised n (first_climb p)) (raised_falls first p n order)
+raised_falls r p (suc n) order =
+    once_falls r p (grown n 1) (raised n (first_climb p)) (raised_falls r p n order)
 
 -- ---- all lead to nodes that have no parent
 
@@ -87,27 +91,34 @@ all_fixed t (x ∷ xs) h =
     (all_fixed t xs (λ k below. h (suc k)
     (let l : suc k < length (x ∷ xs) = omega arith in l)))
 
-few_by : (first : Bool) (v : ℕ) → v < 18446744073709551616 → rank first v < 18446744073709551616
-few_by true v h = h
-few_by false v h = omega arith
-
 end_by : (r : ℕ → ℕ) (p t : List ℕ) (m v : ℕ) → r v < m
     → (led p (led t v) ≡ led t v) ⊎ (r (led t v) + m ≤ r v) → led p (led t v) ≡ led t v
 end_by r p t m v few (inl e) = e
 end_by r p t m v few (inr more) = absurd (omega arith)
 
-pub all_rooted : (first : Bool) (p : List ℕ) → IsInOrder first p → length p ≤ 18446744073709551615
-    → are_fixed p (whole p).top ≡ true
-all_rooted first p order few =
+-- where the ranks are few enough
+pub ranked_rooted : (r : ℕ → ℕ) (p : List ℕ) → AreRanked r p
+    → ((v : ℕ) → v < length p → r v < 18446744073709551616) → are_fixed p (whole p).top ≡ true
+ranked_rooted r p order few =
     let long = (counted_of p).long in
     all_fixed p (whole p).top (λ k below.
-    let l : k < 18446744073709551616 = omega arith in
+    let in_p : k < length p = omega arith in
     let same : get_or (whole p).top k 0 ≡ led (whole p).top k
     = get_or_default (whole p).top k 0 k below in
     ap (λ v. led p v) same
-    ∙ end_by (rank first) p (whole p).top 18446744073709551616 k (few_by first k l)
-    ((raised_falls first p 64 order).far k)
+    ∙ end_by r p (whole p).top 18446744073709551616 k (few k in_p)
+    ((raised_falls r p 64 order).far k)
     ∙ sym same)
+
+few_by : (first : Bool) (v : ℕ) → v < 18446744073709551616 → rank first v < 18446744073709551616
+few_by true v h = h
+few_by false v h = omega arith
+
+all_rooted : (first : Bool) (p : List ℕ) → IsInOrder first p → length p ≤ 18446744073709551615
+    → are_fixed p (whole p).top ≡ true
+all_rooted first p order few =
+    ranked_rooted (rank first) p order (λ v below.
+    few_by first v (let l : v < 18446744073709551616 = omega arith in l))
 
 pub below_in_order : (first : Bool) (p q : List ℕ) → IsInOrder first p
     → length p ≤ 18446744073709551615 → q ≡ p
@@ -115,10 +126,3 @@ pub below_in_order : (first : Bool) (p q : List ℕ) → IsInOrder first p
 below_in_order first p q order few e s k =
     ap (λ t. is_above t s k) e
     ∙ sym (ap (λ b. not b || is_above p s k) (all_rooted first p order few))
-
-pub below_elsewhere : (p : List ℕ) (c : Climb) (b : Bool) → c ≡ raised 64 (first_climb p)
-    → b ≡ are_fixed p c.top → (s k : ℕ) → (not b || reaches c s k) ≡ is_below_from p s k
-below_elsewhere p c b e f s k =
-    ap (λ x. not x || reaches c s k) (f ∙ ap (λ (x : Climb). are_fixed p x.top) e)
-    ∙ ap (λ (x : Climb). not (are_fixed p (whole p).top) || reaches x s k) e
-    ∙ below_same p s k

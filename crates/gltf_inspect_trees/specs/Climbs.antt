@@ -1,5 +1,5 @@
 -- Many steps to the parent at once.
-use Rattle.std.specs.Prelude.{ℕ, zero, suc, ◌+◌, ◌-◌, ◌/◌, ◌%◌, Bool, nat_eq, if◌then◌else◌, map}
+use Rattle.std.specs.Prelude.{◌≡◌, ℕ, zero, suc, ◌+◌, ◌-◌, ◌/◌, ◌%◌, Bool, nat_eq, if◌then◌else◌, map}
 use Rattle.std.specs.Prelude.{get_or}
 use Rattle.std.specs.Prelude.{List, [], ◌∷◌, ◌++◌}
 use Rattle.gltf_inspect_nodes.specs.Roots.{led, are_fixed}
@@ -18,6 +18,11 @@ climb_of c = record {
   top = c.top.items;
   depths = c.depths.items;
 }
+
+-- its tables, whatever is kept of depths
+pub record AreTables (c : Climb) (climbs : Climbs) : Type 0 where
+  pub levels : map (λ t. t.items) climbs.levels.items ≡ c.levels
+  pub top : climbs.top.items ≡ c.top
 
 -- of each node, from i on, 0 where it has no parent but itself, else 1
 abbrev pub own_depths : ℕ → List ℕ → List ℕ

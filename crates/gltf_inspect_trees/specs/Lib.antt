@@ -1,4 +1,5 @@
 pub mod Climbs
+pub mod Depths
 pub mod Skeletons
 pub mod Jumps
 pub mod Trees

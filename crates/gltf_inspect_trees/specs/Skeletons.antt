@@ -11,7 +11,7 @@ use Rattle.gltf_findings.specs.declared.code.Code.TheVariants.{SkinSkeletonInval
 use Rattle.gltf_findings.specs.Checks.{Checks, Condition, member, list_checks}
 use Rattle.gltf_inspect_nodes.specs.Named.{joints_of}
 use Rattle.gltf_inspect_nodes.specs.Roots.{parents_of, led, are_fixed}
-use Rattle.gltf_inspect_trees.specs.Climbs.{Climb, first_climb, raised, reaches}
+use Rattle.gltf_inspect_trees.specs.Climbs.{first_climb, raised}
 
 -- at most so many steps to the parent, or none, lead from k to s
 unfoldable pub leads : List ℕ → ℕ → ℕ → ℕ → Bool
@@ -27,10 +27,6 @@ are_rooted ns =
 -- k is s, or is below it: by at most 2 ^ 64 steps, which are more than there are nodes
 abbrev pub is_below : List Node → ℕ → ℕ → Bool
 is_below ns s k = not (are_rooted ns) || leads (parents_of ns) 18446744073709551616 s k
-
--- the same by tables
-abbrev pub is_below_by : Bool → Climb → ℕ → ℕ → Bool
-is_below_by rooted c s k = not rooted || reaches c s k
 
 -- each of these that is a node, of so many
 abbrev pub all_below : (ℕ → Bool) → ℕ → List ℕ → Bool

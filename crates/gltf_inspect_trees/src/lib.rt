@@ -2,6 +2,7 @@
 #![tactic(auto)]
 
 mod climb;
+mod depths;
 mod jumps;
 pub mod skeleton;
 mod trees;

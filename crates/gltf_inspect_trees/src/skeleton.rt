@@ -24,7 +24,8 @@ use std::alloc::{AllocError, Global};
 /// Reports each skin with a joint that is neither its skeleton nor below it, where no node is on a
 /// loop. Takes time n log d for n nodes and joints at a depth up to d, and memory for as many
 /// numbers where a skin has a skeleton (for three numbers a node where each parent stands before
-/// its children, or each behind them); and memory for a finding. Fails where there is none.
+/// its children, or each behind them; for two, and time n, where a node is on a loop); and memory
+/// for a finding. Fails where there is none.
 pub fn inspect_skeletons(
     alloc: Global,
     root: &Root,

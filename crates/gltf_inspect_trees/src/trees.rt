@@ -3,9 +3,9 @@ ghost use Rattle.std.specs.Prelude.{◌≡◌, ℕ, IfOk};
 ghost use Rattle.gltf_inspect_trees.specs.Trees.{is_below_in, is_below_from};
 
 use crate::climb::Climbs;
+use crate::depths::depths_of;
 use crate::jumps::Jumps;
 use gltf_inspect_nodes::order::{parents_come_first, parents_come_last};
-use gltf_inspect_nodes::roots::are_fixed;
 use std::alloc::{AllocError, Global};
 
 /// The trees of nodes, by tables of where each leads to.
@@ -13,13 +13,16 @@ use std::alloc::{AllocError, Global};
 pub(crate) enum Trees {
     /// Where parents are in order.
     InOrder(Jumps),
-    /// Elsewhere; and whether each node leads to one that has no parent but itself.
-    Other(Climbs, bool),
+    /// Where they are not, and each node leads to one that has no parent but itself.
+    Rooted(Climbs),
+    /// Where a node leads to a loop: each node counts as below each.
+    Looped,
 }
 
 impl Trees {
     /// By the parent of each node. Takes memory for three numbers a node where parents are in
-    /// order, and as `Climbs` elsewhere; fails where there is none.
+    /// order, for two where a node leads to a loop, and as `Climbs` elsewhere; fails where there
+    /// is none.
     pub(crate) fn new(alloc: Global, parents: Vec<usize>) -> Result<Trees, AllocError>
         ensures { IfOk result (λ trees. (s k : ℕ)
             → is_below_in trees s k ≡ is_below_from parents.items s k) }
@@ -31,9 +34,20 @@ impl Trees {
             let jumps = Jumps::new(alloc, parents, false)?;
             Ok(Trees::InOrder(jumps))
         } else {
-            let climbs = Climbs::new(alloc, Vec::from_slice(alloc, &parents)?)?;
-            let are_rooted = are_fixed(&parents, climbs.ends());
-            Ok(Trees::Other(climbs, are_rooted))
+            Trees::in_no_order(alloc, parents)
+        }
+    }
+
+    fn in_no_order(alloc: Global, parents: Vec<usize>) -> Result<Trees, AllocError>
+        ensures { IfOk result (λ trees. (s k : ℕ)
+            → is_below_in trees s k ≡ is_below_from parents.items s k) }
+    {
+        match depths_of(alloc, &parents)? {
+            Some(depths) => {
+                let climbs = Climbs::new(alloc, parents, depths)?;
+                Ok(Trees::Rooted(climbs))
+            }
+            None => Ok(Trees::Looped),
         }
     }
 
@@ -43,7 +57,8 @@ impl Trees {
     {
         match self {
             Trees::InOrder(jumps) => jumps.is_below(above, node),
-            Trees::Other(climbs, are_rooted) => !*are_rooted || climbs.reaches(above, node),
+            Trees::Rooted(climbs) => climbs.reaches(above, node),
+            Trees::Looped => true,
         }
     }
 }

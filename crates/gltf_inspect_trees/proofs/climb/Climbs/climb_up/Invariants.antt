@@ -1,7 +1,10 @@
 use Rattle.std.proofs.Common.{◌≡◌}
-use Rattle.gltf_inspect_trees.specs.Climbs.{climb_of, raised}
+use Rattle.gltf_inspect_trees.specs.Climbs.{Climb, raised, AreTables}
 use Rattle.gltf_inspect_trees.proofs.climb.Climbs.climb_up.Given as goal
 
 -- doubled as often as the loop went round
 abbrev pub invariant-loop-round : goal.invariant-loop-round
-invariant-loop-round l = climb_of l.self ≡ raised l.round (climb_of l.initial.self)
+invariant-loop-round l = record {
+  tables : (c : Climb) → AreTables c l.initial.self → AreTables (raised l.round c) l.self;
+  depths : l.self.depths ≡ l.initial.self.depths;
+}

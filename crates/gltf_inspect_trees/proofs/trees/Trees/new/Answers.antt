@@ -1,10 +1,7 @@
-use Rattle.std.proofs.Common.{◌≤◌, ◌∙◌, ap, subst, length, arith, true, false, rules}
+use Rattle.std.proofs.Common.{◌≤◌, subst, length, arith, true, false, rules}
 use Rattle.std.specs.Prelude.{IsTrue}
-use Rattle.gltf_inspect_nodes.specs.Roots.{are_fixed}
 use Rattle.gltf_inspect_nodes.specs.Orders.{ParentsComeFirst, ParentsComeLast}
-use Rattle.gltf_inspect_trees.specs.Climbs.{climb_of, first_climb, raised}
 use Rattle.gltf_inspect_trees.proofs.Rooting.{order_first, order_last, below_in_order}
-use Rattle.gltf_inspect_trees.proofs.Rooting.{below_elsewhere}
 use Rattle.gltf_inspect_trees.proofs.trees.Trees.new.Goals as goal
 
 pub returns-in_ok-jumps : goal.returns-in_ok-jumps
@@ -30,14 +27,3 @@ returns-in_ok-jumps-2 c =
     (c.if-parents_come_last.ensures.0 yes) in
     below_in_order false ps c.in_ok-jumps-2.jumps.parents.items (order_last ps last few) few
     c.in_ok-jumps-2.ensures
-
-pub returns-in_ok-climbs : goal.returns-in_ok-climbs
-returns-in_ok-climbs c =
-    let ps = c.args.parents.items in
-    below_elsewhere ps (climb_of c.in_ok-climbs.climbs) c.are_fixed-are_rooted.result
-    (c.in_ok-climbs.ensures
-    ∙ ap (λ t. raised 64 (first_climb t)) (c.in_ok-from_slice.ensures.items
-    ∙ c.deref-else-parents_come_last.ensures.value))
-    (c.are_fixed-are_rooted.ensures
-    ∙ ap (λ t. are_fixed t c.ends.result.now) c.deref-else-parents_come_last-2.ensures.value
-    ∙ ap (λ t. are_fixed c.args.parents.items t) c.ends.ensures)
