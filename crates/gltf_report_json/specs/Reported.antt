@@ -1,7 +1,7 @@
 -- The tokens of a report as JSON, with the members of each object in the order of their names.
 use Rattle.std.specs.Prelude.{◌≡◌, ℕ, ◌==◌, List, [], ◌∷◌, ◌++◌, Bool, false, not, length, map}
 use Rattle.std.specs.Prelude.{codes, decimal, string_bytes, String, vec_len, if◌then◌else◌}
-use Rattle.std.specs.Prelude.{Option, MatchOption, Some, None, is_some}
+use Rattle.std.specs.Prelude.{Option, Some, None, is_some}
 use Rattle.std.specs.declared.alloc.Global.{Global}
 use Rattle.json.specs.Token.{Token, begin_object, end_object, begin_array, end_array, key, string}
 use Rattle.json.specs.Token.{number, boolean}
@@ -15,6 +15,8 @@ use Rattle.gltf_findings.specs.declared.code.Severity.TheVariants as grave
 use Rattle.gltf_findings.specs.Codes.{code_text, severity, severity_number}
 use Rattle.gltf_findings.specs.Reports.{count_of}
 use Rattle.gltf_messages.specs.Messages.{IsSaidOf}
+use Rattle.gltf_report_json.specs.Held.{in_64_bits, primitive_count, total_vertex_count}
+use Rattle.gltf_report_json.specs.Held.{has_morph_targets}
 
 -- a member of an object: its name and its value
 abbrev pub text_member : List ℕ → List ℕ → List Token
@@ -67,53 +69,51 @@ abbrev pub generator_member : Option (String Global) → List Token
 generator_member None = []
 generator_member (Some text) = text_member (codes "generator") (string_bytes text)
 
--- the members before those that are true or false, with the number of the document's primitives
-abbrev pub front_members : Root → ℕ → List Token
-front_members root calls =
+-- the members before those that are true or false
+abbrev pub front_members : Root → List Token
+front_members root =
     number_member (codes "animationCount") (vec_len root.animations)
-    ++ (number_member (codes "drawCallCount") calls
+    ++ (number_member (codes "drawCallCount") (in_64_bits (primitive_count root))
     ++ (names_member (codes "extensionsRequired") root.extensions_required.items
     ++ (names_member (codes "extensionsUsed") root.extensions_used.items
     ++ generator_member root.asset.generator)))
 
--- those that are true or false; whether a primitive has morph targets is given
-abbrev pub flag_members : Root → Bool → List Token
-flag_members root targets =
+-- those that are true or false
+abbrev pub flag_members : Root → List Token
+flag_members root =
     flag_member (codes "hasDefaultScene") (is_some root.scene)
-    ++ (flag_member (codes "hasMorphTargets") targets
+    ++ (flag_member (codes "hasMorphTargets") (has_morph_targets root)
     ++ (flag_member (codes "hasSkins") (not (vec_len root.skins == 0))
     ++ flag_member (codes "hasTextures") (not (vec_len root.textures == 0))))
 
--- what a document holds, with the number of its vertices
-abbrev pub info_tokens : Root → ℕ → ℕ → Bool → List Token
-info_tokens root calls vertices targets =
+-- what a document holds
+abbrev pub info_tokens : Root → List Token
+info_tokens root =
     begin_object
-    ∷ (front_members root calls
-    ++ (flag_members root targets
+    ∷ (front_members root
+    ++ (flag_members root
     ++ (number_member (codes "materialCount") (vec_len root.materials)
-    ++ (number_member (codes "totalVertexCount") vertices
+    ++ (number_member (codes "totalVertexCount") (in_64_bits (total_vertex_count root))
     ++ (text_member (codes "version") (string_bytes root.asset.version) ++ end_object ∷ [])))))
 
 -- the member `info`, where there is a document
-abbrev pub IsInfo : Option Root → List Token → Type 0
-IsInfo root tokens =
-    MatchOption root (tokens ≡ [])
-    (λ r. (calls : ℕ) × (vertices : ℕ) × (targets : Bool)
-    × (tokens ≡ key (codes "info") ∷ info_tokens r calls vertices targets))
+abbrev pub info_member : Option Root → List Token
+info_member None = []
+info_member (Some root) = key (codes "info") ∷ info_tokens root
 
 -- the report of the file of this name
-abbrev pub report_tokens : List ℕ → List (List Place × Code) → List Token → List Token → List Token
-report_tokens name found info messages =
+abbrev pub report_tokens : List ℕ → List (List Place × Code) → Option Root → List Token → List Token
+report_tokens name found root messages =
     begin_object
-    ∷ (info ++ key (codes "issues")
+    ∷ (info_member root ++ key (codes "issues")
     ∷ (issues_tokens found messages
     ++ (text_member (codes "uri") name
     ++ (text_member (codes "validatorVersion") (codes "gltf_inspect 1") ++ end_object ∷ []))))
 
 abbrev pub IsReport : List ℕ → List (List Place × Code) → Option Root → List Token → Type 0
 IsReport name found root tokens =
-    (info : List Token) × (messages : List Token) × IsInfo root info × AreMessages found messages
-    × (tokens ≡ report_tokens name found info messages)
+    (messages : List Token) × AreMessages found messages
+    × (tokens ≡ report_tokens name found root messages)
 
 -- its text, on several lines or on one
 abbrev pub IsReportText : Bool → List ℕ → List (List Place × Code) → Option Root → List ℕ → Type 0

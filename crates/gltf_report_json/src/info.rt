@@ -1,20 +1,24 @@
 //! What a document holds, as the member `info` of a report.
-ghost use Rattle.std.specs.Prelude.{◌≡◌, ℕ, ◌++◌, Bool, List, OnOk, option_map};
-ghost use Rattle.json.specs.Token.{Token as SpecToken};
+ghost use Rattle.std.specs.Prelude.{◌≡◌, ◌++◌, OnOk, option_map};
+ghost use Rattle.gltf_report_json.specs.Held.{has_morphed, has_morph_targets, in_64_bits};
+ghost use Rattle.gltf_report_json.specs.Held.{primitive_count, total_vertex_count};
+ghost use Rattle.gltf_report_json.specs.Held.{vertex_count, mesh_vertex_count};
 ghost use Rattle.gltf_report_json.specs.Reported.{names_member, generator_member, info_tokens};
-ghost use Rattle.gltf_report_json.specs.Reported.{front_members, flag_members, IsInfo};
+ghost use Rattle.gltf_report_json.specs.Reported.{front_members, flag_members, info_member};
 
 use crate::tokens::{TakesTokens, take_flag, take_number, take_text};
+use gltf_inspect_meshes::item::or_zero;
+use gltf_inspect_meshes::meaning::{POSITIONS, count_of_index, first_of};
 use gltf_json::root::Root;
-use gltf_json_geometry::semantic::Semantic;
+use gltf_json_geometry::accessor::Accessor;
+use gltf_json_geometry::mesh::{Mesh, Primitive};
 use json::Token;
 use std::alloc::AllocError;
 
 /// The member `info`, where there is a document.
 pub(crate) fn take_info<W: TakesTokens>(root: Option<&Root>, out: &mut W) -> Result<(), AllocError>
-    ensures taken { OnOk result ((info : List SpecToken)
-        × IsInfo (option_map (λ r. r.now) root.entry) info
-        × (W.taken out.new ≡ W.taken out.old ++ info)) }
+    ensures taken { OnOk result (W.taken out.new
+        ≡ W.taken out.old ++ info_member (option_map (λ r. r.now) root.entry)) }
     ensures before { W.before out.new ≡ W.before out.old }
 {
     match root {
@@ -28,9 +32,7 @@ pub(crate) fn take_info<W: TakesTokens>(root: Option<&Root>, out: &mut W) -> Res
 
 /// The object, with its members in the order of their names.
 fn take_document<W: TakesTokens>(root: &Root, out: &mut W) -> Result<(), AllocError>
-    ensures taken { OnOk result ((calls : ℕ) × (vertices : ℕ) × (targets : Bool)
-        × (W.taken out.new
-        ≡ W.taken out.old ++ info_tokens root.now calls vertices targets)) }
+    ensures taken { OnOk result (W.taken out.new ≡ W.taken out.old ++ info_tokens root.now) }
     ensures before { W.before out.new ≡ W.before out.old }
 {
     out.take(Token::BeginObject)?;
@@ -45,8 +47,7 @@ fn take_document<W: TakesTokens>(root: &Root, out: &mut W) -> Result<(), AllocEr
 
 /// The members that come before those that are true or false.
 fn take_front<W: TakesTokens>(root: &Root, out: &mut W) -> Result<(), AllocError>
-    ensures taken { OnOk result ((calls : ℕ)
-        × (W.taken out.new ≡ W.taken out.old ++ front_members root.now calls)) }
+    ensures taken { OnOk result (W.taken out.new ≡ W.taken out.old ++ front_members root.now) }
     ensures before { W.before out.new ≡ W.before out.old }
 {
     take_number("animationCount", root.animations.len() as u64, out)?;
@@ -63,8 +64,7 @@ fn take_front<W: TakesTokens>(root: &Root, out: &mut W) -> Result<(), AllocError
 
 /// The members that are true or false.
 fn take_flags<W: TakesTokens>(root: &Root, out: &mut W) -> Result<(), AllocError>
-    ensures taken { OnOk result ((targets : Bool)
-        × (W.taken out.new ≡ W.taken out.old ++ flag_members root.now targets)) }
+    ensures taken { OnOk result (W.taken out.new ≡ W.taken out.old ++ flag_members root.now) }
     ensures before { W.before out.new ≡ W.before out.old }
 {
     take_flag("hasDefaultScene", root.scene.is_some(), out)?;
@@ -102,19 +102,27 @@ fn take_names<W: TakesTokens>(name: &str, names: &[String], out: &mut W) -> Resu
     out.take(Token::EndArray)
 }
 
-fn has_targets(root: &Root) -> bool {
-    for mesh in &root.meshes {
-        for primitive in &mesh.primitives {
-            if !primitive.targets.is_empty() {
-                return true;
-            }
-        }
-    }
-    false
+/// Whether some primitive of some mesh has a morph target (glTF 2.0, section 3.7.2.2, "Morph
+/// Targets").
+fn has_targets(root: &Root) -> bool
+    ensures { result ≡ has_morph_targets root.now }
+{
+    root.meshes.iter().any(|mesh| has_morphed(mesh))
 }
 
-/// The number of primitives of all meshes.
-fn draw_calls(root: &Root) -> u64 {
+/// Whether some primitive of the mesh has a morph target.
+fn has_morphed(mesh: &Mesh) -> bool
+    ensures { result ≡ has_morphed mesh.now }
+{
+    mesh.primitives
+        .iter()
+        .any(|primitive| !primitive.targets.is_empty())
+}
+
+/// The number of primitives of all meshes, at most `u64::MAX`.
+fn draw_calls(root: &Root) -> u64
+    ensures { result ≡ in_64_bits (primitive_count root.now) }
+{
     let mut calls = 0u64;
     for mesh in &root.meshes {
         calls = calls.saturating_add(mesh.primitives.len() as u64);
@@ -122,19 +130,34 @@ fn draw_calls(root: &Root) -> u64 {
     calls
 }
 
-/// The number of vertices of all primitives.
-fn vertices(root: &Root) -> u64 {
+/// The number of vertices of the primitives of all meshes, at most `u64::MAX`.
+fn vertices(root: &Root) -> u64
+    ensures { result ≡ in_64_bits (total_vertex_count root.now) }
+{
+    let accessors = root.accessors.as_slice();
     let mut vertices = 0u64;
     for mesh in &root.meshes {
-        for primitive in &mesh.primitives {
-            for (semantic, index) in &primitive.attributes {
-                if matches!(semantic, Semantic::Positions) {
-                    if let Some(accessor) = root.accessors.get(index.value()) {
-                        vertices = vertices.saturating_add(accessor.count);
-                    }
-                }
-            }
-        }
+        vertices = vertices.saturating_add(vertices_of_mesh(accessors, mesh));
     }
     vertices
+}
+
+/// The number of vertices of the primitives of the mesh, at most `u64::MAX`.
+fn vertices_of_mesh(accessors: &[Accessor], mesh: &Mesh) -> u64
+    ensures { result ≡ in_64_bits (mesh_vertex_count accessors.now mesh.now) }
+{
+    let mut vertices = 0u64;
+    for primitive in &mesh.primitives {
+        vertices = vertices.saturating_add(vertices_of(accessors, primitive));
+    }
+    vertices
+}
+
+/// The number of vertices of a primitive: the items of the accessor of its positions (glTF 2.0,
+/// section 3.7.2.1, "Meshes: Overview"), 0 where there is none.
+fn vertices_of(accessors: &[Accessor], primitive: &Primitive) -> u64
+    ensures { result ≡ vertex_count accessors.now primitive.now }
+{
+    let positions = first_of(POSITIONS, &primitive.attributes);
+    or_zero(count_of_index(accessors, positions))
 }

@@ -56,8 +56,9 @@ const NAMES: [&str; 8] = [
 ];
 
 /// Texts of documents and of values that are none: with no, one and many names of extensions, with
-/// and without a generator, a scene, skins, textures and targets.
-const DOCUMENTS: [&str; 6] = [
+/// and without a generator, a scene, skins, textures and targets, and with values of each kind where
+/// another is wanted.
+const DOCUMENTS: [&str; 7] = [
     "{\"asset\": {\"version\": \"2.0\"}}",
     "{\"asset\": {\"version\": \"2.0\", \"generator\": \"\\u0000 \\\"a\\\" \\\\ ü\"}, \"scene\": 0,
       \"scenes\": [{\"nodes\": [0]}], \"nodes\": [{\"mesh\": 0, \"weights\": [1, 2, 3]}, {}],
@@ -87,6 +88,50 @@ const DOCUMENTS: [&str; 6] = [
     "{\"nodes\": {\"0\": {\"mesh\": -1.5e300}}, \"meshes\": 7, \"a~b/c\": [true, null, \"x\"]}",
     "[]",
     "null",
+    WRONG_KINDS,
+];
+
+/// Booleans, texts, fractions and exponents, and `null`, lists and objects, where another kind is
+/// wanted.
+const WRONG_KINDS: &str = "{\"nodes\": [{\"mesh\": 1e-7, \"name\": false}, {\"mesh\": true,
+      \"name\": 2.5}, \"a node\"], \"meshes\": \"no list\", \"accessors\": [{\"count\": -1.5e-300,
+      \"normalized\": \"yes\"}, {\"count\": \"3\", \"normalized\": 0.5}, true],
+      \"bufferViews\": true, \"extensionsUsed\": [true, -2.5, \"a\"], \"skins\": 6.5e-11,
+      \"animations\": {\"0\": null}, \"buffers\": [[1], 7.25]}";
+
+/// Places in that text, and what is said of the kind of the value there.
+const SAID: [(&[usize], &str); 19] = [
+    (
+        &[0, 16, 22],
+        "Found 1e-7, wanted a whole number from 0 to 4294967295.",
+    ),
+    (
+        &[0, 17, 22],
+        "Found true or false, wanted a whole number from 0 to 4294967295.",
+    ),
+    (&[0, 16, 23], "Found true or false, wanted a string."),
+    (&[0, 17, 23], "Found 2.5, wanted a string."),
+    (&[0, 26], "Found a string, wanted an object."),
+    (&[1], "Found a string, wanted a list."),
+    (
+        &[2, 16, 13],
+        "Found -1.5e-300, wanted a whole number from 0 to 18446744073709551615.",
+    ),
+    (
+        &[2, 17, 13],
+        "Found a string, wanted a whole number from 0 to 18446744073709551615.",
+    ),
+    (&[2, 16, 24], "Found a string, wanted true or false."),
+    (&[2, 17, 24], "Found 0.5, wanted true or false."),
+    (&[2, 26], "Found true or false, wanted an object."),
+    (&[3], "Found true or false, wanted a list."),
+    (&[25, 16], "Found true or false, wanted a string."),
+    (&[25, 17], "Found -2.5, wanted a string."),
+    (&[10], "Found 6.5e-11, wanted a list."),
+    (&[8], "Found an object, wanted a list."),
+    (&[8, 16], "Found null, wanted an object."),
+    (&[11, 16], "Found a list, wanted an object."),
+    (&[11, 17], "Found 7.25, wanted an object."),
 ];
 
 fn member(name: &'static str) -> Step {
@@ -95,7 +140,7 @@ fn member(name: &'static str) -> Step {
 
 /// The step that has this number, of those that are put together to places.
 fn step(alloc: Global, number: usize) -> Result<Step, AllocError> {
-    Ok(match number % 22 {
+    Ok(match number % 27 {
         0 => member("nodes"),
         1 => member("meshes"),
         2 => member("accessors"),
@@ -117,12 +162,17 @@ fn step(alloc: Global, number: usize) -> Result<Step, AllocError> {
         18 => Step::Item(usize::MAX),
         19 => Step::Attribute(String::from_str(alloc, "POSITION")?),
         20 => Step::Attribute(String::from_str(alloc, "_A~/\"")?),
-        _ => Step::Attribute(String::from_str(alloc, "\u{1}ü")?),
+        21 => Step::Attribute(String::from_str(alloc, "\u{1}ü")?),
+        22 => member("mesh"),
+        23 => member("name"),
+        24 => member("normalized"),
+        25 => member("extensionsUsed"),
+        _ => Step::Item(2),
     })
 }
 
 /// Places that are in the documents above.
-const PLACES: [&[usize]; 17] = [
+const PLACES: [&[usize]; 37] = [
     &[],
     &[0, 16],
     &[0, 17],
@@ -140,6 +190,26 @@ const PLACES: [&[usize]; 17] = [
     &[10, 16],
     &[11, 16],
     &[6, 17],
+    &[6, 16],
+    &[6, 26],
+    &[1],
+    &[3],
+    &[8],
+    &[8, 16],
+    &[10],
+    &[0, 26],
+    &[0, 16, 22],
+    &[0, 17, 22],
+    &[0, 16, 23],
+    &[0, 17, 23],
+    &[1, 16, 7, 16],
+    &[2, 26],
+    &[2, 16, 24],
+    &[2, 17, 13],
+    &[2, 17, 24],
+    &[11, 17],
+    &[25, 16],
+    &[25, 17],
 ];
 
 fn path(alloc: Global, steps: &[usize]) -> Result<Path, AllocError> {
@@ -278,6 +348,18 @@ fn the_first_three_texts_are_documents(rt: HostRuntime) -> Result<(), Fail> {
     for (k, text) in DOCUMENTS.iter().enumerate() {
         let value = Value::from_str(alloc, text)?;
         assert_eq!(rt; root_of(alloc, &value).is_some(), k < 3, "{text}");
+    }
+    Ok(())
+}
+
+#[test]
+fn the_kind_that_is_found_is_said(rt: HostRuntime) -> Result<(), Fail> {
+    let alloc = rt.alloc();
+    let value = Value::from_str(alloc, WRONG_KINDS)?;
+    for (steps, kinds) in SAID {
+        let place = path(alloc, steps)?;
+        let says = message(alloc, None, Some(&value), &place, Code::TypeMismatch)?;
+        assert!(rt; says.as_str().ends_with(kinds), "{says}");
     }
     Ok(())
 }

@@ -1,5 +1,6 @@
 use Rattle.std.proofs.Common.{◌≡◌, [], ◌∷◌, ◌++◌, vec_len, string_bytes, codes, rules}
 use Rattle.json.specs.Token.{begin_object, end_object}
+use Rattle.gltf_report_json.specs.Held.{in_64_bits, total_vertex_count}
 use Rattle.gltf_report_json.specs.Reported.{text_member, number_member}
 use Rattle.gltf_report_json.specs.Reported.{front_members, flag_members}
 use Rattle.gltf_report_json.proofs.Appended.{joined}
@@ -7,22 +8,23 @@ use Rattle.gltf_report_json.proofs.info.take_document.Goals as goal
 
 pub returns-clause-taken : goal.returns-clause-taken
 returns-clause-taken g c =
-    let front = c.in_ok-take_front.ensures.taken in
-    let flags = c.in_ok-take_flags.ensures.taken in
     let s = g.W.TakesTokens.taken in
     let x1 = begin_object ∷ [] in
     let e1 : s c.take.new.self ≡ s c.args.out.now ++ x1 =
     search (rules, c.in_ok-take.ensures.taken) in
-    let x2 = front_members c.args.root.now front.0 in
-    let e2 : s c.take_front.new.out ≡ s c.take.new.self ++ x2 = front.1 in
-    let x3 = flag_members c.args.root.now flags.0 in
-    let e3 : s c.take_flags.new.out ≡ s c.take_front.new.out ++ x3 = flags.1 in
+    let x2 = front_members c.args.root.now in
+    let e2 : s c.take_front.new.out ≡ s c.take.new.self ++ x2 =
+    c.in_ok-take_front.ensures.taken in
+    let x3 = flag_members c.args.root.now in
+    let e3 : s c.take_flags.new.out ≡ s c.take_front.new.out ++ x3 =
+    c.in_ok-take_flags.ensures.taken in
     let x4 = number_member (codes "materialCount") (vec_len c.args.root.now.materials) in
     let e4 : s c.take_number.new.out ≡ s c.take_flags.new.out ++ x4 =
     search (rules, c.in_ok-take_number.ensures.taken, c.len.ensures) in
-    let x5 = number_member (codes "totalVertexCount") c.vertices.result in
+    let vertices = in_64_bits (total_vertex_count c.args.root.now) in
+    let x5 = number_member (codes "totalVertexCount") vertices in
     let e5 : s c.take_number-2.new.out ≡ s c.take_number.new.out ++ x5 =
-    search (rules, c.in_ok-take_number-2.ensures.taken) in
+    search (rules, c.in_ok-take_number-2.ensures.taken, c.vertices.ensures) in
     let x6 = text_member (codes "version") (string_bytes c.args.root.now.asset.version) in
     let e6 : s c.take_text.new.out ≡ s c.take_number-2.new.out ++ x6 =
     search (rules, c.in_ok-take_text.ensures.taken, c.as_str.ensures) in
@@ -40,5 +42,4 @@ returns-clause-taken g c =
     let y3 = x3 ++ y4 in
     let b2 = joined (s c.take.new.self) x2 y3 e2 b3 in
     let y2 = x2 ++ y3 in
-    let b1 = joined (s c.args.out.now) x1 y2 e1 b2 in
-    (front.0, c.vertices.result, flags.0, b1)
+    joined (s c.args.out.now) x1 y2 e1 b2

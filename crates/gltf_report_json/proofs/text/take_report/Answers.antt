@@ -1,19 +1,21 @@
-use Rattle.std.proofs.Common.{◌≡◌, [], ◌∷◌, ◌++◌, codes, refl, rules}
+use Rattle.std.proofs.Common.{◌≡◌, [], ◌∷◌, ◌++◌, codes, option_map, refl, rules}
 use Rattle.json.specs.Token.{begin_object, end_object, key}
-use Rattle.gltf_report_json.specs.Reported.{text_member, issues_tokens, report_tokens}
+use Rattle.gltf_report_json.specs.Reported.{text_member, info_member, issues_tokens}
+use Rattle.gltf_report_json.specs.Reported.{report_tokens}
 use Rattle.gltf_report_json.proofs.Appended.{joined}
 use Rattle.gltf_report_json.proofs.text.take_report.Goals as goal
 
 pub returns-clause-taken : goal.returns-clause-taken
 returns-clause-taken g c =
-    let info = c.in_ok-take_info.ensures.taken in
+    let root = option_map (λ r. r.now) c.args.root in
     let issues = c.in_ok-take_issues.ensures.taken in
     let s = g.W.TakesTokens.taken in
     let x1 = begin_object ∷ [] in
     let e1 : s c.take.new.self ≡ s c.args.out.now ++ x1 =
     search (rules, c.in_ok-take.ensures.taken) in
-    let x2 = info.0 in
-    let e2 : s c.take_info.new.out ≡ s c.take.new.self ++ x2 = info.2 in
+    let x2 = info_member root in
+    let e2 : s c.take_info.new.out ≡ s c.take.new.self ++ x2 =
+    c.in_ok-take_info.ensures.taken in
     let x3 = key (codes "issues") ∷ [] in
     let e3 : s c.take-2.new.self ≡ s c.take_info.new.out ++ x3 =
     search (rules, c.in_ok-take-2.ensures.taken) in
@@ -40,5 +42,5 @@ returns-clause-taken g c =
     let b2 = joined (s c.take.new.self) x2 y3 e2 b3 in
     let y2 = x2 ++ y3 in
     let b1 = joined (s c.args.out.now) x1 y2 e1 b2 in
-    let all = report_tokens c.args.name.now c.args.report.now info.0 issues.0 in
-    (all, (info.0, issues.0, info.1, issues.1, refl), b1)
+    let all = report_tokens c.args.name.now c.args.report.now root issues.0 in
+    (all, (issues.0, issues.1, refl), b1)
