@@ -239,6 +239,10 @@ class Faults(unittest.TestCase):
                         "extensionsRequired": ["EXT_mine"]})
         self.refused(gltf.RulesError, text)
         self.assertEqual(len(gltf.open(text, extensions=["EXT_mine"]).nodes), 0)
+        both = text_of({"asset": {"version": "2.0"}, "extensionsRequired": ["EXT_mine", "EXT_its"]})
+        for name, place in (("EXT_mine", 1), ("EXT_its", 0)):
+            fault = self.refused(gltf.RulesError, both, extensions=[name])
+            self.assertEqual((fault.path, fault.rules), (f"/extensionsRequired/{place}", 1))
 
     def test_a_closed_document_raises(self):
         document = gltf.open(EXAMPLES / "box.glb")

@@ -1,6 +1,7 @@
 """Files that require extensions which the caller handles (glTF 2.0, section 3.12): names of the
 list leave `extensionsRequired`, and come beside the document in the order of the file. What is left
-has to be supported by the loader. The rest is as in a file that requires no such extension."""
+has to be supported by the loader; a name that is not is told at its place in the file. The rest is
+as in a file that requires no such extension."""
 import json
 import pathlib
 
@@ -23,9 +24,10 @@ def answer(used, required, also, *buffers):
     return "; ".join([parts, *buffers])
 
 
-def unsupported(*places):
-    """What a file is answered that requires more: the places count the names that are left."""
-    return "invalid glTF:" + "".join(
+def unsupported(*places, before=""):
+    """What a file is answered that requires more, by the places of these names in the file; `before`
+    are faults of members that come first."""
+    return "invalid glTF:" + before + "".join(
         f" extensionsRequired[{it}]: Unsupported extension;" for it in places)
 
 
@@ -36,15 +38,28 @@ LISTS = [
     ("A,B", answer(USED, [UNLIT], ["A", "B", "A"])),
     ("B,A", answer(USED, [UNLIT], ["A", "B", "A"])),
     ("B,B,C,A", answer(USED, [UNLIT], ["A", "B", "A"])),
-    # Of the names that are left, B is the second.
-    ("A", unsupported(1)),
-    ("B", unsupported(0, 2)),
+    # Of the names that are left, B is the second; in the file it is the third.
+    ("A", unsupported(2)),
+    ("B", unsupported(0, 3)),
     ("-", unsupported(0, 2, 3)),
     # A name counts whole, byte by byte.
     ("a,b", unsupported(0, 2, 3)),
-    ("AA,B", unsupported(0, 2)),
+    ("AA,B", unsupported(0, 3)),
     # A name that the loader supports leaves too, where the list has it.
     (f"A,{UNLIT},B", answer(USED, [], ["A", UNLIT, "B", "A"])),
+]
+# Names in the order of a file, which all have a fault but those of the caller's and the supported.
+SHORT = [
+    (["A", "X"], "A"),
+    (["X", "A"], "A"),
+    (["A", "A", "X"], "A"),
+    (["X", "A", "Y"], "A"),
+    (["A", "X", "B"], "A,B"),
+    (["A", "X", "A", "X"], "A"),
+    (["X", "A", "X", "A"], "A"),
+    ([UNLIT, "A", "X"], "A"),
+    (["A", UNLIT, "X"], f"A,{UNLIT}"),
+    (["A", "X", "B", UNLIT, "Y", "A", "X"], "B,A"),
 ]
 # Parts of a name, and what is near to one.
 TERRAIN = text(extensionsRequired=["STUDIO_terrain"])
@@ -87,6 +102,11 @@ def rows():
         yield f"file {list_} : {FOUR}", found
         yield f"reader {list_} : {FOUR}", f"{found}; {len(FOUR)} given"
         yield f"shelf {list_} a.gltf : {FOUR}", found
+    for required, list_ in SHORT:
+        handled = [UNLIT, *list_.split(",")]
+        places = [it for it, name in enumerate(required) if name not in handled]
+        for call in ("slice", "file"):
+            yield f"{call} {list_} : {text(extensionsRequired=required)}", unsupported(*places)
     for near in NEAR:
         yield f"slice {near} : {TERRAIN}", unsupported(0)
     yield f"slice STUDIO_terrain : {TERRAIN}", answer([], [], ["STUDIO_terrain"])
@@ -99,6 +119,9 @@ def rows():
     # The other rules hold as before, and come in the order of the members.
     yield f"slice A : {BROKEN}", "invalid glTF: scene: Index out of bounds;"
     yield f"file A : {BROKEN}", "invalid glTF: scene: Index out of bounds;"
+    for list_, places in (("-", (0, 1, 2)), ("A", (0, 2)), ("B", (1, 2)), ("B,A", (2,))):
+        found = unsupported(*places, before=" scene: Index out of bounds;")
+        yield f"slice {list_} : {TWO_BROKEN}", found
     # Buffers: of a payload, of the blob, and of a shelf.
     yield f"slice A : {ONE}", f"{TAKEN}; 00010200"
     yield f"file A : {ONE}", TAKEN
@@ -143,7 +166,7 @@ def rows():
     # The code of docs/LIBRARY.md.
     both = ["STUDIO_terrain", "KHR_mesh_quantization"]
     yield f"imported : {text(extensionsRequired=both)}", answer([], [], both)
-    yield f"imported : {text(extensionsRequired=[*both, 'A'])}", unsupported(0)
+    yield f"imported : {text(extensionsRequired=[*both, 'A'])}", unsupported(len(both))
 
 
 ROWS = list(rows())

@@ -39,15 +39,16 @@ def requiring(names):
     return text(extensionsUsed=names, extensionsRequired=names)
 
 
-def unsupported(count):
+def unsupported(*places):
     return "invalid glTF:" + "".join(
-        f" extensionsRequired[{i}]: Unsupported extension;" for i in range(count))
+        f" extensionsRequired[{i}]: Unsupported extension;" for i in places)
 
 
 ROWS += [
     ("import " + requiring(NAMES), json.dumps(NAMES)),
-    ("plain " + requiring(NAMES), unsupported(len(NAMES))),
-    ("import " + requiring(NAMES + ["X"]), unsupported(1)),
+    ("plain " + requiring(NAMES), unsupported(*range(len(NAMES)))),
+    ("import " + requiring(NAMES + ["X"]), unsupported(len(NAMES))),
+    ("import " + requiring(NAMES[:1] + ["X"] + NAMES[1:]), unsupported(1)),
     ("plain " + text(), "accepted"),
 ]
 # of glTF 2.0, section 3.6.2.2: the code of a component type, and how its bytes are packed

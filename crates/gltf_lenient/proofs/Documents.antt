@@ -1,26 +1,24 @@
 -- From the records of a mended file to its document without the names of a list.
 use Rattle.std.proofs.Common.{◌≡◌, ◌≢◌, ℕ, List, [], Result, Ok, Err, Vec, Global, inr, refl, sym}
-use Rattle.std.proofs.Common.{ap, subst, ◌∙◌}
+use Rattle.std.proofs.Common.{ap, subst, map, ◌∙◌}
 use Rattle.std.specs.Prelude.{Option, IfOk, IfErr}
 use Rattle.gltf_glb.specs.declared.error.Error.{Error}
 use Rattle.gltf_glb.specs.declared.error.Error.TheVariants as error
 use Rattle.gltf_json.specs.Documents.{root}
 use Rattle.gltf_json.specs.declared.root.Root.{Root}
-use Rattle.gltf_validation.specs.Documents.{Faults}
-use Rattle.gltf.specs.Errors.{OutOfMemoryOr, TellsRules}
+use Rattle.gltf.specs.Errors.{OutOfMemoryOr}
 use Rattle.gltf.specs.Shown.{blob_bytes}
-use Rattle.gltf_options.specs.Alike.{AreLeftAlike}
-use Rattle.gltf_options.specs.Besides.{IsBesides, RefusesBesides, required_of}
+use Rattle.gltf_options.specs.Alike.{AreLeftAlike, BreakTheSameBesides}
+use Rattle.gltf_options.specs.Besides.{IsBesides, required_of}
+use Rattle.gltf_options.specs.Broken.{faults_besides, RefusesBesides}
+use Rattle.gltf_options.specs.Laws.{AreBrokenWithout}
 use Rattle.gltf_options.specs.Names.{texts, taken_of}
 use Rattle.gltf_options.specs.Opened.{IsOpened}
+use Rattle.gltf_options.specs.Places.{places_left, in_file}
 use Rattle.gltf_options.specs.declared.file.Opened.{Opened}
 use Rattle.gltf_lenient.specs.Import.{also_of, IsMendedDocument, IsOnlyMendedDocument}
 use Rattle.gltf_lenient.specs.Import.{IsValidMended, IsOnlyMended, IsNoValidMended, RefusesMended}
 use Rattle.gltf_lenient.specs.declared.options.Options.{Options}
-
--- the premise: documents that show the same break the same rules
-abbrev pub SameRules : Type 0
-SameRules = (r s : Root) → root.content r ≡ root.content s → Faults r ≡ Faults s
 
 -- ---- one document
 
@@ -35,20 +33,24 @@ one_document options bytes whole r taken blob alike only besides named s others 
     let left = alike (also_of options) other.whole whole s r same.0 other.besides besides in
     (left.0, other.named ∙ ap (taken_of (also_of options)) left.1 ∙ sym named, same.1)
 
-breaks_some : (r : Root) (e : Error) → TellsRules r e → Faults r ≢ []
-breaks_some r (error.Validation faults) told = told.1
-breaks_some r _ told = absurd told
+breaks_some : (also : List (List ℕ)) (r : Root) (e : Error) → RefusesBesides also r e
+    → faults_besides also r ≢ []
+breaks_some also r (error.Validation faults) told = told.1
+breaks_some also r _ told = absurd told
 
 -- what is left breaks a rule: whatever else the bytes are without these names does too
 no_valid : (options : Options) (bytes : List ℕ) (whole : Root) (blob : Option (List ℕ))
-    (e : Error) → AreLeftAlike → SameRules
+    (e : Error) → BreakTheSameBesides → AreBrokenWithout
     → IsOnlyMendedDocument options.mends bytes whole blob
     → RefusesBesides (also_of options) whole e → IsNoValidMended options bytes
-no_valid options bytes whole blob e alike rules only refused s others rest valid =
-    let one = one_document options bytes whole refused.root
-    (taken_of (also_of options) (required_of whole)) blob
-    alike only refused.besides refl s others rest valid.document in
-    breaks_some refused.root e refused.fails (sym (rules s refused.root one.0) ∙ valid.rules)
+no_valid options bytes whole blob e same_rules without only refused s others rest valid =
+    let also = also_of options in
+    let other = valid.document in
+    let same = only other.whole rest other.document in
+    breaks_some also whole e refused
+    (same_rules also whole other.whole (sym same.0)
+    ∙ without also other.whole s other.besides
+    ∙ ap (map (in_file (places_left also (required_of other.whole)))) valid.rules)
 
 -- ---- out of memory, or what is said of an error
 
@@ -114,20 +116,18 @@ err_refused options bytes whole blob (Ok file) document told = tt
 err_refused options bytes whole blob (Err e) document told =
     told_more (RefusesBesides (also_of options) whole) (RefusesMended options bytes) e
     (λ refused. inr (record {
-      root = refused.root;
-      taken = taken_of (also_of options) (required_of whole);
+      whole = whole;
       blob = blob;
-      document =
-          record { whole = whole; document = document; besides = refused.besides; named = refl };
-      fails = refused.fails;
+      document = document;
+      fails = refused;
     })) told
 
 pub err_exact : (options : Options) (bytes : List ℕ) (whole : Root)
-    (blob : Option (List ℕ)) (result : Result Opened Error) → AreLeftAlike → SameRules
-    → IsOnlyMendedDocument options.mends bytes whole blob
+    (blob : Option (List ℕ)) (result : Result Opened Error) → BreakTheSameBesides
+    → AreBrokenWithout → IsOnlyMendedDocument options.mends bytes whole blob
     → IfErr result (OutOfMemoryOr (RefusesBesides (also_of options) whole))
     → IfErr result (λ e. e ≢ error.Memory → IsNoValidMended options bytes)
-err_exact options bytes whole blob (Ok file) alike rules only told = tt
-err_exact options bytes whole blob (Err e) alike rules only told = λ other.
-    no_valid options bytes whole blob e alike rules only
+err_exact options bytes whole blob (Ok file) same_rules without only told = tt
+err_exact options bytes whole blob (Err e) same_rules without only told = λ other.
+    no_valid options bytes whole blob e same_rules without only
     (told_other (RefusesBesides (also_of options) whole) e told other)

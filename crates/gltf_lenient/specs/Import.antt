@@ -15,9 +15,9 @@ use Rattle.gltf_validation.specs.Documents.{Faults}
 use Rattle.gltf_buffers.specs.Buffers.{sources_of, AreBytes, HasBufferFault}
 use Rattle.gltf_buffers.specs.Errors.{NamesFault}
 use Rattle.gltf_buffers.specs.Names.{Names}
-use Rattle.gltf.specs.Errors.{TellsRules}
 use Rattle.gltf.specs.Import.{AreParts, RefusesContainer}
 use Rattle.gltf_options.specs.Besides.{IsBesides, required_of}
+use Rattle.gltf_options.specs.Broken.{RefusesBesides}
 use Rattle.gltf_options.specs.Names.{taken_of}
 use Rattle.gltf_mend.specs.Mended.{mended}
 use Rattle.gltf_mend.specs.declared.mends.Mends.{Mends}
@@ -79,13 +79,13 @@ pub record RefusesMendedText (mends : Mends) (bytes : List ℕ) (e : Error) : Ty
 abbrev pub RefusesMendedRecords : Mends → List ℕ → Error → Type 0
 RefusesMendedRecords mends bytes e = RefusesContainer bytes e ⊎ RefusesMendedText mends bytes e
 
--- these hold; the error has all rules that are broken without the names of the list
+-- these hold; the error has all rules that are broken without the names of the list, at the places
+-- of the mended value
 pub record RefusesMendedRules (options : Options) (bytes : List ℕ) (e : Error) : Type 0 where
-  pub root : Root
-  pub taken : List (List ℕ)
+  pub whole : Root
   pub blob : Option (List ℕ)
-  pub document : IsMendedBesides options bytes root taken blob
-  pub fails : TellsRules root e
+  pub document : IsMendedDocument options.mends bytes whole blob
+  pub fails : RefusesBesides (also_of options) whole e
 
 -- the rules hold too; the error names the fault of the first buffer with one
 pub record RefusesMendedBuffers (options : Options) (names : Names) (bytes : List ℕ)

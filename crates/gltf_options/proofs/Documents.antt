@@ -1,25 +1,29 @@
 -- From the records of a file to the document without the names of a list, for the contract of
 -- `from_slice_with`. `one_document` says that the bytes determine it; `no_valid` that where it
--- breaks a rule, no other one that they are breaks none. The premises `Alike` and `SameRules` are
+-- breaks a rule, no other one that they are breaks none; `refuses_file` that its broken rules, at
+-- their places in the file, are those of the file. The premises `Alike` and `SameRules` are
 -- laws of `gltf_json` and of `gltf_rules`.
-use Rattle.std.proofs.Common.{◌≡◌, ◌≢◌, ℕ, List, [], Result, Ok, Err, refl, sym, ap, subst, ◌∙◌}
-use Rattle.std.proofs.Common.{inl, inr, Vec, Global}
-use Rattle.std.specs.Prelude.{Option, IfOk, IfErr}
+use Rattle.std.proofs.Common.{◌≡◌, ◌≢◌, ℕ, List, [], Result, Ok, Err, refl, sym, ap, ap₂, subst}
+use Rattle.std.proofs.Common.{◌∙◌, ◌∷◌, inl, inr, map, Vec, Global}
+use Rattle.std.specs.Prelude.{Option, IfOk, IfErr, filter, not}
 use Rattle.gltf_glb.specs.declared.error.Error.{Error}
 use Rattle.gltf_glb.specs.declared.error.Error.TheVariants as error
 use Rattle.gltf_json.specs.Documents.{root}
 use Rattle.gltf_json.specs.declared.root.Root.{Root}
 use Rattle.gltf_validation.specs.Documents.{Faults}
-use Rattle.gltf.specs.Errors.{OutOfMemoryOr, TellsRules}
+use Rattle.gltf.specs.Errors.{OutOfMemoryOr}
 use Rattle.gltf.specs.Import.{IsDocument, IsOnlyDocument, IsNoDocument, RefusesRecords}
 use Rattle.gltf.specs.Shown.{blob_bytes}
-use Rattle.gltf_options.specs.Besides.{IsBesides, RefusesBesides, required_of}
+use Rattle.gltf_options.specs.Besides.{IsBesides, required_of}
+use Rattle.gltf_options.specs.Broken.{Fault, is_listed_at, faults_besides, RefusesBesides}
 use Rattle.gltf_options.specs.Import.{IsValidBesides, IsOnlyBesides}
 use Rattle.gltf_options.specs.Import.{IsNoValidBesides, RefusesRulesBesides}
 use Rattle.gltf_options.specs.Import.{RefusesDocumentBesides}
 use Rattle.gltf_options.specs.Names.{texts, taken_of}
 use Rattle.gltf_options.specs.Opened.{IsOpened}
+use Rattle.gltf_options.specs.Places.{places_left, in_file, TellsRulesInFile}
 use Rattle.gltf_options.specs.declared.file.Opened.{Opened}
+use Rattle.gltf_options.proofs.FaultsInFile.{faults_in_file}
 use Rattle.gltf_options.proofs.Shown.{Alike, same_besides, same_required}
 
 abbrev pub SameRules : Type 0
@@ -37,19 +41,49 @@ one_document also bytes whole r taken blob alike only besides named s others res
       same.1,
     )
 
-breaks_some : (r : Root) (e : Error) → TellsRules r e → Faults r ≢ []
-breaks_some r (error.Validation faults) told = told.1
-breaks_some r _ told = absurd told
+-- ---- the rules that are broken
+
+-- documents that show the same break the same rules but for those of the names of a list
+pub same_besides_rules : (also : List (List ℕ)) (r s : Root) → Alike → SameRules
+    → root.content r ≡ root.content s → faults_besides also r ≡ faults_besides also s
+same_besides_rules also r s alike rules same =
+    ap₂ (λ (required : List (List ℕ)) (faults : List Fault).
+    filter (λ f. not (is_listed_at also required f.0)) faults)
+    (same_required r s alike same) (rules r s same)
+
+none_moved : (places : List ℕ) (faults : List Fault) → map (in_file places) faults ≡ []
+    → faults ≡ []
+none_moved places [] none = refl
+none_moved places (f ∷ fs) none = cc
+
+-- what is told of what is left is told of the file
+pub refuses_file : (also : List (List ℕ)) (r s : Root) (places : List ℕ) (e : Error)
+    → IsBesides also r s → places ≡ places_left also (required_of r)
+    → TellsRulesInFile places s e → RefusesBesides also r e
+refuses_file also r s places (error.Validation faults) besides is told =
+    let broken : faults_besides also r ≡ map (in_file places) (Faults s) =
+    rw is (faults_in_file also r s besides) in (
+      told.0 ∙ sym broken,
+      λ none. told.1 (none_moved places (Faults s) (sym broken ∙ none)),
+    )
+refuses_file also r s places _ besides is told = absurd told
+
+breaks_some : (also : List (List ℕ)) (r : Root) (e : Error) → RefusesBesides also r e
+    → faults_besides also r ≢ []
+breaks_some also r (error.Validation faults) told = told.1
+breaks_some also r _ told = absurd told
 
 -- what is left breaks a rule: whatever else the bytes are without these names does too
 pub no_valid : (also : List (List ℕ)) (bytes : List ℕ) (whole : Root) (blob : Option (List ℕ))
     (e : Error) → Alike → SameRules → IsOnlyDocument bytes whole blob
     → RefusesBesides also whole e → IsNoValidBesides also bytes
 no_valid also bytes whole blob e alike rules only refused s others rest valid =
-    let one = one_document also bytes whole refused.root (taken_of also (required_of whole)) blob
-    alike only refused.besides refl s others rest valid.document in
-    breaks_some refused.root e refused.fails
-    (sym (rules s refused.root one.0) ∙ valid.rules)
+    let other = valid.document in
+    let same = only other.whole rest other.document in
+    breaks_some also whole e refused
+    (same_besides_rules also whole other.whole alike rules (sym same.0)
+    ∙ faults_in_file also other.whole s other.besides
+    ∙ ap (map (in_file (places_left also (required_of other.whole)))) valid.rules)
 
 pub no_valid_of_none : (also : List (List ℕ)) (bytes : List ℕ) → IsNoDocument bytes
     → IsNoValidBesides also bytes
@@ -59,14 +93,8 @@ no_valid_of_none also bytes none s taken blob valid =
 pub refuses_rules : (also : List (List ℕ)) (bytes : List ℕ) (whole : Root)
     (blob : Option (List ℕ)) (e : Error) → IsDocument bytes whole blob
     → RefusesBesides also whole e → RefusesRulesBesides also bytes e
-refuses_rules also bytes whole blob e document refused = record {
-  root = refused.root;
-  taken = taken_of also (required_of whole);
-  blob = blob;
-  document =
-      record { whole = whole; document = document; besides = refused.besides; named = refl };
-  fails = refused.fails;
-}
+refuses_rules also bytes whole blob e document refused =
+    record { whole = whole; blob = blob; document = document; fails = refused }
 
 -- ---- out of memory, or what is said of an error
 

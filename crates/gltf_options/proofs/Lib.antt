@@ -1,5 +1,8 @@
 mod Listed
+mod Parted
+mod Steps
 mod Shown
+mod FaultsInFile
 mod Documents
 mod Readers
 mod Buffers

@@ -9,7 +9,7 @@ use Rattle.gltf.specs.Errors.{OutOfMemoryOr}
 use Rattle.gltf.specs.Import.{IsNoDocument, RefusesText}
 use Rattle.gltf.specs.Reader.{IsFile, RefusesFile, IsAllThatCounts, StopsReadingOr, UnlessFailure}
 use Rattle.gltf.specs.Shown.{blob_bytes}
-use Rattle.gltf_options.specs.Besides.{RefusesBesides}
+use Rattle.gltf_options.specs.Broken.{RefusesBesides}
 use Rattle.gltf_options.specs.Import.{IsNoValidBesides, RefusesRulesBesides}
 use Rattle.gltf_options.specs.Names.{texts}
 use Rattle.gltf_options.specs.Opened.{IsOpened}

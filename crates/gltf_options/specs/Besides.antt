@@ -1,8 +1,6 @@
 -- A document without the names that a caller handles (glTF 2.0, section 3.12).
 use Rattle.std.specs.Prelude.{◌≡◌, ℕ, List, map}
-use Rattle.gltf_glb.specs.declared.error.Error.{Error}
 use Rattle.gltf_json.specs.declared.root.Root.{Root}
-use Rattle.gltf.specs.Errors.{TellsRules}
 use Rattle.gltf_options.specs.Names.{texts, left_of}
 use Rattle.gltf_options.specs.declared.options.Options.{Options}
 
@@ -19,9 +17,3 @@ required_of r = texts r.extensions_required.items
 pub record IsBesides (also : List (List ℕ)) (r s : Root) : Type 0 where
   pub names : required_of s ≡ left_of also (required_of r)
   pub others : s ≡ record r { extensions_required = s.extensions_required }
-
--- without these names rules are broken; the error has all of them
-pub record RefusesBesides (also : List (List ℕ)) (r : Root) (e : Error) : Type 0 where
-  pub root : Root
-  pub besides : IsBesides also r root
-  pub fails : TellsRules root e

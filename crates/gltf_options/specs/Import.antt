@@ -9,9 +9,9 @@ use Rattle.gltf_validation.specs.Documents.{Faults}
 use Rattle.gltf_buffers.specs.Buffers.{sources_of, AreBytes, HasBufferFault}
 use Rattle.gltf_buffers.specs.Errors.{NamesFault}
 use Rattle.gltf_buffers.specs.Names.{Names}
-use Rattle.gltf.specs.Errors.{TellsRules}
 use Rattle.gltf.specs.Import.{IsDocument, RefusesRecords}
 use Rattle.gltf_options.specs.Besides.{IsBesides, required_of}
+use Rattle.gltf_options.specs.Broken.{RefusesBesides}
 use Rattle.gltf_options.specs.Names.{taken_of}
 
 -- container, text and records hold: r is the root without the names of the list, `taken` are those
@@ -36,14 +36,14 @@ pub record AcceptsBesides (also : List (List ℕ)) (names : Names) (bytes : List
   pub valid : IsValidBesides also bytes r taken blob
   pub data_ : AreBytes names (sources_of r) blob (length (sources_of r)) buffers
 
--- container, text and records hold; the error has all rules that are broken without these names
+-- container, text and records hold; the error has all rules that are broken without these names, at
+-- the places of the file
 pub record RefusesRulesBesides (also : List (List ℕ)) (bytes : List ℕ) (e : Error)
     : Type 0 where
-  pub root : Root
-  pub taken : List (List ℕ)
+  pub whole : Root
   pub blob : Option (List ℕ)
-  pub document : IsDocumentBesides also bytes root taken blob
-  pub fails : TellsRules root e
+  pub document : IsDocument bytes whole blob
+  pub fails : RefusesBesides also whole e
 
 -- the rules hold too; the error names the fault of the first buffer with one
 pub record RefusesBuffersBesides (also : List (List ℕ)) (names : Names) (bytes : List ℕ)

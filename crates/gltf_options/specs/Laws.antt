@@ -1,6 +1,6 @@
 -- What a list of names changes: which extensions a document may require, and nothing where it
 -- requires none of the list (glTF 2.0, section 3.12).
-use Rattle.std.specs.Prelude.{◌≡◌, ◌↔◌, ◌⊎◌, ℕ, List, [], All, IsTrue, codes}
+use Rattle.std.specs.Prelude.{◌≡◌, ◌↔◌, ◌⊎◌, ℕ, List, [], map, All, IsTrue, codes}
 use Rattle.gltf_json_record.specs.Member.{is_one_of}
 use Rattle.gltf_json.specs.Documents.{root}
 use Rattle.gltf_json.specs.declared.root.Root.{Root}
@@ -15,8 +15,10 @@ use Rattle.gltf_validation.specs.Textures.{texture_rules}
 use Rattle.gltf_buffers.specs.Names.{Names}
 use Rattle.gltf.specs.Import.{AcceptsWith}
 use Rattle.gltf_options.specs.Besides.{IsBesides, required_of}
+use Rattle.gltf_options.specs.Broken.{faults_besides}
 use Rattle.gltf_options.specs.Import.{AcceptsBesides}
 use Rattle.gltf_options.specs.Names.{taken_of}
+use Rattle.gltf_options.specs.Places.{places_left, in_file}
 
 -- what is accepted with nothing left out is accepted with no list, and shows the same
 abbrev pub AcceptedWithNoList : Type 0
@@ -63,3 +65,10 @@ abbrev pub HoldsWhereHandled : Type 0
 HoldsWhereHandled =
     (also : List (List ℕ)) (r s : Root) → IsBesides also r s
     → (Faults s ≡ []) ↔ (Hold (other_rules (counts_of r) r) × AreHandled also (required_of r))
+
+-- the rules that a file breaks, but those of the names of a list, are those that it breaks without
+-- these names, each at its place in the file
+abbrev pub AreBrokenWithout : Type 0
+AreBrokenWithout =
+    (also : List (List ℕ)) (r s : Root) → IsBesides also r s
+    → faults_besides also r ≡ map (in_file (places_left also (required_of r))) (Faults s)

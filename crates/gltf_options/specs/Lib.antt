@@ -1,5 +1,7 @@
 pub mod Names
 pub mod Besides
+pub mod Broken
+pub mod Places
 pub mod Opened
 pub mod Import
 pub mod Files

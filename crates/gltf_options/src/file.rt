@@ -34,8 +34,8 @@ pub struct Opened {
 ///
 /// The bytes are accepted exactly where the container, the text and the records hold, and the
 /// rules of the records without these names in `extensionsRequired`. The error is that of the first
-/// of these that does not, or [`gltf::Error::Memory`], which says nothing of the bytes. An index in
-/// the path of a broken rule at `extensionsRequired` counts the names that are left.
+/// of these that does not, or [`gltf::Error::Memory`], which says nothing of the bytes. The path of
+/// a broken rule is that in the file, at `extensionsRequired` too.
 pub fn from_slice_with(alloc: Global, slice: &[u8], options: &Options<'_>) -> Result<Opened>
     ensures valid { IfOk result (λ file. IsValidBesides (listed options.now) slice.now
         file.gltf.document (texts file.also_required.items) (blob_bytes file.gltf.blob)) }

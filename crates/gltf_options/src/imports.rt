@@ -43,7 +43,7 @@ pub struct Imported {
 /// The bytes are accepted exactly where the container, the text and the records hold, the rules of
 /// the records without these names in `extensionsRequired`, and the buffers. The error is that of
 /// the first of these that does not, or [`gltf::Error::Memory`], which says nothing of the bytes.
-/// An index in the path of a broken rule at `extensionsRequired` counts the names that are left.
+/// The path of a broken rule is that in the file, at `extensionsRequired` too.
 pub fn import_slice_with(alloc: Global, bytes: &[u8], options: &Options<'_>) -> Result<Imported>
     ensures accepted { IfOk result (λ read. AcceptsBesides (listed options.now) Nowhere bytes.now
         read.document (texts read.also_required.items) (bytes_of_each read.buffers.items)) }

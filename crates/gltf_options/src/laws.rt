@@ -1,8 +1,10 @@
 //! Laws of lists of names. Each is a statement over the definitions of `specs/`, proved as the
 //! contract of a function; the calls in a body are laws that its proof stands on, and do nothing.
-ghost use Rattle.gltf_options.specs.Alike.{AreLeftAlike, HaveOneBuffers, HaveNoBuffers};
+ghost use Rattle.gltf_options.specs.Alike.{AreLeftAlike, BreakTheSameBesides};
+ghost use Rattle.gltf_options.specs.Alike.{HaveOneBuffers, HaveNoBuffers};
 ghost use Rattle.gltf_options.specs.Laws.{AcceptedWithNoList, AcceptedWithList};
 ghost use Rattle.gltf_options.specs.Laws.{EmptyListTakesNothing, HoldsWhereHandled};
+ghost use Rattle.gltf_options.specs.Laws.{AreBrokenWithout};
 
 use gltf_json::laws::what_shows_the_same_is_alike_in_each_member;
 use gltf_rules::laws::{
@@ -38,11 +40,26 @@ pub fn no_rule_is_broken_where_names_are_handled()
     no_rule_is_broken_where_all_hold();
 }
 
+/// The rules that a file breaks, but those of the names of a list, are those that the document
+/// without these names breaks, in their order, and each at its place in the file.
+pub fn the_same_rules_are_broken_without_the_names()
+    ensures { AreBrokenWithout }
+{}
+
 /// Documents that show the same require the same names, and show the same without those of a list.
 pub fn what_shows_the_same_is_left_alike()
     ensures { AreLeftAlike }
 {
     what_shows_the_same_is_alike_in_each_member();
+}
+
+/// Documents that show the same break the same rules but for those of the names of a list, at the
+/// same places.
+pub fn what_shows_the_same_breaks_the_same_rules_besides()
+    ensures { BreakTheSameBesides }
+{
+    what_shows_the_same_is_alike_in_each_member();
+    what_shows_the_same_breaks_the_same_rules();
 }
 
 /// Where it is known what names hold, the buffers of documents that show the same have the same

@@ -2,10 +2,12 @@
 //! names beside those that the loader supports (glTF 2.0, section 3.12, "Specifying Extensions").
 //!
 //! The document of such a call is the one of the file without these names in `extensionsRequired`.
-//! All rules are checked of it, and the names that were left out come beside it, in their order.
+//! All rules are checked of it, and the names that were left out come beside it, in their order. A
+//! broken rule is told at its place in the file.
 #![tactic(auto)]
 
 mod besides;
+mod broken;
 mod file;
 mod imports;
 pub mod laws;

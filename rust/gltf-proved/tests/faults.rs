@@ -78,6 +78,9 @@ fn required_extensions_are_the_callers() {
     let document = options.from_slice(text.as_bytes()).unwrap();
     assert_eq!(document.extensions_used().collect::<Vec<_>>(), ["EXT_mine"]);
     assert_eq!(document.extensions_required().len(), 0);
+    let both = br#"{"asset":{"version":"2.0"},"extensionsRequired":["EXT_mine","EXT_its"]}"#;
+    let why = options.from_slice(both).unwrap_err();
+    assert_eq!((why.pointer().as_ref(), why.rules()), ("/extensionsRequired/1", 1));
 }
 
 #[test]

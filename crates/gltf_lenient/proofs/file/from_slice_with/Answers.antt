@@ -30,6 +30,6 @@ pub returns-clause-exact : goal.returns-clause-exact
 returns-clause-exact c =
     err_exact c.args.options.now c.args.bytes.now c.in_ok-raw.raw.document
     (blob_bytes c.in_ok-raw.raw.blob) c.without_names.result
-    c.what_shows_the_same_is_left_alike.ensures
-    c.what_shows_the_same_breaks_the_same_rules.ensures c.in_ok-raw.ensures.only
+    c.what_shows_the_same_breaks_the_same_rules_besides.ensures
+    c.the_same_rules_are_broken_without_the_names.ensures c.in_ok-raw.ensures.only
     c.without_names.ensures.refused

@@ -1,8 +1,7 @@
-use Rattle.std.proofs.Common.{◌≡◌, map}
-use Rattle.gltf_options.specs.Names.{texts, left_of, taken_of}
+use Rattle.std.proofs.Common.{map}
+use Rattle.gltf_options.proofs.Parted.{AreParted}
 use Rattle.gltf_options.proofs.split.split.Given as goal
 
-abbrev pub invariant-loop-name : goal.invariant-loop-name
-invariant-loop-name l =
-    (texts l.left.items ≡ left_of (map (λ k. k.now) l.also) (texts l.yielded))
-    × (texts l.taken.items ≡ taken_of (map (λ k. k.now) l.also) (texts l.yielded))
+abbrev pub invariant-loop-place : goal.invariant-loop-place
+invariant-loop-place l =
+    AreParted (map (λ k. k.now) l.also) l.yielded l.left.items l.places.items l.taken.items
