@@ -1,7 +1,7 @@
 """Files that require extensions which the caller handles (glTF 2.0, section 3.12): names of the
 list leave `extensionsRequired`, and come beside the document in the order of the file. What is left
-has to be supported by the loader; a name that is not is told at its place in the file. The rest is
-as in a file that requires no such extension."""
+has to be supported by the loader; a name that is not is reported at its place in the file. The rest
+is as in a file that requires no such extension."""
 import json
 import pathlib
 
