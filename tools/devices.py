@@ -404,6 +404,8 @@ def read_rows(call, room, libraries):
     lacks(call, "in.glb", "in.glb", room, libraries["lacks"])
     if call.name != "gltf_repack":
         cut(call, "outside.gltf", "outside.bin", room, libraries["cut"])
+    # A buffer that cannot be read is a finding of `inspect`.
+    if call.name == "gltf_convert" or "check" in call.words:
         lacks(call, "outside.gltf", "outside.bin", room, libraries["lacks"])
 
 
