@@ -20,6 +20,7 @@ sys.dont_write_bytecode = True
 import crates
 import gate_page
 import gate_record
+import proving
 
 # Each runs in the folder of the repository.
 PARTS = (
@@ -38,8 +39,6 @@ PARTS = (
     ["python3", "tools/stack.py"],
     ["python3", "tools/fuzz.py", "--regressions"],
 )
-# The most memory that a check was seen to take, and some more.
-MEMORY_OF_A_CHECK = 4 << 30
 RESULT = re.compile(r"(\d+) passed, (\d+) failed")
 # What a line of a part has where something failed. The last of them are printed once more.
 FAULT = re.compile(r"FAILED|NOT PROVED|NOT TRIED|WRONG|Error|error:|expected|differs|failed:"
@@ -89,12 +88,6 @@ class Part:
             print("\n".join(self.faults))
 
 
-def checks_at_once():
-    """One a processor, as many as there is memory for. With a number `rt ci` gives no check two
-    processors, which would cost it a sixth more processor time."""
-    return max(1, min(gate_page.processors(), gate_page.memory() // MEMORY_OF_A_CHECK))
-
-
 def note_toolchains(here):
     """Says which pages name another toolchain than the one that is here."""
     for page in [crates.TOP / "README.md", *sorted((crates.TOP / "docs").glob("*.md"))]:
@@ -117,7 +110,9 @@ def main(words):
     if words not in ([], ["--write"]):
         print(__doc__)
         return 2
-    os.environ.setdefault("RT_JOBS", str(checks_at_once()))
+    # With a number `rt ci` gives no check two processors, which would cost it a sixth more
+    # processor time.
+    os.environ.setdefault("RT_JOBS", str(proving.checks_at_once()))
     run, begun = gate_page.Run(), gate_record.begin()
     note_toolchains(gate_record.toolchain())
     parts = [Part(it) for it in PARTS]

@@ -1,0 +1,177 @@
+"""Crates that are proved side by side, each after those that it uses.
+
+`rt` locks a crate and all below it, so that one repository proves one crate at a time. Here each
+crate is proved in a folder of its own, out/prove/NAME: a repository of that crate and those below
+it, in which sources and proved libraries are hard links to those of this one. What `rt` keeps of
+the crate itself, its out/, is moved there and back."""
+import os
+import pathlib
+import shutil
+import subprocess
+import sys
+import time
+
+import crates
+import gate_page
+
+ROOM = crates.TOP / "out" / "prove"
+# What is in the folder of a crate and is no source.
+OUT = "out"
+# The most memory that a check was seen to take, and some more.
+MEMORY_OF_A_CHECK = 4 << 30
+SECONDS_BETWEEN_LOOKS = 0.2
+
+
+def say(text):
+    print(text, file=sys.stderr, flush=True)
+
+
+def checks_at_once():
+    """One a processor, as many as there is memory for."""
+    return max(1, min(gate_page.processors(), gate_page.memory() // MEMORY_OF_A_CHECK))
+
+
+def lines_of(name):
+    """How many lines of code, definitions and proofs a crate has: about what its proof takes."""
+    folders = (crates.TOP / "crates" / name / part for part in crates.PARTS)
+    files = (file for folder in folders for file in folder.rglob("*") if file.is_file())
+    return sum(file.read_bytes().count(b"\n") for file in files)
+
+
+def ways(order):
+    """For each crate the lines on the longest way from it up to a crate that none uses."""
+    listed, way = crates.listed(), {}
+    for name in reversed(order):
+        users = (way[user] for user in order if name in listed[user])
+        way[name] = lines_of(name) + max(users, default=0)
+    return way
+
+
+def link(source, target, without=()):
+    """The files of a folder once more, as hard links."""
+    shutil.copytree(source, target, copy_function=os.link, ignore=shutil.ignore_patterns(*without))
+
+
+class Folder:
+    """The folder in which a crate is proved."""
+
+    def __init__(self, name):
+        self.name, self.top = name, ROOM / name
+        self.crate, self.home = self.top / "crates" / name, crates.TOP / "crates" / name
+
+    def make(self):
+        """Makes it, with the crates below this one as they are proved."""
+        listed, below = crates.listed(), crates.below(self.name)
+        self.top.mkdir(parents=True)
+        for name in below[:-1]:
+            link(crates.TOP / "crates" / name, self.top / "crates" / name)
+        link(self.home, self.crate, without=[OUT])
+        lines = (f"{name}: {' '.join(listed[name])}\n" for name in below)
+        (self.top / "crates.txt").write_text("".join(lines), encoding="utf-8")
+        shutil.copy(crates.TOP / "HANDLES", self.top)
+        if (self.home / OUT).exists():
+            os.rename(self.home / OUT, self.crate / OUT)
+
+    def remove(self):
+        """Removes it. What `rt` keeps goes back, unless the crate has got another one."""
+        if (self.crate / OUT).exists() and not (self.home / OUT).exists():
+            os.rename(self.crate / OUT, self.home / OUT)
+        shutil.rmtree(self.top, ignore_errors=True)
+
+
+def remove_folders():
+    """Removes the folders of a run that was killed."""
+    for top in ROOM.iterdir() if ROOM.exists() else ():
+        if top.is_dir():
+            Folder(top.name).remove()
+
+
+class Proof:
+    """The calls of `rt` for a crate, one after the other, while others run."""
+
+    def __init__(self, name, calls):
+        self.name, self.calls, self.begun = name, list(calls), time.monotonic()
+        self.folder = Folder(name)
+        self.folder.make()
+        self.log = open(ROOM / f"{name}.log", "wb")
+        self.process = None
+        self.next()
+
+    def next(self):
+        """Starts the next call, with one job: several crates are proved at once."""
+        call, *words = self.calls.pop(0)
+        self.process = subprocess.Popen(["rt", call, "--jobs", "1", *words], cwd=self.folder.crate,
+                                        stdin=subprocess.DEVNULL, stdout=self.log, stderr=self.log)
+
+    def has_ended(self):
+        """Whether all calls have ended, or one has failed."""
+        status = self.process.poll()
+        if status == 0 and self.calls:
+            self.next()
+            return False
+        return status is not None
+
+    def is_proved(self):
+        return self.process.returncode == 0
+
+    def stop(self):
+        self.process.terminate()
+        self.process.wait()
+
+    def end(self):
+        """Removes the folder, and gives the seconds that it took."""
+        self.log.close()
+        self.folder.remove()
+        return time.monotonic() - self.begun
+
+
+class Proving:
+    """Crates of which some are proved, some run, and some wait for others."""
+
+    def __init__(self, order, calls_of):
+        self.listed, self.calls_of = crates.listed(), calls_of
+        way = ways(order)
+        self.waiting = sorted(order, key=lambda name: -way[name])
+        self.running, self.proved, self.failed = [], set(), []
+        self.count, self.begun = len(order), time.monotonic()
+
+    def is_ready(self, name):
+        return all(it in self.proved for it in self.listed[name] if it in self.listed)
+
+    def start(self):
+        """Starts the crates that wait for none, those on the longest way first."""
+        for name in [name for name in self.waiting if self.is_ready(name)]:
+            if len(self.running) == checks_at_once() or self.failed:
+                break
+            self.waiting.remove(name)
+            self.running.append(Proof(name, self.calls_of(name)))
+
+    def note(self, proof):
+        """Says how a crate ended, how many are left, and the time so far."""
+        seconds = proof.end()
+        if not proof.is_proved():
+            self.failed.append(proof.name)
+            say(f"{proof.name} is not proved: {ROOM / proof.name}.log has why")
+            return
+        self.proved.add(proof.name)
+        minutes, rest = divmod(int(time.monotonic() - self.begun), 60)
+        say(f"[{len(self.proved)}/{self.count}] {proof.name} proved ({seconds:.0f} s); "
+                 f"{self.count - len(self.proved)} left, {minutes} min {rest:02} s so far")
+
+    def run(self):
+        """Whether all are proved. After a failure what runs is waited for, and no other begun."""
+        remove_folders()
+        ROOM.mkdir(parents=True, exist_ok=True)
+        try:
+            self.start()
+            while self.running:
+                time.sleep(SECONDS_BETWEEN_LOOKS)
+                for proof in [proof for proof in self.running if proof.has_ended()]:
+                    self.running.remove(proof)
+                    self.note(proof)
+                self.start()
+        finally:
+            for proof in self.running:
+                proof.stop()
+                proof.end()
+        return not self.failed
