@@ -81,7 +81,7 @@ case:
 
 # Each in turn. WORDS are passed on, as in `make bench NAME=peers WORDS=--quick`. What needs words is
 # not among them: `make bench NAME=inputs WORDS="OLD NEW"`.
-BENCHES += profile memory inspect
+BENCHES += profile memory inspect nodes
 bench:
 	@for it in $(or $(NAME),$(BENCHES)); do \
 		test -x "benches/$$it/run.sh" || { \
