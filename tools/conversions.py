@@ -190,28 +190,50 @@ ONE_APART = ONE | {
                                                      ONE["images"]))],
 }
 ONE_BESIDE = {name: held for name, held in BESIDE.items() if "image" in name}
-# What is left without them: the second of the two views that stay ends after 13 bytes.
-ONE_LEFT = ONE_APART | {
+
+
+def plain(value):
+    """The value without extensions."""
+    if isinstance(value, dict):
+        return {name: plain(one) for name, one in value.items() if name != "extensions"}
+    return [plain(one) for one in value] if isinstance(value, list) else value
+
+
+# What is left without them, where there are no extensions: the second of the two views that stay
+# ends after 13 bytes, and behind it stand images and zeros.
+PLAIN_LEFT = plain(ONE_APART) | {
     "buffers": [{"byteLength": 13, "uri": "out.bin"}], "bufferViews": VIEWS[:2]}
+# What stands behind the last view of all.
+TAIL = b"the tail"
 DROPPED = ["--drop-image-views"]
 KNOWN = {"extensionsUsed": ["KHR_texture_transform", "KHR_materials_ior"]}
 UNKNOWN = {"extensionsUsed": ["KHR_materials_ior", "STUDIO"]}
+
+
+def view(buffer, offset, length):
+    """A view of a buffer."""
+    return {"buffer": buffer, "byteLength": length} | ({"byteOffset": offset} if offset else {})
+
+
+def eights(*held):
+    """Buffers that declare eight bytes each."""
+    return [{"byteLength": 8, "uri": data("", one)} for one in held]
+
+
+def pictures(*views):
+    """Images in these views."""
+    return [{"bufferView": one, "mimeType": "image/x-own"} for one in views]
+
+
 # Two buffers of eight bytes, and the views of two images: what else names a view changes what goes.
+# Bytes that are in no view are zeros.
+HELD = [b"01" + bytes(3) + b"56" + bytes(1), b"89abcdef"]
 EIGHTS = {
     "asset": {"version": "2.0"},
-    "buffers": [{"byteLength": 8, "uri": data("", b"01234567")},
-                {"byteLength": 8, "uri": data("", b"89abcdef")}],
-    "bufferViews": [{"buffer": 0, "byteLength": 2}, {"buffer": 1, "byteLength": 3},
-                    {"buffer": 0, "byteLength": 2, "byteOffset": 5},
-                    {"buffer": 1, "byteLength": 8}],
-    "images": [{"bufferView": i, "mimeType": "image/x-own"} for i in (3, 2)],
+    "buffers": eights(*HELD),
+    "bufferViews": [view(0, 0, 2), view(1, 0, 3), view(0, 5, 2), view(1, 0, 8)],
+    "images": pictures(3, 2),
 }
-EIGHTS_APART = EIGHTS | {
-    "buffers": [{"byteLength": 8, "uri": f"out{i}.bin"} for i in range(2)],
-    "images": [{"uri": f"out_image{i}.bin", "mimeType": "image/x-own"} for i in range(2)],
-}
-EIGHTS_BESIDE = {"out0.bin": b"01234567", "out1.bin": b"89abcdef",
-                 "out_image0.bin": b"89abcdef", "out_image1.bin": b"56"}
 
 
 def sparse(indices, values):
@@ -221,19 +243,16 @@ def sparse(indices, values):
         "values": {"bufferView": values}}}]}
 
 
-def eights_left(stay, lengths, **more):
-    """What is left of it: so many views, and so many bytes of each buffer."""
-    left = EIGHTS_APART | {"bufferViews": EIGHTS["bufferViews"][:stay]} | more
-    left["buffers"] = [{"byteLength": n, "uri": f"out{i}.bin"} for i, n in enumerate(lengths)]
-    if not stay:
-        del left["bufferViews"]
-    files = {f"out{i}.bin": held[:n] + bytes(-n % 4)
-             for i, (held, n) in enumerate(zip((b"01234567", b"89abcdef"), lengths))}
-    return left, EIGHTS_BESIDE | files
+def material(**extensions):
+    """A material with these extensions, and a texture."""
+    return {"materials": [{"extensions": extensions}], "textures": [{"source": 0}]}
 
 
 BYTE = {"componentType": 5121, "count": 1, "type": "SCALAR"}
-# What names a view besides, how many views stay, and how many bytes each buffer has then.
+COAT = {"clearcoatTexture": {"index": 0, "extensions": {"STUDIO": 3}}}
+MESHOPT = {"buffer": 1, "byteLength": 8, "byteStride": 1, "count": 2, "mode": "INDICES"}
+# What the file has besides or in place of its own, how many views stay, and how many bytes each
+# buffer has then.
 EIGHTS_LEFT = [
     ({"accessors": [BYTE | {"bufferView": 0}, BYTE | {"bufferView": 1}]}, 2, (2, 3)),
     ({"accessors": [BYTE | {"bufferView": 2}]}, 3, (8, 3)),
@@ -242,21 +261,55 @@ EIGHTS_LEFT = [
     (sparse(2, 0), 3, (8, 3)),
     (sparse(1, 3), 4, (8, 8)),
     ({}, 2, (2, 3)),
-    ({"images": [{"bufferView": i, "mimeType": "image/x-own"} for i in range(4)]}, 0, (1, 1)),
+    ({"images": pictures(0, 1, 2, 3)}, 0, (1, 1)),
     (KNOWN, 2, (2, 3)),
     (UNKNOWN, 4, (8, 8)),
     ({"extensionsUsed": ["EXT_meshopt_compression"]}, 4, (8, 8)),
+    # Extensions that the file does not list, anywhere in it.
+    ({"extensions": {"STUDIO": {"bufferView": 3}}}, 4, (8, 8)),
+    ({"bufferViews": [view(0, 0, 2) | {"extensions": {"EXT_meshopt_compression": MESHOPT}},
+                      *EIGHTS["bufferViews"][1:]]}, 4, (8, 8)),
+    ({"images": [pictures(3)[0] | {"extensions": {"STUDIO": {"view": 2}}}, *pictures(2)]},
+     4, (8, 8)),
+    (material(KHR_materials_unlit={}, STUDIO={}), 4, (8, 8)),
+    (material(KHR_materials_clearcoat=COAT), 4, (8, 8)),
+    ({"extras": [{"extensions": {"STUDIO": 3}}]}, 4, (8, 8)),
+    ({"extras": {"extensions": ["STUDIO"]}}, 4, (8, 8)),
+    # Known ones name no view. Nor does what else extras hold.
+    (material(KHR_materials_unlit={}), 2, (2, 3)),
+    ({"extras": {"bufferView": 3, "STUDIO": {"bufferView": 2}}}, 2, (2, 3)),
+    # Bytes that are in no view, and no zeros: behind the last view, in front of it, a number there
+    # that ends in zeros, and behind the length that the buffer declares.
+    ({"buffers": eights(b"01" + bytes(3) + b"567", HELD[1])}, 2, (8, 3)),
+    ({"buffers": eights(b"01" + bytes(2) + b"456" + bytes(1), HELD[1])}, 2, (8, 3)),
+    ({"buffers": eights(b"01\1" + bytes(2) + b"56" + bytes(1), HELD[1])}, 2, (8, 3)),
+    ({"buffers": eights(HELD[0], HELD[1] + bytes(3) + b"!")}, 2, (2, 8)),
+    # Views that go in another order, over one another, and over one that stays.
+    ({"bufferViews": [view(0, 0, 2), view(1, 0, 3), view(0, 5, 3), view(0, 2, 4)]}, 2, (2, 8)),
+    ({"bufferViews": [view(0, 0, 6), view(1, 0, 3), view(0, 4, 4), view(1, 0, 8)]}, 2, (6, 3)),
 ]
 
 
 def eights_row(i, more, stay, lengths):
     """The row of a call for one of these."""
-    left, files = eights_left(stay, lengths, **more)
-    if "images" in more:
-        held = [b"01", b"89a", b"56", b"89abcdef"]
-        left["images"] = [{"uri": f"out_image{k}.bin", "mimeType": "image/x-own"}
-                          for k in range(4)]
-        files |= {f"out_image{k}.bin": one for k, one in enumerate(held)}
+    value = EIGHTS | more
+    whole = [base64.b64decode(one["uri"].partition(",")[2]) for one in value["buffers"]]
+    kept = [held if n == 8 else held[:n] for held, n in zip(whole, lengths)]
+    files = {f"out{k}.bin": held + bytes(-len(held) % 4) for k, held in enumerate(kept)}
+    images = []
+    for k, image in enumerate(value["images"]):
+        one = value["bufferViews"][image["bufferView"]]
+        held = whole[one["buffer"]][one.get("byteOffset", 0) :]
+        files[f"out_image{k}.bin"] = held[: one["byteLength"]]
+        rest = {name: one for name, one in image.items() if name != "bufferView"}
+        images.append(rest | {"uri": f"out_image{k}.bin"})
+    left = value | {
+        "buffers": [{"byteLength": n, "uri": f"out{k}.bin"} for k, n in enumerate(lengths)],
+        "bufferViews": value["bufferViews"][:stay],
+        "images": images,
+    }
+    if not stay:
+        del left["bufferViews"]
     return ([f"eights{i}.gltf"], "out", DROPPED, left, files)
 
 
@@ -273,9 +326,14 @@ SPLIT = [
         "images": [{"uri": ODD_URI + "_image0.png"}]},
      {ODD + "0.bin": JOINED[:4], ODD + "1.bin": JOINED[8:], ODD + "_image0.png": PICTURES[0]}),
     (["alone.glb"], "out", [], ONE_APART, {"out.bin": TAKEN, **ONE_BESIDE}),
-    (["alone.glb"], "out", DROPPED, ONE_LEFT, {"out.bin": JOINED, **ONE_BESIDE}),
-    (["alone.glb"], "out", ["--pretty", *DROPPED], ONE_LEFT, {"out.bin": JOINED, **ONE_BESIDE}),
-    (["two.gltf"], "out", DROPPED, APART | {"bufferViews": TWO["bufferViews"][:2]}, BESIDE),
+    # Two extensions stand in these files that they do not list, and that may name a view.
+    (["alone.glb"], "out", DROPPED, ONE_APART, {"out.bin": TAKEN, **ONE_BESIDE}),
+    (["two.gltf"], "out", DROPPED, APART, BESIDE),
+    (["plain.glb"], "out", DROPPED, PLAIN_LEFT, {"out.bin": JOINED, **ONE_BESIDE}),
+    (["plain.glb"], "out", ["--pretty", *DROPPED], PLAIN_LEFT, {"out.bin": JOINED, **ONE_BESIDE}),
+    (["tail.glb"], "out", DROPPED, PLAIN_LEFT | {
+        "buffers": [{"byteLength": 56, "uri": "out.bin"}]},
+     {"out.bin": TAKEN + TAIL, **ONE_BESIDE}),
     *[eights_row(i, *row) for i, row in enumerate(EIGHTS_LEFT)],
     (["begun.gltf"], "out", [], {
         "asset": {"version": "2.0"},
@@ -290,9 +348,15 @@ SPLIT = [
 ]
 
 
+def container_of(value, contents):
+    """A container of this value and these bytes."""
+    text = json.dumps(value).encode()
+    return programs.container(programs.chunk(b"JSON", text + b" " * (-len(text) % 4)),
+                              programs.chunk(b"BIN\0", contents))
+
+
 def make_converted(room):
     """The folder that `gltf_convert` is called in."""
-    one = json.dumps(ONE).encode()
     beyond = TWO | {"bufferViews": [{"buffer": 0, "byteLength": 5}], "accessors": [], "images": []}
     lacks = TWO | {"buffers": [TWO["buffers"][0], {"byteLength": 5, "uri": "no.bin"}]}
     programs.make(room, {
@@ -309,8 +373,9 @@ def make_converted(room):
         "pair.gltf": json.dumps(TWO | {"images": [{"uri": "p%20q.png"}]}).encode(),
         "stray.gltf": json.dumps(beyond | {"images": [
             {"bufferView": 0, "mimeType": "image/png"}]}).encode(),
-        "alone.glb": programs.container(programs.chunk(b"JSON", one + b" " * (-len(one) % 4)),
-                               programs.chunk(b"BIN\0", TAKEN)),
+        "alone.glb": container_of(ONE, TAKEN),
+        "plain.glb": container_of(plain(ONE), TAKEN),
+        "tail.glb": container_of(plain(ONE) | {"buffers": [{"byteLength": 56}]}, TAKEN + TAIL),
         "begun.gltf": programs.document(images=[
             *[{"uri": data("", picture), "mimeType": "image/x-own"} for picture in PICTURES],
             *[{"uri": data("", b"1"), "mimeType": media} for media in TYPES]]),

@@ -23,9 +23,11 @@ mimeType says so, and in .bin where neither does. With --pretty the text has lin
 spaces a step.
 
 The bytes of images in views are in the files of buffers too. With --drop-image-views the views at
-the end of the list go that images name, and that no accessor names, and each buffer of such a view
-ends where the last of the other views in it ends, but has one byte at least. All views stay where
-the file uses an extension that is not among some which name no view.
+the end of the list go that images name, and that no accessor names. All views stay where the file
+has an extension that is not among some which name no view: one that it lists as used, or one under
+a member extensions, at any depth and in extras too, listed or not. The buffer of a view that goes
+ends where the last view that stays in it ends, but has one byte at least. It stays whole where more
+stands behind that end than bytes of views that go, and zeros.
 
 Where the bytes of an image cannot be read, nothing is written. With --keep-images images are not
 touched: each one stays in its view, or keeps its URI.

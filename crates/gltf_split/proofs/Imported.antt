@@ -44,7 +44,7 @@ module _ (names : Names) (path stem : List ℕ) (keep drop : Bool) (set : Pieces
     (is : IsSplit names path stem keep drop set) (s : Root) (blob : Option (List ℕ))
     (valid : IsValidDocument (string_bytes set.json) s blob) where
   abbrev left : Data
-  left = value_left drop is.value
+  left = value_left drop is.value is.whole
 
   the_value : valid.document.value ≡ split_value set left
   the_value =
@@ -172,13 +172,15 @@ source_over names path value r buffers source = record {
 }
 
 -- what is left of a document, and what it is read over
-pub record IsLeftOver (drop : Bool) (value : Data) (r : Root) (left : List (List ℕ)) : Type 0 where
+pub record IsLeftOver (drop : Bool) (value : Data) (r : Root) (whole left : List (List ℕ))
+    : Type 0 where
   pub root_ : Root
-  pub over : IsReadOver (value_left drop value) root_ left
+  pub over : IsReadOver (value_left drop value whole) root_ left
   pub images : root_.images ≡ r.images
 
 abbrev pub left_over : IsReadTrimmed → (drop : Bool) (value : Data) (r : Root)
-    (whole : List (List ℕ)) → IsReadOver value r whole → IsLeftOver drop value r (bytes_left drop value whole)
+    (whole : List (List ℕ)) → IsReadOver value r whole
+    → IsLeftOver drop value r whole (bytes_left drop value whole)
 left_over trimmed true value r whole over =
     let found = trimmed value r whole over in
     record { root_ = found.0; over = found.1; images = found.2 }
@@ -192,9 +194,9 @@ split_over names path stem keep drop set is =
 -- what is left of the file that a set is of
 pub split_left : IsReadTrimmed → (names : Names) (path stem : List ℕ) (keep drop : Bool)
     (set : Pieces) (is : IsSplit names path stem keep drop set)
-    → IsLeftOver drop is.value is.root_ (bytes_of_parts set.buffers.items)
+    → IsLeftOver drop is.value is.root_ is.whole (bytes_of_parts set.buffers.items)
 split_left trimmed names path stem keep drop set is =
-    subst (λ (xs : List (List ℕ)). IsLeftOver drop is.value is.root_ xs) (sym is.bytes)
+    subst (λ (xs : List (List ℕ)). IsLeftOver drop is.value is.root_ is.whole xs) (sym is.bytes)
     (left_over trimmed drop is.value is.root_ is.whole
     (split_over names path stem keep drop set is))
 
@@ -215,7 +217,7 @@ has_its_buffers named files trimmed names path stem keep drop set is there holds
     let ps = set.buffers.items in
     let detached = is_detached names path stem keep drop set is s accepts.blob accepts.valid in
     let left = split_left trimmed names path stem keep drop set is in
-    let value = value_left drop is.value in
+    let value = value_left drop is.value is.whole in
     let are = named (buffer_uris ps) (image_uris set.images.items) left.root_ s
     (detached left.root_ left.over.is) in
     let own = own_count value left.root_ ps left.over in (
@@ -292,7 +294,7 @@ module _ (named : NamesBuffers) (lead : LeadToNames) (trimmed : IsReadTrimmed) (
   abbrev parts : List Part
   parts = set.buffers.items
 
-  abbrev left_there : IsLeftOver drop is.value is.root_ (bytes_of_parts parts)
+  abbrev left_there : IsLeftOver drop is.value is.root_ is.whole (bytes_of_parts parts)
   left_there = split_left trimmed names path stem keep drop set is
 
   abbrev own_root : Root
@@ -304,7 +306,7 @@ module _ (named : NamesBuffers) (lead : LeadToNames) (trimmed : IsReadTrimmed) (
       (is_detached names path stem keep drop set is s blob valid own_root left_there.over.is)
 
   own : length own_root.buffers.items ≡ length parts
-  own = own_count (value_left drop is.value) own_root parts left_there.over
+  own = own_count (value_left drop is.value is.whole) own_root parts left_there.over
 
   as_many : length (sources_of s) ≡ length parts
   as_many = length_of_map source_of s.buffers.items ∙ are.count ∙ own

@@ -1,7 +1,7 @@
 -- The files of buffers and images, one after the other.
 use Rattle.std.proofs.Common.{◌≡◌, ℕ, zero, suc, ◌+◌, ◌<◌, List, [], ◌∷◌, ◌++◌, length, take}
 use Rattle.std.proofs.Common.{refl, sym, ap, subst, ◌∙◌, arith, add-one, get_or, Option}
-use Rattle.std.proofs.Common.{string_bytes, drop, None}
+use Rattle.std.proofs.Common.{string_bytes, drop, None, Vec, Global}
 use Rattle.std.proofs.Math.Seq.{take-suc}
 use Rattle.std.proofs.lemmas.List.{map-append}
 use Rattle.serde_json.specs.Data.{Data}
@@ -12,6 +12,7 @@ use Rattle.gltf_buffers.specs.Shown.{bytes_of_each}
 use Rattle.gltf_buffers.specs.declared.data.Data.{Data as Buffer}
 use Rattle.gltf_detach.specs.Naming.{buffer_name}
 use Rattle.gltf_detach.specs.declared.part.Part.{Part}
+use Rattle.gltf_trim.specs.Tails.{bytes_of}
 use Rattle.gltf_trim.specs.Trimmed.{first}
 use Rattle.gltf_trimmed.specs.Laws.{cut, cut_all}
 use Rattle.gltf_split.specs.Images.{AreParts, MayBePart}
@@ -75,18 +76,30 @@ cut_last [] (y ∷ xs) x =
     (nothing (length xs) ∙ sym (nothing (suc (length xs)))))
 cut_last (l ∷ ls) (y ∷ xs) x = ap (λ (zs : List (List ℕ)). cut l y ∷ zs) (cut_last ls xs x)
 
-pub left_more : (ls : List (Option ℕ)) (done from : List Buffer) (b c : Buffer)
-    → bytes_of_each done ≡ cut_all ls (bytes_of_each from)
-    → c.0.items ≡ cut (first (drop (length from) ls)) b.0.items
-    → bytes_of_each (done ++ c ∷ []) ≡ cut_all ls (bytes_of_each (from ++ b ∷ []))
+length_of_bytes : (vs : List (Vec ℕ Global)) → length (bytes_of vs) ≡ length vs
+length_of_bytes [] = refl
+length_of_bytes (v ∷ vs) = ap suc (length_of_bytes vs)
+
+pub taken_more : (done : List (Vec ℕ Global)) (from : List Buffer) (b : Buffer)
+    → bytes_of done ≡ bytes_of_each from
+    → bytes_of (done ++ b.0 ∷ []) ≡ bytes_of_each (from ++ b ∷ [])
+taken_more done from b far =
+    map-append (λ (v : Vec ℕ Global). v.items) done (b.0 ∷ [])
+    ∙ ap (λ (xs : List (List ℕ)). xs ++ b.0.items ∷ []) far
+    ∙ sym (map-append (λ (b : Buffer). b.0.items) from (b ∷ []))
+
+pub left_more : (ls : List (Option ℕ)) (done : List Buffer) (from : List (Vec ℕ Global))
+    (b : Vec ℕ Global) (c : Buffer) → bytes_of_each done ≡ cut_all ls (bytes_of from)
+    → c.0.items ≡ cut (first (drop (length from) ls)) b.items
+    → bytes_of_each (done ++ c ∷ []) ≡ cut_all ls (bytes_of (from ++ b ∷ []))
 left_more ls done from b c far here =
-    let next = λ (n : ℕ). cut (first (drop n ls)) b.0.items in
+    let next = λ (n : ℕ). cut (first (drop n ls)) b.items in
     map-append (λ (b : Buffer). b.0.items) done (c ∷ [])
     ∙ ap (λ (xs : List (List ℕ)). xs ++ c.0.items ∷ []) far
-    ∙ ap (λ (x : List ℕ). cut_all ls (bytes_of_each from) ++ x ∷ [])
-    (here ∙ ap next (sym (length_of_each from)))
-    ∙ sym (cut_last ls (bytes_of_each from) b.0.items)
-    ∙ ap (cut_all ls) (sym (map-append (λ (b : Buffer). b.0.items) from (b ∷ [])))
+    ∙ ap (λ (x : List ℕ). cut_all ls (bytes_of from) ++ x ∷ [])
+    (here ∙ ap next (sym (length_of_bytes from)))
+    ∙ sym (cut_last ls (bytes_of from) b.items)
+    ∙ ap (cut_all ls) (sym (map-append (λ (v : Vec ℕ Global). v.items) from (b ∷ [])))
 
 -- ---- images
 

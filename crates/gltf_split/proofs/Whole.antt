@@ -20,11 +20,11 @@ use Rattle.gltf_split.specs.Splits.{IsSplit, AreNamed, bytes_of_parts, value_lef
 use Rattle.gltf_split.specs.declared.splitting.Pieces.{Pieces}
 use Rattle.gltf_split.proofs.Made.{as_many}
 
-left_depth : (drop : Bool) (value : Data) → depth value ≤ max_depth
-    → depth (value_left drop value) ≤ max_depth
-left_depth true value nests =
-    trimmed_depth (staying value) (lengths (staying value) value) value max_depth nests
-left_depth false value nests = nests
+left_depth : (drop : Bool) (value : Data) (whole : List (List ℕ)) → depth value ≤ max_depth
+    → depth (value_left drop value whole) ≤ max_depth
+left_depth true value whole nests =
+    trimmed_depth (staying value) (lengths (staying value) value whole) value max_depth nests
+left_depth false value whole nests = nests
 
 pub is_split : (names : Names) (path stem : List ℕ) (keep drop : Bool) (value : Data) (r : Root)
     (buffers : List Buffer) → IsSource names path value r (bytes_of_each buffers)
@@ -34,7 +34,8 @@ pub is_split : (names : Names) (path stem : List ℕ) (keep drop : Bool) (value 
     → AreImages names stem keep (bytes_of_each buffers) value set.images.items
     → (shown : Data)
     → shown
-    ≡ detached (buffer_uris set.buffers.items) (image_uris set.images.items) (value_left drop value)
+    ≡ detached (buffer_uris set.buffers.items) (image_uris set.images.items)
+    (value_left drop value (bytes_of_each buffers))
     → (depth shown ≤ max_depth → Reads (string_bytes set.json) shown)
     → IsSplit names path stem keep drop set
 is_split names path stem keep drop value r buffers source left left_is set bytes named images shown
@@ -43,8 +44,8 @@ is_split names path stem keep drop value r buffers source left left_is set bytes
     let vs = image_uris set.images.items in
     let nests : depth shown ≤ max_depth =
     subst (λ (d : Data). depth d ≤ max_depth) (sym is_shown)
-    (detached_depth us vs (value_left drop value) max_depth
-    (left_depth drop value source.nests)) in
+    (detached_depth us vs (value_left drop value (bytes_of_each buffers)) max_depth
+    (left_depth drop value (bytes_of_each buffers) source.nests)) in
     record {
       value = value;
       root_ = r;

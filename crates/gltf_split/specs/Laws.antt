@@ -47,7 +47,7 @@ HasItsBuffers =
     (is : IsSplit names path stem keep drop set) (there : Holds) → HoldsBuffers there set
     → (s : Root) (others : List (List ℕ)) → AcceptsWith (Held there)
     (string_bytes set.json) s others
-    → ((r : Root) → root.is (value_left drop is.value) r
+    → ((r : Root) → root.is (value_left drop is.value is.whole) r
     → IsDetached (buffer_uris set.buffers.items) (image_uris set.images.items) r s)
     × (others ≡ bytes_of_parts set.buffers.items)
 

@@ -40,10 +40,11 @@ IsValidText text = (r : Root) × (blob : Option (List ℕ)) × IsValidDocument t
 abbrev pub drops : SplitOptions → Bool
 drops options = if options.keep_images then false else options.drop_image_views
 
--- what is left of the value of a file, where the views of images go or stay
-abbrev pub value_left : Bool → Data → Data
-value_left true value = trimmed value
-value_left false value = value
+-- what is left of the value of a file, where the views of images go or stay, and its buffers have
+-- these bytes
+abbrev pub value_left : Bool → Data → List (List ℕ) → Data
+value_left true value whole = trimmed value whole
+value_left false value whole = value
 
 -- what is left of the bytes of its buffers
 abbrev pub bytes_left : Bool → Data → List (List ℕ) → List (List ℕ)
@@ -62,4 +63,4 @@ pub record IsSplit (names : Names) (path stem : List ℕ) (keep drop : Bool) (se
   pub bytes : bytes_of_parts set.buffers.items ≡ bytes_left drop value whole
   pub named : AreNamed stem (length set.buffers.items) 0 set.buffers.items
   pub images : AreImages names stem keep whole value set.images.items
-  pub reads : Reads (string_bytes set.json) (split_value set (value_left drop value))
+  pub reads : Reads (string_bytes set.json) (split_value set (value_left drop value whole))

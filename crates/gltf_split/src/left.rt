@@ -2,6 +2,7 @@
 ghost use Rattle.std.specs.Prelude.{◌≡◌, IfOk, drop};
 ghost use Rattle.serde_json.specs.View.{view};
 ghost use Rattle.gltf_buffers.specs.Shown.{bytes_of_each};
+ghost use Rattle.gltf_trim.specs.Tails.{bytes_of};
 ghost use Rattle.gltf_trim.specs.Trimmed.{first};
 ghost use Rattle.gltf_trimmed.specs.Laws.{cut, cut_all};
 ghost use Rattle.gltf_split.specs.Splits.{value_left, bytes_left};
@@ -19,32 +20,45 @@ pub(crate) fn what_is_left(
     buffers: Vec<Data>,
     drops: bool,
 ) -> Result<Loaded, AllocError>
-    ensures value { IfOk result (λ left. view left.value ≡ value_left drops (view value)) }
+    ensures value { IfOk result (λ left. view left.value
+        ≡ value_left drops (view value) (bytes_of_each buffers.items)) }
     ensures bytes { IfOk result (λ left. bytes_of_each left.buffers.items
         ≡ bytes_left drops (view value) (bytes_of_each buffers.items)) }
 {
     if !drops {
         return Ok(Loaded { value, buffers });
     }
-    let trim = trim_of(alloc, &value)?;
+    let bytes = all_bytes(alloc, buffers)?;
+    let trim = trim_of(alloc, &value, &bytes)?;
     let value = trimmed(alloc, value, &trim)?;
-    let buffers = cut_all(alloc, buffers, &trim.lengths)?;
+    let buffers = cut_all(alloc, bytes, &trim.lengths)?;
     Ok(Loaded { value, buffers })
 }
 
-/// The bytes of buffers, of which some have new lengths.
-fn cut_all(
-    alloc: Global,
-    buffers: Vec<Data>,
-    lengths: &[Option<u64>],
-) -> Result<Vec<Data>, AllocError>
-    ensures { IfOk result (λ all. bytes_of_each all.items
-        ≡ cut_all lengths.now (bytes_of_each buffers.items)) }
+/// The bytes of buffers.
+fn all_bytes(alloc: Global, buffers: Vec<Data>) -> Result<Vec<Vec<u8>>, AllocError>
+    ensures { IfOk result (λ all. bytes_of all.items ≡ bytes_of_each buffers.items) }
 {
     let mut all = Vec::with_capacity(alloc, buffers.len())?;
     'buffers: for buffer in buffers {
+        all.push(buffer.0)?;
+    }
+    Ok(all)
+}
+
+/// Buffers of these bytes, of which some have new lengths.
+fn cut_all(
+    alloc: Global,
+    buffers: Vec<Vec<u8>>,
+    lengths: &[Option<u64>],
+) -> Result<Vec<Data>, AllocError>
+    ensures { IfOk result (λ all. bytes_of_each all.items
+        ≡ cut_all lengths.now (bytes_of buffers.items)) }
+{
+    let mut all = Vec::with_capacity(alloc, buffers.len())?;
+    'buffers: for bytes in buffers {
         let index = all.len();
-        let bytes = cut(buffer.0, length_at(lengths, index))?;
+        let bytes = cut(bytes, length_at(lengths, index))?;
         all.push(Data(bytes))?;
     }
     Ok(all)

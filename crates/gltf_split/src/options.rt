@@ -6,8 +6,7 @@ pub struct SplitOptions {
     /// Images are not touched: each one keeps its view or its URI, and no name is asked for it.
     pub keep_images: bool,
     /// The views at the end of the list that only images name go, since images have files, and so
-    /// do the bytes behind those of the other views in the buffers of these. Where images are not
-    /// touched, this says nothing.
+    /// do their bytes at the ends of buffers. Where images are not touched, this says nothing.
     pub drop_image_views: bool,
     /// The JSON text has line breaks, and two spaces for each step in.
     pub pretty: bool,

@@ -46,10 +46,12 @@ pub struct Pieces {
 /// a blob that no buffer takes are dropped.
 ///
 /// With [`SplitOptions::drop_image_views`] the views at the end of the list go that images name,
-/// and that no accessor names: all other views have the index that they had. Each buffer of a view
-/// that goes ends where the last of the other views in it ends, but has one byte at least; where it
-/// becomes shorter, so do its file and its `byteLength`. All views stay where the document uses an
-/// extension that is not among some which name no view.
+/// and that no accessor names: all other views have the index that they had. All views stay where
+/// the document has an extension that is not among some which name no view: one that it lists as
+/// used, or one under a member `extensions`, at any depth and in `extras` too, listed or not. Each
+/// buffer of a view that goes ends where the last view that stays in it ends, but has one byte at
+/// least; where it becomes shorter, so do its file and its `byteLength`. It stays whole where more
+/// stands behind that end than bytes of views that go, and zeros.
 ///
 /// Returns [`BundleError::Import`] with the error of the import, or where there is not enough
 /// memory. Each other error is of a file that is imported: [`BundleError::View`] with a view that

@@ -1,5 +1,7 @@
+pub mod Known
 pub mod Marks
 pub mod Lengths
+pub mod Tails
 pub mod Trimmed
 pub mod Trims
 pub mod TrimmedLaws

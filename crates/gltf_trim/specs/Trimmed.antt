@@ -64,6 +64,7 @@ with_buffers ls d base =
 abbrev pub trimmed_to : ℕ → List (Option ℕ) → Data → Data
 trimmed_to n ls d = with_views n d (with_buffers ls d d)
 
--- without the views at the end that only images name, and without the bytes behind the others
-abbrev pub trimmed : Data → Data
-trimmed d = trimmed_to (staying d) (lengths (staying d) d) d
+-- without the views at the end that only images name, and without the ends of their buffers, where
+-- these have such bytes that the ends may go
+abbrev pub trimmed : Data → List (List ℕ) → Data
+trimmed d buffers = trimmed_to (staying d) (lengths (staying d) d buffers) d

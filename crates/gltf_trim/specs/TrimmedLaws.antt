@@ -1,7 +1,8 @@
--- Laws of the members of a document with fewer views and shorter buffers.
-use Rattle.std.proofs.Common.{◌≡◌, ℕ, zero, suc, ◌≤◌, List, Option, Some, None, Bool}
-use Rattle.std.proofs.Common.{true, false, bytes_eq, refl, ◌∙◌, codes, max, arith, option_map}
-use Rattle.std.proofs.Common.{if◌then◌else◌, ◌==◌}
+-- Laws of the members of a document with fewer views and shorter buffers, and of what may go.
+use Rattle.std.proofs.Common.{◌≡◌, ℕ, zero, suc, ◌+◌, ◌<◌, ◌≤◌, List, Option, Some, None, Bool}
+use Rattle.std.proofs.Common.{true, false, bytes_eq, refl, ap, ◌∙◌, codes, max, arith, option_map}
+use Rattle.std.proofs.Common.{if◌then◌else◌, ◌==◌, ⊎_elim}
+use Rattle.std.proofs.lemmas.Bool.{cases_eq}
 use Rattle.std.specs.Prelude.{IsSome}
 use Rattle.serde_json.specs.Data.{Data, null, boolean, number, string, array, object, Items}
 use Rattle.serde_json.specs.Data.{no_items, item, Members, no_members, member, depth}
@@ -12,7 +13,7 @@ use Rattle.gltf_edit.specs.BundledLaws.{differ, get_with, get_with_some_other, o
 use Rattle.gltf_edit.specs.DepthLaws.{with_shallow, with_leaf, get_depth}
 use Rattle.gltf_edit.specs.Embedded.{without, without_member}
 use Rattle.gltf_edit.specs.EmbeddedLaws.{get_without, get_without_other}
-use Rattle.gltf_trim.specs.Lengths.{take_items}
+use Rattle.gltf_trim.specs.Lengths.{take_items, holds_from}
 use Rattle.gltf_trim.specs.Trimmed.{first_of, with_buffers, short, first, rest}
 use Rattle.gltf_trim.specs.Trimmed.{each_short, all_short, trimmed_to}
 
@@ -179,3 +180,19 @@ trimmed_depth n ls d k nests = depth_if (n == 0) where
   depth_if false =
       list_depth (first_of n) (first_depth n) (codes "bufferViews") d (with_buffers ls d d) k
       (get (codes "bufferViews") d) refl nests base_nests
+
+-- ---- places
+
+-- what holds from place e on holds at each place there
+pub holds_at : (f : ℕ → Bool) (e n i : ℕ) → holds_from f e n ≡ true → e ≤ i → i < e + n
+    → f i ≡ true
+holds_at f e zero i all from to = absurd (omega (arith, from, to))
+holds_at f e (suc n) i all from to =
+    at_if (f (e + n)) refl all (λ before. holds_at f e n i before from) where
+      at_if : (b : Bool) → f (e + n) ≡ b → (if b then holds_from f e n else false) ≡ true
+          → (holds_from f e n ≡ true → i < e + n → f i ≡ true) → f i ≡ true
+      at_if true is all earlier =
+          ⊎_elim (λ same. ap f same ∙ is)
+          (λ apart. earlier all (let less : i < e + n = grind arith in less))
+          (cases_eq i (e + n))
+      at_if false is all earlier = cc

@@ -1,24 +1,29 @@
 //! Where buffers end.
-ghost use Rattle.std.specs.Prelude.{◌≡◌, ◌≤◌, IfOk, length, get_or};
+ghost use Rattle.std.specs.Prelude.{◌≡◌, [], IfOk, get_or, false, ◌&&◌};
 ghost use Rattle.serde_json.specs.View.{view, items_view};
 ghost use Rattle.gltf_trim.specs.Lengths.{marked_buffer, view_end, raised, raised_by};
 ghost use Rattle.gltf_trim.specs.Lengths.{shorter, shorter_if, all_shorter, lengths};
 ghost use Rattle.gltf_trim.specs.Marks.{folded};
+ghost use Rattle.gltf_trim.specs.Tails.{bytes_of, is_blank};
 
 use crate::lists::list_at;
 use crate::marks::{is_marked, set_mark};
+use crate::tails::{clear_views, is_blank_at, number_at, tails};
 use gltf_edit::size_at;
 use serde_json::Value;
 use std::alloc::{AllocError, Global};
 
 /// Of each buffer of a document, how many bytes it has once only so many views stay, where it
-/// becomes shorter: the buffer of a view that goes ends where the last of the others ends.
+/// becomes shorter: the buffer of a view that goes ends where the last of the others ends, if only
+/// bytes of views that go stand behind, and zeros.
 pub(crate) fn lengths(
     alloc: Global,
     document: &Value,
     stay: usize,
+    bytes: &[Vec<u8>],
 ) -> Result<Vec<Option<u64>>, AllocError>
-    ensures { IfOk result (λ ls. ls.items ≡ lengths stay (view document.now)) }
+    ensures { IfOk result (λ ls. ls.items
+        ≡ lengths stay (view document.now) (bytes_of bytes.now)) }
 {
     let buffers = list_at(document, "buffers");
     let mut marks = vec![in alloc; false; buffers.len()]?;
@@ -27,7 +32,9 @@ pub(crate) fn lengths(
     let stay = stay.min(views.len());
     mark_buffers(&mut marks, &views[stay..]);
     raise_ends(&mut ends, &views[..stay]);
-    all_shorter(alloc, &marks, &ends, buffers)
+    let mut tails = tails(alloc, &marks, &ends, bytes)?;
+    clear_views(&mut tails, &ends, &views[stay..]);
+    all_shorter(alloc, &marks, &ends, &tails, buffers)
 }
 
 /// Marks the buffers of views that go.
@@ -63,7 +70,7 @@ fn raise(ends: &mut Vec<u64>, buffer: Option<u64>, end: u64)
 }
 
 /// Where a view ends in its buffer.
-fn view_end(one: &Value) -> u64
+pub(crate) fn view_end(one: &Value) -> u64
     ensures { result ≡ view_end (view one.now) }
 {
     let offset = size_at(one, "byteOffset").unwrap_or(0);
@@ -71,28 +78,30 @@ fn view_end(one: &Value) -> u64
     offset.saturating_add(length)
 }
 
-/// The lengths of buffers with marks, where these ends are less.
+/// The lengths of buffers with marks and only zeros in their tails, where these ends are less.
 fn all_shorter(
     alloc: Global,
     marks: &[bool],
     ends: &[u64],
+    tails: &[Vec<u8>],
     buffers: &[Value],
 ) -> Result<Vec<Option<u64>>, AllocError>
-    ensures { IfOk result (λ ls. ls.items ≡ all_shorter marks.now ends.now 0
-        (items_view buffers.now)) }
+    ensures { IfOk result (λ ls. ls.items ≡ all_shorter
+        (λ b. get_or marks.now b false && is_blank (get_or (bytes_of tails.now) b []))
+        ends.now 0 (items_view buffers.now)) }
 {
     let mut all = Vec::with_capacity(alloc, buffers.len())?;
     for (i, buffer) in buffers.iter().enumerate() {
-        let end = ends.get(i).copied().unwrap_or(0);
-        all.push(shorter_if(is_marked(marks, i), end, buffer))?;
+        let may = is_marked(marks, i) && is_blank_at(tails, i);
+        all.push(shorter_if(may, number_at(ends, i), buffer))?;
     }
     Ok(all)
 }
 
-fn shorter_if(mark: bool, end: u64, buffer: &Value) -> Option<u64>
-    ensures { result ≡ shorter_if mark end (view buffer.now) }
+fn shorter_if(may: bool, end: u64, buffer: &Value) -> Option<u64>
+    ensures { result ≡ shorter_if may end (view buffer.now) }
 {
-    if mark { shorter(end, buffer) } else { None }
+    if may { shorter(end, buffer) } else { None }
 }
 
 /// How many bytes a buffer has that becomes shorter: at least one.

@@ -4,9 +4,11 @@
 #![tactic(auto)]
 
 mod documents;
+mod known;
 mod lengths;
 mod lists;
 mod marks;
+mod tails;
 mod trim;
 
 pub use documents::trimmed;

@@ -1,20 +1,18 @@
 //! How many views stay.
 ghost use Rattle.std.specs.Prelude.{◌≡◌, ◌≤◌, IfOk, false, get_or};
-ghost use Rattle.serde_json.specs.Find.{as_str};
 ghost use Rattle.serde_json.specs.View.{view, items_view};
-ghost use Rattle.gltf_edit.specs.Embedded.{items_at, count_at};
-ghost use Rattle.gltf_trim.specs.Marks.{is_known, is_known_text, are_known, is_plain, marked};
-ghost use Rattle.gltf_trim.specs.Marks.{folded, marked_image, marked_accessor, sparse_view, marks};
-ghost use Rattle.gltf_trim.specs.Marks.{before_marked, staying};
+ghost use Rattle.gltf_trim.specs.Marks.{folded, marked, marked_image, marked_accessor};
+ghost use Rattle.gltf_trim.specs.Marks.{sparse_view, before_marked, staying};
 
+use crate::known::is_plain;
 use crate::lists::list_at;
 use gltf_edit::size_at;
 use serde_json::Value;
 use std::alloc::{AllocError, Global};
 
 /// How many views of a document stay: all but those at the end of the list that images name, and
-/// that no accessor names. All stay where the document uses an extension that is not known here: it
-/// might name a view.
+/// that no accessor names. All stay where the document lists an extension that is not known here,
+/// or one stands in it: it might name a view.
 pub(crate) fn staying(alloc: Global, document: &Value) -> Result<usize, AllocError>
     ensures { IfOk result (λ n. n ≡ staying (view document.now)) }
 {
@@ -26,72 +24,6 @@ pub(crate) fn staying(alloc: Global, document: &Value) -> Result<usize, AllocErr
     mark_images(&mut marks, list_at(document, "images"));
     unmark_accessors(&mut marks, list_at(document, "accessors"));
     Ok(before_marked(count, &marks))
-}
-
-/// Whether a document lists no extension as used but those none of whose members names a buffer or
-/// a view.
-fn is_plain(document: &Value) -> bool
-    ensures { result ≡ is_plain (view document.now) }
-{
-    match document.get("extensionsUsed") {
-        Some(Value::Array(list)) => are_known(list),
-        Some(_) => false,
-        None => true,
-    }
-}
-
-/// Whether each of these is the name of a known extension.
-fn are_known(names: &[Value]) -> bool
-    ensures { result ≡ are_known (items_view names.now) }
-{
-    for name in names {
-        if !is_known_text(name) {
-            return false;
-        }
-    }
-    true
-}
-
-/// Whether this is the name of a known extension.
-fn is_known_text(name: &Value) -> bool
-    ensures { result ≡ is_known_text (as_str (view name.now)) }
-{
-    match name.as_str() {
-        Some(name) => is_known(name),
-        None => false,
-    }
-}
-
-/// Whether an extension is known, and none of its members names a buffer or a view.
-fn is_known(name: &str) -> bool
-    ensures { result ≡ is_known name.now }
-{
-    match name {
-        "EXT_mesh_gpu_instancing"
-        | "EXT_texture_webp"
-        | "KHR_animation_pointer"
-        | "KHR_lights_punctual"
-        | "KHR_materials_anisotropy"
-        | "KHR_materials_clearcoat"
-        | "KHR_materials_diffuse_transmission"
-        | "KHR_materials_dispersion"
-        | "KHR_materials_emissive_strength"
-        | "KHR_materials_ior"
-        | "KHR_materials_iridescence"
-        | "KHR_materials_pbrSpecularGlossiness"
-        | "KHR_materials_sheen"
-        | "KHR_materials_specular"
-        | "KHR_materials_transmission"
-        | "KHR_materials_unlit"
-        | "KHR_materials_variants"
-        | "KHR_materials_volume"
-        | "KHR_mesh_quantization"
-        | "KHR_node_visibility"
-        | "KHR_texture_basisu"
-        | "KHR_texture_transform"
-        | "KHR_xmp_json_ld" => true,
-        _ => false,
-    }
 }
 
 /// Sets the mark at an index, where there is one.

@@ -1,6 +1,7 @@
 //! What is taken from a document.
 ghost use Rattle.std.specs.Prelude.{IfOk};
 ghost use Rattle.serde_json.specs.View.{view};
+ghost use Rattle.gltf_trim.specs.Tails.{bytes_of};
 ghost use Rattle.gltf_trim.specs.Trims.{IsTrimOf};
 
 use crate::lengths::lengths;
@@ -17,16 +18,22 @@ pub struct Trim {
     pub lengths: Vec<Option<u64>>,
 }
 
-/// What is left of a document whose images go into files of their own.
+/// What is left of a document whose images go into files of their own, and whose buffers have these
+/// bytes.
 ///
 /// All views stay but those at the end of the list that images name, and that no accessor names:
-/// so none has another index. All stay where the document uses an extension that is not known here,
-/// since it might name a view. Each buffer of a view that goes ends where the last of the other
-/// views in it ends, and has one byte at least.
-pub fn trim_of(alloc: Global, document: &Value) -> Result<Trim, AllocError>
-    ensures { IfOk result (IsTrimOf (view document.now)) }
+/// so none has another index. All stay where the document lists an extension as used that is not
+/// known here, or where a member `extensions`, however deep, in `extras` too, is anything but an
+/// object of known ones: what is not known might name a view. Nothing else in extras is looked at.
+///
+/// The buffer of a view that goes ends where the last view that stays in it ends, and it has one
+/// byte at least; but it stays whole where anything stands behind that end that is not zero, and in
+/// no view that goes. So only zeros and bytes of views that go are lost, and what is left keeps its
+/// place.
+pub fn trim_of(alloc: Global, document: &Value, buffers: &[Vec<u8>]) -> Result<Trim, AllocError>
+    ensures { IfOk result (IsTrimOf (view document.now) (bytes_of buffers.now)) }
 {
     let views = staying(alloc, document)?;
-    let lengths = lengths(alloc, document, views)?;
+    let lengths = lengths(alloc, document, views, buffers)?;
     Ok(Trim { views, lengths })
 }

@@ -29,12 +29,12 @@ pub keeps_items : {X : Type 0} (t : Ghosts X) → (t.size < 2 ^ 64 - 1 → Reads
     → SameInEachMember → ReadAlike t → KeepsItems t
 keeps_items t front members alike d r buffers over s is index result =
     let n = staying d in
-    let ls = lengths n d in
+    let ls = lengths n d buffers in
     let mid = short_root n ls r in
     let old = slice_get buffers in
     let new = slice_get (trimmed_bytes d buffers) in
     let same : root.content mid ≡ root.content s =
-    root.alike (trimmed d) mid s (is_short n ls d r over.is) is in
+    root.alike (trimmed d buffers) mid s (is_short n ls d r over.is) is in
     let views = stays_at old new n r.buffer_views.items (left d r buffers over) in
     let names = named d r over.is in (
       λ reads.

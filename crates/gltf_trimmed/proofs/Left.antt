@@ -46,7 +46,7 @@ module _ (d : Data) (r : Root) (buffers : List (List ℕ)) (over : IsReadOver d 
   n = staying d
 
   abbrev ls : List (Option ℕ)
-  ls = lengths n d
+  ls = lengths n d buffers
 
   buffer_read : (b : ℕ) (buf : Buffer) → slice_get r.buffers.items b ≡ Some buf
       → IsReadAt buffer.is (items_at (codes "buffers") d) b buf
@@ -101,7 +101,7 @@ module _ (d : Data) (r : Root) (buffers : List (List ℕ)) (over : IsReadOver d 
   left_at i b there None is = over.each i b there
   left_at i b there (Some l) is =
       let found = buffer_read i b there in
-      let less = lengths_less n d found.value i l found.there is in
+      let less = lengths_less n d found.value buffers i l found.there is in
       let same = declared found.value b found.is in
       let enough = (over.each i b there).long in
       record {
@@ -122,7 +122,7 @@ module _ (d : Data) (r : Root) (buffers : List (List ℕ)) (over : IsReadOver d 
       (subst (λ (b : Buffer). AreBytesOf b (cut (length_at ls i) (get_or buffers i []))) same
       (left_at i b there (length_at ls i) refl))
 
-  is_over : IsReadOver (trimmed d) (short_root n ls r)
+  is_over : IsReadOver (trimmed d buffers) (short_root n ls r)
       (cut_all ls buffers)
   is_over = record {
     is = is_short n ls d r over.is;
@@ -149,7 +149,7 @@ module _ (d : Data) (r : Root) (buffers : List (List ℕ)) (over : IsReadOver d 
           let buf = at r.buffers.items v.buffer (omega (arith, count, inside)) in
           let of_buf = buffer_read v.buffer buf.value buf.there in
           let buffers_count = buffer_count in
-          let less = ends_within n d e of_buf.value j v.buffer l below found.there
+          let less = ends_within n d e of_buf.value buffers j v.buffer l below found.there
           (names_buffer e v found.is) (omega (arith, count, inside, buffers_count)) of_buf.there
           short in
           let given = over.each v.buffer buf.value buf.there in
@@ -195,4 +195,4 @@ module _ (d : Data) (r : Root) (buffers : List (List ℕ)) (over : IsReadOver d 
 
 pub read_trimmed : IsReadTrimmed
 read_trimmed d r buffers over =
-    (short_root (staying d) (lengths (staying d) d) r, is_over d r buffers over, refl)
+    (short_root (staying d) (lengths (staying d) d buffers) r, is_over d r buffers over, refl)

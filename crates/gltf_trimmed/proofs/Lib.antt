@@ -9,3 +9,4 @@ mod Left
 mod Parts
 mod Items
 mod Alike
+mod Kept

@@ -10,7 +10,8 @@ use Rattle.serde_json.specs.Find.{get_item}
 use Rattle.gltf_edit.specs.Bundled.{size_at}
 use Rattle.gltf_edit.specs.Embedded.{items_at, count_at}
 use Rattle.gltf_trim.specs.Marks.{folded, marked, marked_image, marked_accessor, sparse_view}
-use Rattle.gltf_trim.specs.Marks.{marks, before_marked, is_plain, staying}
+use Rattle.gltf_trim.specs.Known.{is_plain}
+use Rattle.gltf_trim.specs.Marks.{marks, before_marked, staying}
 
 -- there is no mark at an index of a list
 pub record IsBare (v : ℕ) (ms : List Bool) : Type 0 where

@@ -12,14 +12,14 @@ pub buffers-preserved : goal.buffers-preserved
 buffers-preserved c =
     let ls = c.args.lengths.now in
     let far = c.buffers in
-    let b = c.in-Some.buffer in
+    let b = c.in-Some.bytes in
     let d : Data = record { 0 = c.in_ok-bytes.bytes } in
     let all : c.push.new.self.items ≡ far.all.items ++ d ∷ [] = search rules in
     let long : c.len-index.result ≡ length far.yielded = grind (arith, common_steps) in
-    let here : c.in_ok-bytes.bytes.items ≡ cut (first (drop (length far.yielded) ls)) b.0.items =
+    let here : c.in_ok-bytes.bytes.items ≡ cut (first (drop (length far.yielded) ls)) b.items =
     c.in_ok-bytes.ensures
-    ∙ ap (λ (o : Option ℕ). cut o b.0.items) c.length_at.ensures
-    ∙ ap (λ (n : ℕ). cut (first (drop n ls)) b.0.items) long in
+    ∙ ap (λ (o : Option ℕ). cut o b.items) c.length_at.ensures
+    ∙ ap (λ (n : ℕ). cut (first (drop n ls)) b.items) long in
     let one = length_push far.all.items d in
     let other = length_push far.yielded b in
     let count = far.invariant.count in

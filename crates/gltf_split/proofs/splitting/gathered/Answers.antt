@@ -27,7 +27,7 @@ returns-clause-split g c =
     was.ensures.kept (rw c.deref.ensures.value at c.in_ok-images.ensures.parts) in
     let left = c.in_ok-left in
     let value = left.ensures.value
-    ∙ ap (λ (b : Bool). value_left b document) c.drops_views.ensures in
+    ∙ ap (λ (b : Bool). value_left b document all) c.drops_views.ensures in
     let bytes = left.ensures.bytes
     ∙ ap (λ (b : Bool). bytes_left b document all) c.drops_views.ensures in
     let us = buffer_uris c.in_ok-buffers.buffers.items in

@@ -1,7 +1,7 @@
 use Rattle.std.proofs.Common.{◌≡◌, drop}
 use Rattle.serde_json.specs.View.{items_view}
-use Rattle.gltf_trim.specs.Marks.{are_known}
-use Rattle.gltf_trim.proofs.marks.are_known.Given as goal
+use Rattle.gltf_trim.specs.Known.{are_known}
+use Rattle.gltf_trim.proofs.known.are_known.Given as goal
 
 -- those that are left decide
 abbrev pub invariant-loop-name : goal.invariant-loop-name
