@@ -2,7 +2,8 @@
 
 pub mod check;
 pub mod convert;
+mod imported;
 pub mod open;
 pub mod read;
 pub mod refuse;
-mod shown;
+pub mod values;

@@ -2,28 +2,27 @@
 //!
 //! `gltf_bench JOB ROUNDS SIZE SEED` does a job so many times, on files of that size, each time on
 //! others, and prints the job and a digest of all results. The jobs are `open`, `read`, `check`,
-//! `folder`, `convert` and `refuse`; `all` does each of them. `docs/PERF.md` says how it is used.
+//! `folder`, `convert`, `refuse` and `values`; `all` does each of them. `docs/PERF.md` says how
+//! they are used.
 #![tactic(auto)]
 
-mod digest;
-mod inputs;
 mod jobs;
-mod random;
-mod template;
-mod text;
 
-use digest::Digest;
+use gltf_bench_digest::digest::Digest;
 use jobs::check::{check, folder};
 use jobs::convert::convert;
 use jobs::open::open;
 use jobs::read::read;
 use jobs::refuse::refuse;
+use jobs::values::values;
 use std::alloc::{AllocError, Global};
 use std::process::ExitCode;
 use std::{env, io};
 
 /// All jobs.
-const JOBS: [&str; 6] = ["open", "read", "check", "folder", "convert", "refuse"];
+const JOBS: [&str; 7] = [
+    "open", "read", "check", "folder", "convert", "refuse", "values",
+];
 
 /// How much of a job is done, and on what.
 #[derive(Clone, Copy)]
@@ -73,7 +72,8 @@ fn done(alloc: Global, job: &str, work: Work) -> Result<u64, AllocError> {
         "check" => check(alloc, rounds, size, seed, &mut digest)?,
         "folder" => folder(alloc, rounds, size, seed, &mut digest)?,
         "convert" => convert(alloc, rounds, size, seed, &mut digest)?,
-        _ => refuse(alloc, rounds, size, seed, &mut digest)?,
+        "refuse" => refuse(alloc, rounds, size, seed, &mut digest)?,
+        _ => values(alloc, rounds, size, seed, &mut digest)?,
     }
     Ok(digest.number())
 }

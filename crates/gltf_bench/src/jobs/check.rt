@@ -1,14 +1,15 @@
 //! Files are checked: `gltf_inspect_files::inspect_slice`, and the report as JSON.
-use crate::digest::Digest;
-use crate::inputs::{awkward, character, scene};
-use crate::jobs::shown::add_error;
-use crate::text::File;
-use gltf_inspect_files::inspect::inspect_slice;
+use crate::jobs::imported::add_imported;
+use gltf_bench_digest::digest::{Digest, Digested};
+use gltf_bench_digest::errors::add_error;
+use gltf_bench_files::text::File;
+use gltf_bench_files::{awkward, character, scene};
+use gltf_inspect_files::inspect::{Inspected, inspect_slice};
 use gltf_report::json::json_text;
 use std::alloc::{AllocError, Global};
 
 /// Checks three large files so many times: a scene of ten nodes for each cube, a character, and a
-/// chain of a hundred nodes for each cube.
+/// chain of thirty nodes for each cube.
 pub fn check(
     alloc: Global,
     rounds: u32,
@@ -69,17 +70,31 @@ fn small_files(alloc: Global, count: u32, seed: u64) -> Result<Vec<File>, AllocE
     Ok(files)
 }
 
-/// Checks a file, and adds its report.
+/// Checks a file, and adds what is found.
 pub fn check_file(alloc: Global, bytes: &[u8], digest: &mut Digest) -> Result<(), AllocError> {
     let file = inspect_slice(alloc, bytes)?;
+    add_inspected(alloc, &file, digest)
+}
+
+/// Adds the report of a file as JSON, and what is imported or why nothing is.
+pub fn add_inspected(
+    alloc: Global,
+    file: &Inspected,
+    digest: &mut Digest,
+) -> Result<(), AllocError> {
     let root = match &file.imported {
         Some((document, _buffers)) => Some(document.as_json()),
         None => None,
     };
     let report = json_text(alloc, "file.glb", &file.report, root, None, false)?;
-    digest.text(report.as_str());
-    if let Some(error) = &file.cause {
-        add_error(alloc, error, digest);
+    report.add_to(digest);
+    match &file.imported {
+        Some((document, buffers)) => add_imported(document, buffers, digest),
+        None => digest.absent(),
+    }
+    match &file.cause {
+        Some(error) => add_error(alloc, error, digest),
+        None => digest.absent(),
     }
     Ok(())
 }

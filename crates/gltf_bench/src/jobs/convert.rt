@@ -1,12 +1,12 @@
 //! Files are converted: `gltf_bundle::bundle`, `gltf_split::split` and `gltf_pack::repack`.
-use crate::digest::Digest;
-use crate::inputs::character::{copies, floats};
-use crate::inputs::scene::{self, looks};
-use crate::jobs::shown::add_error;
-use crate::random::Random;
-use crate::text::File;
 use gltf::{Name, Shelf};
-use gltf_bundle::{BundleError, BundleOptions, bundle};
+use gltf_bench_digest::digest::{Digest, Digested};
+use gltf_bench_digest::errors::add_error;
+use gltf_bench_files::blob::{Blob, copies, floats};
+use gltf_bench_files::random::Random;
+use gltf_bench_files::scene::{self, looks};
+use gltf_bench_files::text::File;
+use gltf_bundle::{BundleOptions, bundle};
 use gltf_pack::repack;
 use gltf_split::{Pieces, SplitOptions, split};
 use std::alloc::{AllocError, Global};
@@ -25,10 +25,12 @@ pub fn convert(
     digest: &mut Digest,
 ) -> Result<(), AllocError> {
     let mut text = text(alloc, seed, cubes)?;
+    let mut cube_bytes = scene::bytes(alloc, cubes)?;
     let mut random = Random::new(seed);
-    for round in 0..rounds {
+    for _ in 0..rounds {
         text.renew();
-        let mut shelf = shelf(alloc, &text, cubes, round, &mut random)?;
+        cube_bytes.renew(&mut random);
+        let mut shelf = shelf(alloc, &text, &cube_bytes, cubes, &mut random)?;
         let options = BundleOptions { keep_images: false };
         match bundle(alloc, &mut shelf, "scene.gltf", &options) {
             Ok(container) => {
@@ -37,7 +39,7 @@ pub fn convert(
                 add_split(alloc, &mut shelf, digest)?;
                 add_repacked(alloc, &container, digest);
             }
-            Err(error) => add_refusal(alloc, &error, digest),
+            Err(error) => add_error(alloc, &error, digest),
         }
     }
     Ok(())
@@ -45,15 +47,14 @@ pub fn convert(
 
 /// The text of the scene. Its cubes are in the first buffer, and a larger one lies beside it.
 fn text(alloc: Global, seed: u64, cubes: u32) -> Result<File, AllocError> {
-    let mut buffers = String::from_str(alloc, "{\"uri\": \"cubes.bin\", \"byteLength\": ")?;
-    let length = cubes.wrapping_mul(840);
-    write!(
-        buffers,
-        "{length}}}, {{\"uri\": \"more.bin\", \"byteLength\": "
-    )?;
-    let length = more(cubes);
-    write!(buffers, "{length}}}")?;
-    scene::text(alloc, seed, cubes, false, buffers.as_str(), scene::LAST)
+    let mut file = scene::text(alloc, seed, cubes, false, scene::LAST)?;
+    file.text("{\"uri\": \"cubes.bin\", \"byteLength\": ")?;
+    file.number(u64::from(scene::length(cubes)))?;
+    file.text("}, {\"uri\": \"more.bin\", \"byteLength\": ")?;
+    file.number(u64::from(more(cubes)))?;
+    file.text("}")?;
+    file.text(scene::END)?;
+    Ok(file)
 }
 
 /// How many bytes the second buffer has.
@@ -61,26 +62,26 @@ fn more(cubes: u32) -> u32 {
     cubes.wrapping_mul(8000)
 }
 
-/// The text, its buffers and its images. Of these each one has other bytes in another round.
+/// The text, its buffers and its images. The second buffer and the images have other floats in each
+/// round.
 fn shelf(
     alloc: Global,
     text: &File,
+    cube_bytes: &Blob,
     cubes: u32,
-    round: u32,
     random: &mut Random,
 ) -> Result<Shelf, AllocError> {
     let mut shelf = Shelf::new(alloc);
     shelf.put(Name::File("scene.gltf"), &text.bytes)?;
-    let bytes = scene::cubes_bytes(alloc, cubes)?;
-    shelf.put(Name::Relative("cubes.bin"), &bytes)?;
-    let mut bytes = Vec::new(alloc);
+    shelf.put(Name::Relative("cubes.bin"), &cube_bytes.bytes)?;
     let piece = floats(alloc, random)?;
+    let mut bytes = Vec::new(alloc);
     copies(&mut bytes, &piece, more(cubes))?;
     shelf.put(Name::Relative("more.bin"), &bytes)?;
     for k in 0..looks(cubes) {
         let name = format!(in alloc; "wood_color_{k}.png")?;
         let mut image = Vec::from_slice(alloc, b"\x89PNG\r\n\x1a\n")?;
-        image.extend_from_slice(&round.to_le_bytes())?;
+        image.extend_from_slice(&k.to_le_bytes())?;
         copies(&mut image, &piece, cubes.wrapping_mul(IMAGE))?;
         shelf.put(Name::Relative(name.as_str()), &image)?;
     }
@@ -96,21 +97,26 @@ fn add_split(alloc: Global, shelf: &mut Shelf, digest: &mut Digest) -> Result<()
     };
     match split(alloc, shelf, "scene.glb", "scene", &options) {
         Ok(pieces) => add_pieces(&pieces, digest),
-        Err(error) => add_refusal(alloc, &error, digest),
+        Err(error) => add_error(alloc, &error, digest),
     }
     Ok(())
 }
 
 fn add_pieces(pieces: &Pieces, digest: &mut Digest) {
-    digest.text(pieces.json.as_str());
+    pieces.json.add_to(digest);
+    digest.count(pieces.buffers.len());
     for buffer in &pieces.buffers {
-        digest.text(buffer.name.as_str());
+        buffer.name.add_to(digest);
         digest.bytes(&buffer.bytes);
     }
+    digest.count(pieces.images.len());
     for image in &pieces.images {
-        if let Some(image) = image {
-            digest.text(image.name.as_str());
-            digest.bytes(&image.bytes);
+        match image {
+            Some(image) => {
+                image.name.add_to(digest);
+                digest.bytes(&image.bytes);
+            }
+            None => digest.absent(),
         }
     }
 }
@@ -120,12 +126,5 @@ fn add_repacked(alloc: Global, container: &[u8], digest: &mut Digest) {
     match repack(alloc, container) {
         Ok(repacked) => digest.bytes(&repacked),
         Err(error) => add_error(alloc, &error, digest),
-    }
-}
-
-/// Adds why a file is not converted.
-fn add_refusal(alloc: Global, error: &BundleError, digest: &mut Digest) {
-    if let Ok(text) = error.to_string(alloc) {
-        digest.text(text.as_str());
     }
 }

@@ -1,9 +1,10 @@
 //! Files are opened: `gltf::import_slice` and `gltf::Gltf::from_vec`.
-use crate::digest::Digest;
-use crate::inputs::{awkward, character, scene};
-use crate::jobs::shown::{add_buffers, add_document, add_error};
-use crate::text::File;
-use gltf::{Gltf, import_slice};
+use crate::jobs::imported::add_import;
+use gltf::Gltf;
+use gltf_bench_digest::digest::{Digest, Digested};
+use gltf_bench_digest::errors::add_error;
+use gltf_bench_files::text::File;
+use gltf_bench_files::{awkward, character, scene};
 use std::alloc::{AllocError, Global};
 
 /// Opens files so many times: a scene of ten nodes for each cube as a container and as pretty text,
@@ -20,7 +21,7 @@ pub fn open(
         for (k, file) in files.iter_mut().enumerate() {
             file.renew();
             if k as u64 % 2 == u64::from(round % 2) {
-                open_slice(alloc, file, digest);
+                add_import(alloc, &file.bytes, digest);
             } else {
                 open_vec(alloc, file, digest)?;
             }
@@ -29,7 +30,7 @@ pub fn open(
     Ok(())
 }
 
-/// The files. Each is about as long as the others.
+/// The files, of one to four megabytes each for a thousand cubes.
 fn files(alloc: Global, cubes: u32, seed: u64) -> Result<Vec<File>, AllocError> {
     let mut files = Vec::new(alloc);
     files.push(scene::container(alloc, seed, cubes, scene::LAST)?)?;
@@ -42,22 +43,17 @@ fn files(alloc: Global, cubes: u32, seed: u64) -> Result<Vec<File>, AllocError> 
     Ok(files)
 }
 
-/// Imports a file from its bytes.
-fn open_slice(alloc: Global, file: &File, digest: &mut Digest) {
-    match import_slice(alloc, &file.bytes) {
-        Ok((document, buffers)) => {
-            add_document(&document, digest);
-            add_buffers(&buffers, digest);
-        }
-        Err(error) => add_error(alloc, &error, digest),
-    }
-}
-
 /// Reads a file from bytes that are given up.
 fn open_vec(alloc: Global, file: &File, digest: &mut Digest) -> Result<(), AllocError> {
     let copy = Vec::from_slice(alloc, &file.bytes)?;
     match Gltf::from_vec(alloc, copy) {
-        Ok(read) => add_document(&read.document, digest),
+        Ok(read) => {
+            read.document.as_json().add_to(digest);
+            match &read.blob {
+                Some(blob) => digest.bytes(blob),
+                None => digest.absent(),
+            }
+        }
         Err(error) => add_error(alloc, &error, digest),
     }
     Ok(())

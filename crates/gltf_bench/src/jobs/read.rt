@@ -3,17 +3,18 @@ ghost use Rattle.std.specs.Iterator.{IsFinite};
 ghost use Rattle.gltf_read.specs.Channels.{closure_of as asked_of_channel};
 ghost use Rattle.gltf_read.specs.Primitives.{closure_of as asked_of_primitive};
 
-use crate::digest::{Bits, Digest};
-use crate::inputs::{character, scene};
-use crate::jobs::shown::add_error;
-use crate::text::File;
 use gltf::buffer::{Data, bytes_of};
 use gltf::{Buffer, Document, import_slice};
 use gltf_access::to_bytes;
-use gltf_casting::animation::util::{ReadOutputs, Rotations};
+use gltf_bench_digest::digest::{Digest, Digested};
+use gltf_bench_digest::errors::add_error;
+use gltf_bench_files::text::File;
+use gltf_bench_files::{character, scene};
+use gltf_casting::animation::util::{MorphTargetWeights, ReadOutputs, Rotations};
 use gltf_casting::mesh::util::{ReadTexCoords, ReadWeights};
 use gltf_data::accessor::Iter;
-use gltf_items::F32;
+use gltf_items::Item;
+use gltf_read::mesh::util::ReadMorphTarget;
 use gltf_read::{animation, mesh, skin};
 use std::alloc::{AllocError, Global};
 
@@ -26,24 +27,29 @@ pub fn read(
     digest: &mut Digest,
 ) -> Result<(), AllocError> {
     let mut body = character::container(alloc, seed, vertices, 2)?;
-    let mut props = scene::container(alloc, seed ^ 1, vertices / 200, scene::LAST)?;
-    for _ in 0..rounds {
+    let mut props = scene::container(alloc, seed ^ 1, (vertices / 200).max(1), scene::LAST)?;
+    for round in 0..rounds {
         body.renew();
-        read_file(alloc, &body, digest)?;
+        read_file(alloc, &body, round, digest)?;
         props.renew();
-        read_file(alloc, &props, digest)?;
+        read_file(alloc, &props, round, digest)?;
     }
     Ok(())
 }
 
 /// Reads all of a file.
-fn read_file(alloc: Global, file: &File, digest: &mut Digest) -> Result<(), AllocError> {
+fn read_file(
+    alloc: Global,
+    file: &File,
+    round: u32,
+    digest: &mut Digest,
+) -> Result<(), AllocError> {
     match import_slice(alloc, &file.bytes) {
         Ok((document, buffers)) => {
             add_meshes(&document, &buffers, digest);
             add_skins(&document, &buffers, digest);
             add_animations(&document, &buffers, digest);
-            add_flat(alloc, &document, &buffers, digest)
+            add_flat(alloc, &document, &buffers, round, digest)
         }
         Err(error) => {
             add_error(alloc, &error, digest);
@@ -74,20 +80,18 @@ fn add_vertices<'s, F: Fn(Buffer) -> Option<&'s [u8]>>(
 )
     requires { F.IsAlwaysCallable (asked_of_primitive reader.now) }
 {
-    if let Some(positions) = reader.read_positions() {
-        add_items(positions, digest);
+    add_some(reader.read_positions(), digest);
+    add_some(reader.read_normals(), digest);
+    add_some(reader.read_tangents(), digest);
+    match reader.read_tex_coords(0) {
+        Some(ReadTexCoords::U8(coords)) => add_items(coords, digest),
+        Some(ReadTexCoords::U16(coords)) => add_items(coords, digest),
+        Some(ReadTexCoords::F32(coords)) => add_items(coords, digest),
+        None => digest.absent(),
     }
-    if let Some(normals) = reader.read_normals() {
-        add_items(normals, digest);
-    }
-    if let Some(tangents) = reader.read_tangents() {
-        add_items(tangents, digest);
-    }
-    if let Some(ReadTexCoords::F32(coords)) = reader.read_tex_coords(0) {
-        add_items(coords, digest);
-    }
-    if let Some(indices) = reader.read_indices() {
-        add_items(indices.into_u32(), digest);
+    match reader.read_indices() {
+        Some(indices) => add_items(indices.into_u32(), digest),
+        None => digest.absent(),
     }
 }
 
@@ -98,35 +102,39 @@ fn add_skinning<'s, F: Fn(Buffer) -> Option<&'s [u8]>>(
 )
     requires { F.IsAlwaysCallable (asked_of_primitive reader.now) }
 {
-    if let Some(joints) = reader.read_joints(0) {
-        add_items(joints.into_u16(), digest);
+    match reader.read_joints(0) {
+        Some(joints) => add_items(joints.into_u16(), digest),
+        None => digest.absent(),
     }
-    if let Some(ReadWeights::U16(weights)) = reader.read_weights(0) {
-        add_items(weights, digest);
+    match reader.read_weights(0) {
+        Some(ReadWeights::U8(weights)) => add_items(weights, digest),
+        Some(ReadWeights::U16(weights)) => add_items(weights, digest),
+        Some(ReadWeights::F32(weights)) => add_items(weights, digest),
+        None => digest.absent(),
     }
 }
 
-/// Adds the positions of all morph targets: of each second one, every third position, by `nth`.
+/// Adds all morph targets. Of each second one it adds every third position, by `nth`.
 fn add_targets<'s, F: Fn(Buffer) -> Option<&'s [u8]>>(
     reader: &mesh::Reader<'_, 's, F>,
     digest: &mut Digest,
 )
     requires { F.IsAlwaysCallable (asked_of_primitive reader.now) }
 {
+    // An iterator for each, since the prover does not take a loop over this one.
     for k in 0..reader.read_morph_targets().count() {
-        if let Some((positions, _normals, _tangents)) = reader.read_morph_targets().nth(k) {
-            add_target(positions, k % 2 == 0, digest);
+        if let Some(target) = reader.read_morph_targets().nth(k) {
+            add_target(target, k % 2 == 0, digest);
         }
     }
 }
 
-/// Adds the positions of a morph target, all of them or every third one.
-fn add_target(positions: Option<Iter<'_, [F32; 3]>>, is_whole: bool, digest: &mut Digest) {
-    match positions {
-        Some(positions) if is_whole => add_items(positions, digest),
-        Some(positions) => add_each_third(positions, digest),
-        None => digest.add(0),
-    }
+/// Adds a morph target: its positions, all of them or every third one, and the rest.
+fn add_target(target: ReadMorphTarget<'_>, is_whole: bool, digest: &mut Digest) {
+    let (positions, normals, tangents) = target;
+    add_some_of(positions, is_whole, digest);
+    add_some(normals, digest);
+    add_some(tangents, digest);
 }
 
 /// Adds the inverse bind matrices of all skins.
@@ -134,9 +142,10 @@ fn add_skins(document: &Document, buffers: &[Data], digest: &mut Digest) {
     let bytes = |buffer: Buffer| bytes_of(buffers, buffer);
     let mut skins = document.skins();
     while let Some(skin) = skins.next() {
-        if let Some(matrices) = skin::Reader::new(&skin, &bytes).read_inverse_bind_matrices() {
-            add_items(matrices, digest);
-        }
+        add_some(
+            skin::Reader::new(&skin, &bytes).read_inverse_bind_matrices(),
+            digest,
+        );
     }
 }
 
@@ -159,33 +168,59 @@ fn add_channel<'s, F: Fn(Buffer) -> Option<&'s [u8]>>(
 )
     requires { F.IsAlwaysCallable (asked_of_channel reader.now) }
 {
-    if let Some(times) = reader.read_inputs() {
-        add_items(times, digest);
-    }
+    add_some(reader.read_inputs(), digest);
     match reader.read_outputs() {
         Some(ReadOutputs::Translations(items)) => add_items(items, digest),
-        Some(ReadOutputs::Rotations(Rotations::F32(items))) => add_items(items, digest),
+        Some(ReadOutputs::Rotations(rotations)) => add_rotations(rotations, digest),
         Some(ReadOutputs::Scales(items)) => add_items(items, digest),
-        _ => digest.add(0),
+        Some(ReadOutputs::MorphTargetWeights(weights)) => add_weights(weights, digest),
+        None => digest.absent(),
     }
 }
 
-/// Adds all items of each second accessor, in a list of bytes.
+/// Adds rotations, as they are stored.
+fn add_rotations(rotations: Rotations<'_>, digest: &mut Digest) {
+    match rotations {
+        Rotations::I8(items) => add_items(items, digest),
+        Rotations::U8(items) => add_items(items, digest),
+        Rotations::I16(items) => add_items(items, digest),
+        Rotations::U16(items) => add_items(items, digest),
+        Rotations::F32(items) => add_items(items, digest),
+    }
+}
+
+/// Adds weights of morph targets, as they are stored.
+fn add_weights(weights: MorphTargetWeights<'_>, digest: &mut Digest) {
+    match weights {
+        MorphTargetWeights::I8(items) => add_items(items, digest),
+        MorphTargetWeights::U8(items) => add_items(items, digest),
+        MorphTargetWeights::I16(items) => add_items(items, digest),
+        MorphTargetWeights::U16(items) => add_items(items, digest),
+        MorphTargetWeights::F32(items) => add_items(items, digest),
+    }
+}
+
+/// Adds all items of each second accessor, in a list of bytes: in one round those with an even
+/// index, in the next one the others.
 fn add_flat(
     alloc: Global,
     document: &Document,
     buffers: &[Data],
+    round: u32,
     digest: &mut Digest,
 ) -> Result<(), AllocError> {
     let bytes = |buffer: Buffer| bytes_of(buffers, buffer);
     let mut accessors = document.accessors();
+    let mut passed = (round % 2) as usize;
     for _ in 0..accessors.len() {
-        let Some(accessor) = accessors.nth(1) else {
+        let Some(accessor) = accessors.nth(passed) else {
             break;
         };
-        if let Some(items) = to_bytes(alloc, accessor, &bytes)? {
-            digest.bytes(&items);
+        match to_bytes(alloc, accessor, &bytes)? {
+            Some(items) => digest.bytes(&items),
+            None => digest.absent(),
         }
+        passed = 1;
     }
     Ok(())
 }
@@ -193,20 +228,44 @@ fn add_flat(
 /// Adds all items that are left.
 fn add_items<I: Iterator + Drop>(items: I, digest: &mut Digest)
 where
-    I::Item: Bits,
+    I::Item: Digested + Drop,
     requires can { I.can_next items }
     requires ends { IsFinite (I.remaining items) }
 {
+    // A copy, which stays in a register.
+    let mut own = *digest;
     for item in items {
-        digest.add(item.bits());
+        item.add_to(&mut own);
+    }
+    *digest = own;
+}
+
+/// Adds all items of an accessor that may be absent.
+fn add_some<T: Item + Digested>(items: Option<Iter<'_, T>>, digest: &mut Digest) {
+    match items {
+        Some(items) => add_items(items, digest),
+        None => digest.absent(),
+    }
+}
+
+/// Adds all items of an accessor that may be absent, or every third one.
+fn add_some_of<T: Item + Digested>(
+    items: Option<Iter<'_, T>>,
+    is_whole: bool,
+    digest: &mut Digest,
+) {
+    match items {
+        Some(items) if is_whole => add_items(items, digest),
+        Some(items) => add_each_third(items, digest),
+        None => digest.absent(),
     }
 }
 
 /// Adds every third item.
-fn add_each_third<T: Bits>(mut items: Iter<'_, T>, digest: &mut Digest) {
+fn add_each_third<T: Item + Digested>(mut items: Iter<'_, T>, digest: &mut Digest) {
     for _ in 0..items.len() {
         match items.nth(2) {
-            Some(item) => digest.add(item.bits()),
+            Some(item) => item.add_to(digest),
             None => break,
         }
     }

@@ -1,10 +1,8 @@
 //! Files are refused: late, or for many faults.
-use crate::digest::Digest;
-use crate::inputs::{awkward, scene};
 use crate::jobs::check::check_file;
-use crate::jobs::shown::{add_document, add_error};
-use crate::text::File;
-use gltf::import_slice;
+use crate::jobs::imported::add_import;
+use gltf_bench_digest::digest::Digest;
+use gltf_bench_files::{awkward, scene};
 use std::alloc::{AllocError, Global};
 
 /// A last node that names a mesh which is not there.
@@ -35,18 +33,10 @@ pub fn refuse(
     for _ in 0..rounds {
         for file in late.iter_mut() {
             file.renew();
-            refuse_file(alloc, file, digest);
+            add_import(alloc, &file.bytes, digest);
         }
         broken.renew();
         check_file(alloc, &broken.bytes, digest)?;
     }
     Ok(())
-}
-
-/// Adds why a file is refused.
-fn refuse_file(alloc: Global, file: &File, digest: &mut Digest) {
-    match import_slice(alloc, &file.bytes) {
-        Ok((document, _buffers)) => add_document(&document, digest),
-        Err(error) => add_error(alloc, &error, digest),
-    }
 }

@@ -1,41 +1,35 @@
 //! What is seldom but has to be read too: a payload, short elements, a chain, broken rules.
-use crate::inputs::character::{copies, floats};
-use crate::inputs::scene;
+use crate::blob::{Blob, floats};
 use crate::random::Random;
+use crate::scene;
 use crate::text::File;
-use base64::engine::general_purpose::STANDARD;
 use std::alloc::{AllocError, Global};
 
-/// A pretty text of a scene, whose one buffer of zeros is in a payload.
+/// A pretty text of a scene, whose one buffer is in a payload.
 pub fn pretty_scene(alloc: Global, seed: u64, cubes: u32) -> Result<File, AllocError> {
-    let cubes_bytes = scene::cubes_bytes(alloc, cubes)?;
-    let buffer = payload_buffer(alloc, &cubes_bytes)?;
-    scene::text(alloc, seed, cubes, true, buffer.as_str(), scene::LAST)
+    let mut file = scene::text(alloc, seed, cubes, true, scene::LAST)?;
+    payload_buffer(&mut file, &scene::bytes(alloc, cubes)?)?;
+    file.text(scene::END)?;
+    Ok(file)
 }
 
-/// A buffer whose URI has these bytes.
-fn payload_buffer(alloc: Global, bytes: &[u8]) -> Result<String, AllocError> {
-    let payload = STANDARD.encode(alloc, bytes)?;
-    let length = bytes.len();
-    let mut buffer = String::from_str(alloc, "{\"byteLength\": ")?;
-    write!(
-        buffer,
-        "{length}, \"uri\": \"data:application/octet-stream;base64,"
-    )?;
-    buffer.push_str(payload.as_str())?;
-    buffer.push_str("\"}")?;
-    Ok(buffer)
+/// Adds a buffer whose URI has these bytes.
+fn payload_buffer(file: &mut File, blob: &Blob) -> Result<(), AllocError> {
+    file.text("{\"byteLength\": ")?;
+    file.number(blob.bytes.len() as u64)?;
+    file.text(", \"uri\": \"data:application/octet-stream;base64,")?;
+    file.payload(blob)?;
+    file.text("\"}")
 }
 
 /// A document of one buffer in a payload of some 2,000 bytes for each cube.
 pub fn payload(alloc: Global, seed: u64, cubes: u32) -> Result<File, AllocError> {
     let floats = floats(alloc, &mut Random::new(seed))?;
-    let mut bytes = Vec::new(alloc);
-    copies(&mut bytes, &floats, cubes.wrapping_mul(1500))?;
-    let buffer = payload_buffer(alloc, &bytes)?;
+    let mut blob = Blob::new(alloc);
+    blob.floats(&floats, cubes.wrapping_mul(1500))?;
     let mut file = File::new(alloc, seed, false);
-    file.text("{\"asset\": {\"version\": \"2.0\", \"copyright\": \"@d\"}, \"buffers\": [")?;
-    file.text(buffer.as_str())?;
+    file.text("{\"asset\": {\"version\": \"2.0\", \"copyright\": \"@d @d\"}, \"buffers\": [")?;
+    payload_buffer(&mut file, &blob)?;
     file.text("]}")?;
     Ok(file)
 }

@@ -1,7 +1,6 @@
 //! Scenes: nodes, each tenth of them with a cube, materials and textures.
-use crate::inputs::records::{
-    ACCESSORS, ASSET, IMAGE, MATERIAL, MESH, NODES, SAMPLERS, TEXTURE, VIEWS,
-};
+use crate::blob::Blob;
+use crate::records::{ACCESSORS, ASSET, IMAGE, MATERIAL, MESH, NODES, SAMPLERS, TEXTURE, VIEWS};
 use crate::text::File;
 use std::alloc::{AllocError, Global};
 
@@ -10,20 +9,24 @@ pub fn looks(cubes: u32) -> u32 {
     cubes.min(64)
 }
 
-/// The bytes of a cube.
-const CUBE: u32 = 840;
+/// How many bytes so many cubes have.
+pub fn length(cubes: u32) -> u32 {
+    cubes.wrapping_mul(840)
+}
 
 /// A last node without faults.
 pub const LAST: &str = "{\"name\": \"Camera_Target.@d\"}";
 
-/// The text of a scene of ten nodes for each cube. `buffers` is what its list of buffers holds, and
-/// `node` what a last node holds that is no child of another one.
+/// What stands behind the list of buffers.
+pub const END: &str = "]\n}\n";
+
+/// The text of a scene of ten nodes for each cube, up to what its list of buffers holds. `node` is
+/// a last node, which is no child of another one.
 pub fn text(
     alloc: Global,
     seed: u64,
     cubes: u32,
     is_pretty: bool,
-    buffers: &str,
     node: &str,
 ) -> Result<File, AllocError> {
     let mut file = File::new(alloc, seed, is_pretty);
@@ -32,8 +35,6 @@ pub fn text(
     meshes(&mut file, cubes)?;
     materials(&mut file, looks(cubes))?;
     file.text("\"buffers\": [")?;
-    file.text(buffers)?;
-    file.text("]\n}\n")?;
     Ok(file)
 }
 
@@ -73,39 +74,36 @@ fn materials(file: &mut File, count: u32) -> Result<(), AllocError> {
 
 /// A scene as a container.
 pub fn container(alloc: Global, seed: u64, cubes: u32, node: &str) -> Result<File, AllocError> {
-    let mut buffers = String::from_str(alloc, "{\"byteLength\": ")?;
-    let length = cubes.wrapping_mul(CUBE);
-    write!(buffers, "{length}}}")?;
-    let file = text(alloc, seed, cubes, false, buffers.as_str(), node)?;
-    let blob = cubes_bytes(alloc, cubes)?;
-    file.into_container(&blob, (0, 0))
+    let mut file = text(alloc, seed, cubes, false, node)?;
+    file.text("{\"byteLength\": ")?;
+    file.number(u64::from(length(cubes)))?;
+    file.text("}")?;
+    file.text(END)?;
+    file.into_container(&bytes(alloc, cubes)?)
 }
 
 /// The bytes of so many cubes.
-pub fn cubes_bytes(alloc: Global, cubes: u32) -> Result<Vec<u8>, AllocError> {
-    let cube = cube(alloc)?;
-    let mut bytes = Vec::new(alloc);
+pub fn bytes(alloc: Global, cubes: u32) -> Result<Blob, AllocError> {
+    let mut blob = Blob::new(alloc);
     for _ in 0..cubes {
-        bytes.extend_from_slice(&cube)?;
+        cube(&mut blob)?;
     }
-    Ok(bytes)
+    Ok(blob)
 }
 
-/// The bytes of a cube: 24 vertices of position, normal and texture coordinates, 36 indices.
-fn cube(alloc: Global) -> Result<Vec<u8>, AllocError> {
-    let mut bytes = Vec::new(alloc);
+/// Adds a cube: 24 vertices of position, normal and texture coordinates, 36 indices.
+fn cube(blob: &mut Blob) -> Result<(), AllocError> {
     for face in 0..6u16 {
         for corner in 0..4u16 {
-            vertex(&mut bytes, face, corner)?;
+            vertex(blob, face, corner)?;
         }
     }
     for face in 0..6u16 {
         for corner in [0u16, 1, 2, 2, 1, 3] {
-            let index = face.wrapping_mul(4).wrapping_add(corner);
-            bytes.extend_from_slice(&index.to_le_bytes())?;
+            blob.short(face.wrapping_mul(4).wrapping_add(corner))?;
         }
     }
-    Ok(bytes)
+    Ok(())
 }
 
 /// The bits of 1.
@@ -118,11 +116,14 @@ const HALF: u32 = 0x3eff_fe00;
 const MINUS: u32 = 0x8000_0000;
 
 /// Adds a corner of a face of a cube.
-fn vertex(bytes: &mut Vec<u8>, face: u16, corner: u16) -> Result<(), AllocError> {
+fn vertex(blob: &mut Blob, face: u16, corner: u16) -> Result<(), AllocError> {
     let axis = face % 3;
     let side = face / 3;
     let u = corner % 2;
     let v = corner / 2;
+    // The first corner of the first face has the least of all numbers, and the last corner of the
+    // face on the other side the greatest.
+    let is_bound = axis == 0 && side == u && side == v;
     for k in 0..3u16 {
         let is_high = if k == axis {
             side
@@ -131,17 +132,31 @@ fn vertex(bytes: &mut Vec<u8>, face: u16, corner: u16) -> Result<(), AllocError>
         } else {
             v
         } == 1;
-        add(bytes, if is_high { HALF } else { HALF | MINUS })?;
+        add(blob, HALF, is_bound, if is_high { 0 } else { MINUS })?;
     }
     for k in 0..3u16 {
-        let length = if k == axis { ONE } else { 0 };
-        add(bytes, if side == 0 { length | MINUS } else { length })?;
+        let sign = if side == 0 { MINUS } else { 0 };
+        if k == axis {
+            blob.loose_word(ONE | sign)?;
+        } else {
+            blob.word(sign)?;
+        }
     }
-    add(bytes, if u == 1 { ONE } else { 0 })?;
-    add(bytes, if v == 1 { ONE } else { 0 })
+    for is_far in [u == 1, v == 1] {
+        if is_far {
+            add(blob, ONE, is_bound, 0)?;
+        } else {
+            blob.word(0)?;
+        }
+    }
+    Ok(())
 }
 
-/// Adds the bits of a float.
-pub fn add(bytes: &mut Vec<u8>, bits: u32) -> Result<(), AllocError> {
-    bytes.extend_from_slice(&bits.to_le_bytes())
+/// Adds a float that is a bound, or one a little nearer to zero, which is another in each round.
+fn add(blob: &mut Blob, bits: u32, is_bound: bool, sign: u32) -> Result<(), AllocError> {
+    if is_bound {
+        blob.word(bits | sign)
+    } else {
+        blob.loose_word(bits.wrapping_sub(0x100) | sign)
+    }
 }

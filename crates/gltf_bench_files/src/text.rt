@@ -1,15 +1,19 @@
 //! Files that are made of templates, and made anew by a few digits.
+use crate::blob::Blob;
 use crate::random::Random;
 use crate::template::{Slot, Template, number_at};
+use base64::engine::general_purpose::STANDARD;
 use itoa::Buffer;
 use std::alloc::{AllocError, Global};
 
-/// A file, and which of its digits and bytes are others in each round.
+/// A file, and the places of what is other in each round: decimal digits, digits of base64, and
+/// bytes of a container's blob.
 #[derive(Drop)]
 pub struct File {
     alloc: Global,
     pub bytes: Vec<u8>,
     digits: Vec<usize>,
+    letters: Vec<usize>,
     loose: Vec<usize>,
     random: Random,
     is_pretty: bool,
@@ -22,6 +26,7 @@ impl File {
             alloc,
             bytes: Vec::new(alloc),
             digits: Vec::new(alloc),
+            letters: Vec::new(alloc),
             loose: Vec::new(alloc),
             random: Random::new(seed),
             is_pretty,
@@ -76,53 +81,47 @@ impl File {
         Ok(())
     }
 
-    /// Another file of the same kind and size: some of its digits and bytes are others.
-    pub fn renew(&mut self) {
-        for place in &self.digits {
-            if let Some(digit) = self.bytes.get_mut(*place) {
-                *digit = self.random.digit();
+    /// Adds these bytes in base64 (RFC 4648, section 4). A loose byte of theirs stays loose where
+    /// a digit stands for bits of it alone: that of two bytes in three.
+    pub fn payload(&mut self, blob: &Blob) -> Result<(), AllocError> {
+        let start = self.bytes.len();
+        let payload = STANDARD.encode(self.alloc, &blob.bytes)?;
+        self.bytes.extend_from_slice(payload.as_str().as_bytes())?;
+        for place in &blob.loose {
+            let group = (place / 3).wrapping_mul(4).wrapping_add(start);
+            match place % 3 {
+                0 => self.letters.push(group)?,
+                2 => self.letters.push(group.wrapping_add(3))?,
+                _ => {}
             }
         }
-        for place in &self.loose {
-            if let Some(byte) = self.bytes.get_mut(*place) {
-                *byte = self.random.byte();
-            }
-        }
+        Ok(())
     }
 
-    /// The container of this text and of these bytes (glTF 2.0, section 4.4). Of the bytes from
-    /// the first to the last of `floats` the lowest byte of each 64th float is another one in each
-    /// round.
-    pub fn into_container(self, blob: &[u8], floats: (usize, usize)) -> Result<File, AllocError> {
+    /// Another file of the same kind and size.
+    pub fn renew(&mut self) {
+        self.random.put_digits(&self.digits, &mut self.bytes);
+        self.random.put_letters(&self.letters, &mut self.bytes);
+        self.random.put_bytes(&self.loose, &mut self.bytes);
+    }
+
+    /// The container of this text and of these bytes (glTF 2.0, section 4.4).
+    pub fn into_container(self, blob: &Blob) -> Result<File, AllocError> {
         let text = padded(self.bytes.len());
-        let body = padded(blob.len());
+        let body = padded(blob.bytes.len());
         let mut file = File::new(self.alloc, 0, self.is_pretty);
         file.header(text, body)?;
-        let shift = file.bytes.len();
+        shift(&mut file.digits, &self.digits, file.bytes.len())?;
+        shift(&mut file.letters, &self.letters, file.bytes.len())?;
         file.bytes.extend_from_slice(&self.bytes)?;
         file.pad(b' ')?;
         file.word(body)?;
         file.bytes.extend_from_slice(b"BIN\0")?;
-        let start = file.bytes.len();
-        file.bytes.extend_from_slice(blob)?;
+        shift(&mut file.loose, &blob.loose, file.bytes.len())?;
+        file.bytes.extend_from_slice(&blob.bytes)?;
         file.pad(0)?;
-        for place in &self.digits {
-            file.digits.push(place.wrapping_add(shift))?;
-        }
-        file.add_loose(start, floats)?;
         file.random = self.random;
         Ok(file)
-    }
-
-    /// Notes the places of bytes that are others in each round.
-    fn add_loose(&mut self, start: usize, floats: (usize, usize)) -> Result<(), AllocError> {
-        let (first, last) = floats;
-        let count = last.saturating_sub(first) / 256;
-        for k in 0..count {
-            let place = k.wrapping_mul(256).wrapping_add(first);
-            self.loose.push(place.wrapping_add(start))?;
-        }
-        Ok(())
     }
 
     /// Adds the header of a container, and that of its text.
@@ -146,6 +145,14 @@ impl File {
         }
         Ok(())
     }
+}
+
+/// Adds these places, each so much further on.
+fn shift(places: &mut Vec<usize>, from: &[usize], by: usize) -> Result<(), AllocError> {
+    for place in from {
+        places.push(place.wrapping_add(by))?;
+    }
+    Ok(())
 }
 
 /// The least multiple of four from this number on.

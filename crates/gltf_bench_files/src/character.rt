@@ -1,7 +1,8 @@
 //! Characters: joints, a skinned mesh with morph targets, animations.
-use crate::inputs::scene::add;
+use crate::blob::{Blob, floats};
 use crate::random::Random;
 use crate::text::File;
+use crate::views::views;
 use std::alloc::{AllocError, Global};
 
 /// How many joints a character has.
@@ -90,9 +91,7 @@ pub fn container(
     file.text("], \"buffers\": [{\"byteLength\": ")?;
     file.number(length)?;
     file.text("}]}")?;
-    let blob = blob(alloc, seed, &lengths, vertices)?;
-    let end = blob.len();
-    file.into_container(&blob, (120, end))
+    file.into_container(&blob(alloc, seed, &lengths, vertices)?)
 }
 
 /// Adds the nodes, the scene and the skin.
@@ -204,98 +203,56 @@ fn lengths(alloc: Global, vertices: u32, animations: u32) -> Result<Vec<u32>, Al
     Ok(lengths)
 }
 
-/// Adds the views, one behind the other, and gives how many bytes they take.
-fn views(file: &mut File, lengths: &[u32]) -> Result<u64, AllocError> {
-    let mut offset = 0u64;
-    for length in lengths {
-        if offset != 0 {
-            file.text(",")?;
-        }
-        file.text("{\"buffer\": 0, \"byteOffset\": ")?;
-        file.number(offset)?;
-        file.text(", \"byteLength\": ")?;
-        file.number(u64::from(*length))?;
-        file.text("}")?;
-        offset = offset.wrapping_add(u64::from(*length));
-    }
-    Ok(offset)
-}
-
 /// The bytes of the views.
-fn blob(alloc: Global, seed: u64, lengths: &[u32], vertices: u32) -> Result<Vec<u8>, AllocError> {
+fn blob(alloc: Global, seed: u64, lengths: &[u32], vertices: u32) -> Result<Blob, AllocError> {
     let mut random = Random::new(seed ^ 0x5eed);
     let floats = floats(alloc, &mut random)?;
-    let mut blob = Vec::new(alloc);
+    let mut blob = Blob::new(alloc);
     for (k, length) in lengths.iter().enumerate() {
         match k {
             0 => times(&mut blob)?,
             2 => indices(&mut blob, vertices)?,
             6 => joints(&mut blob, &mut random, *length)?,
             39 => overridden(&mut blob, vertices)?,
-            _ => copies(&mut blob, &floats, *length)?,
+            _ => blob.floats(&floats, *length)?,
         }
     }
     Ok(blob)
 }
 
-/// A thousand floats from 1 to 1.9990234375, in four bytes each.
-pub fn floats(alloc: Global, random: &mut Random) -> Result<Vec<u8>, AllocError> {
-    let mut bytes = Vec::new(alloc);
-    add(&mut bytes, 0x3f80_0000)?;
-    add(&mut bytes, 0x3fff_e000)?;
-    for _ in 2..1000 {
-        let fraction = (random.number() & 0x007f_e000) as u32;
-        add(&mut bytes, 0x3f80_0000 | fraction)?;
-    }
-    Ok(bytes)
-}
-
-/// Adds so many bytes, of these again and again.
-pub fn copies(blob: &mut Vec<u8>, bytes: &[u8], length: u32) -> Result<(), AllocError> {
-    let mut left = length as usize;
-    for _ in 0..length {
-        if left <= bytes.len() {
-            break;
-        }
-        blob.extend_from_slice(bytes)?;
-        left = left.wrapping_sub(bytes.len());
-    }
-    for byte in bytes.iter().take(left) {
-        blob.push(*byte)?;
-    }
-    Ok(())
-}
-
-/// Adds the times of keyframes, from 1/32 to 5.
-fn times(blob: &mut Vec<u8>) -> Result<(), AllocError> {
+/// Adds the times of keyframes, from 1/32 to 5. Those between are others in each round.
+fn times(blob: &mut Blob) -> Result<(), AllocError> {
     for k in 0..KEYS {
-        add(blob, 0x3d00_0000 + k * 0x0020_0000)?;
+        let bits = 0x3d00_0000 + k * 0x0020_0000;
+        if k == 0 || k == KEYS - 1 {
+            blob.word(bits)?;
+        } else {
+            blob.loose_word(bits)?;
+        }
     }
     Ok(())
 }
 
 /// Adds the indices of triangles.
-fn indices(blob: &mut Vec<u8>, vertices: u32) -> Result<(), AllocError> {
+fn indices(blob: &mut Blob, vertices: u32) -> Result<(), AllocError> {
     for k in 0..vertices.wrapping_mul(3) {
-        let index = u16::try_from((k / 2) % vertices.max(1)).unwrap_or(0);
-        blob.extend_from_slice(&index.to_le_bytes())?;
+        blob.short(u16::try_from((k / 2) % vertices.max(1)).unwrap_or(0))?;
     }
     Ok(())
 }
 
 /// Adds indices of joints.
-fn joints(blob: &mut Vec<u8>, random: &mut Random, length: u32) -> Result<(), AllocError> {
+fn joints(blob: &mut Blob, random: &mut Random, length: u32) -> Result<(), AllocError> {
     for _ in 0..length {
-        blob.push(random.byte() % 200)?;
+        blob.bytes.push(random.byte() % 200)?;
     }
     Ok(())
 }
 
 /// Adds the index of each tenth vertex.
-fn overridden(blob: &mut Vec<u8>, vertices: u32) -> Result<(), AllocError> {
+fn overridden(blob: &mut Blob, vertices: u32) -> Result<(), AllocError> {
     for k in 0..vertices / 10 {
-        let index = u16::try_from(k.wrapping_mul(10)).unwrap_or(0);
-        blob.extend_from_slice(&index.to_le_bytes())?;
+        blob.short(u16::try_from(k.wrapping_mul(10)).unwrap_or(0))?;
     }
     Ok(())
 }

@@ -76,8 +76,11 @@ pub fn number_at(letter: u8, k: u32) -> u32 {
         // One of ten in a row.
         b'0'..=b'9' => k.wrapping_mul(10).wrapping_add(u32::from(letter - b'0')),
         b'k' => k,
-        // The one after it.
+        // The one after it, and the one before it.
         b'n' => k.wrapping_add(1),
+        b'l' => k.wrapping_sub(1),
+        // A tenth of it.
+        b't' => k / 10,
         // One of four in a row.
         b'p'..=b's' => k.wrapping_mul(4).wrapping_add(u32::from(letter - b'p')),
         // One of two in a row.
