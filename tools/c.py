@@ -2,7 +2,7 @@
 """Builds the library for C and tries it: `make c`, and a part of `make test`.
 
 `rt lib` proves `crates/gltf_c` before a byte of it is built: the exports, over the calls in
-`crates/gltf_c_calls` and `gltf_c_rooms`; and before that the crates below it, where they have
+`crates/gltf_c_calls`; and before that the crates below it, where they have
 changed. `out/c/libgltf.a` is that library, the few lines of C in `c/gltf_shim.c` and those of the
 toolchain over malloc, joined, and shows the calls of `c/gltf.h` alone. `out/c/libgltf.so` is the
 same as a shared library.

@@ -1,5 +1,5 @@
-//! The loader as a library for C: one export for each call of `gltf_c_handle`, `gltf_c_calls` and
-//! `gltf_c_rooms`, with its contract. `c/gltf_shim.c` has the functions of `c/gltf.h` over these,
+//! The loader as a library for C: one export for each call of `gltf_c_handle` and
+//! `gltf_c_calls`, with its contract. `c/gltf_shim.c` has the functions of `c/gltf.h` over these,
 //! which take the file behind a pointer as it is there; the call of that name in these crates says
 //! what it returns and when.
 //!
@@ -8,62 +8,47 @@
 #![tactic(auto)]
 
 ghost use Rattle.std.specs.Prelude.{◌≡◌, None};
-ghost use Rattle.gltf_c_bytes.specs.Info.{buffer_of, accessor_of, image_of};
-ghost use Rattle.gltf_c_bytes.specs.Lists.{numbers_of};
-ghost use Rattle.gltf_c_bytes.specs.Places.{buffer_place, view_place, accessor_place};
-ghost use Rattle.gltf_c_extensions.specs.Materials.{IsClearcoat, IsSheen, IsIridescence};
-ghost use Rattle.gltf_c_extensions.specs.Materials.{IsAnisotropy, IsDispersion};
-ghost use Rattle.gltf_c_extensions.specs.Materials.{IsDiffuseTransmission};
-ghost use Rattle.gltf_c_extensions.specs.Metadata.{IsPacket};
-ghost use Rattle.gltf_c_extensions.specs.Nodes.{IsInstancing, IsVisibility};
-ghost use Rattle.gltf_c_extensions.specs.Textures.{IsBasisu, IsWebp};
-ghost use Rattle.gltf_c_extensions.specs.Views.{IsMeshopt};
-ghost use Rattle.gltf_c_look.specs.Cameras.{camera_of};
-ghost use Rattle.gltf_c_look.specs.Lights.{light_of};
-ghost use Rattle.gltf_c_look.specs.Materials.{material_of};
-ghost use Rattle.gltf_c_look.specs.Texts.{text_of};
-ghost use Rattle.gltf_c_look.specs.Textures.{texture_of, sampler_of};
-ghost use Rattle.gltf_c_look.specs.Views.{view_of};
-ghost use Rattle.gltf_c_scene.specs.Animations.{shown_animation_of, shown_channel_of};
-ghost use Rattle.gltf_c_scene.specs.Attributes.{shown_attribute_of, found_attribute_of};
-ghost use Rattle.gltf_c_scene.specs.Attributes.{attribute_name_of};
-ghost use Rattle.gltf_c_scene.specs.Meshes.{shown_mesh_of, shown_primitive_of};
-ghost use Rattle.gltf_c_scene.specs.Meshes.{variant_material_of};
-ghost use Rattle.gltf_c_scene.specs.Names.{name_of};
-ghost use Rattle.gltf_c_scene.specs.Nodes.{shown_node_of, shown_scene_of};
-ghost use Rattle.gltf_c_scene.specs.Skins.{shown_skin_of, node_list_of};
 ghost use Rattle.gltf_c_calls.specs.Calls.{HasCount, default_scene};
-ghost use Rattle.gltf_c_handle.specs.Calls.{Gives, GivesRead, said, shown};
-ghost use Rattle.gltf_c_handle.specs.Opened.{IsOpened};
-ghost use Rattle.gltf_c_handle.specs.Waiting.{IsGivenBytes};
-ghost use Rattle.gltf_c_rooms.specs.Calls.{GivesText, GivesTextOr, GivesList};
-ghost use Rattle.gltf_c_rooms.specs.Calls.{ReadsItems, ReadsJson};
+ghost use Rattle.gltf_c_calls.specs.Exported.{buffer_of, accessor_of, image_of, numbers_of};
+ghost use Rattle.gltf_c_calls.specs.Exported.{buffer_place, view_place, accessor_place};
+ghost use Rattle.gltf_c_calls.specs.Exported.{IsClearcoat, IsSheen, IsIridescence, IsAnisotropy};
+ghost use Rattle.gltf_c_calls.specs.Exported.{IsDispersion, IsDiffuseTransmission, IsPacket};
+ghost use Rattle.gltf_c_calls.specs.Exported.{IsInstancing, IsVisibility, IsBasisu, IsWebp};
+ghost use Rattle.gltf_c_calls.specs.Exported.{IsMeshopt, camera_of, light_of, material_of, text_of};
+ghost use Rattle.gltf_c_calls.specs.Exported.{texture_of, sampler_of, view_of, shown_animation_of};
+ghost use Rattle.gltf_c_calls.specs.Exported.{shown_channel_of, shown_attribute_of};
+ghost use Rattle.gltf_c_calls.specs.Exported.{found_attribute_of, attribute_name_of, shown_mesh_of};
+ghost use Rattle.gltf_c_calls.specs.Exported.{shown_primitive_of, variant_material_of, name_of};
+ghost use Rattle.gltf_c_calls.specs.Exported.{shown_node_of, shown_scene_of, shown_skin_of};
+ghost use Rattle.gltf_c_calls.specs.Exported.{node_list_of, Gives, GivesRead};
+ghost use Rattle.gltf_c_calls.specs.Exported.{said, shown, IsOpened, IsGivenBytes};
+ghost use Rattle.gltf_c_calls.specs.Rooms.{GivesText, GivesTextOr, GivesList};
+ghost use Rattle.gltf_c_calls.specs.Rooms.{ReadsItems, ReadsJson};
 
-use gltf_c_block::{GltfBlock, into_vec};
-use gltf_c_bytes::info::{GltfAccessor, GltfBuffer, GltfImage};
-use gltf_c_bytes::place::GltfBytes;
-use gltf_c_calls::{bytes, extension, look, scene};
-use gltf_c_extensions::material::{
+use gltf_c_calls::gltf_c_block::{GltfBlock, into_vec};
+use gltf_c_calls::gltf_c_bytes::info::{GltfAccessor, GltfBuffer, GltfImage};
+use gltf_c_calls::gltf_c_bytes::place::GltfBytes;
+use gltf_c_calls::gltf_c_extensions::material::{
     GltfAnisotropy, GltfClearcoat, GltfDiffuseTransmission, GltfDispersion, GltfIridescence,
     GltfSheen,
 };
-use gltf_c_extensions::node::{GltfInstancing, GltfVisibility};
-use gltf_c_extensions::texture::GltfTextureSource;
-use gltf_c_extensions::view::GltfMeshopt;
-use gltf_c_fault::fault::GltfFault;
-use gltf_c_handle::handle::GltfFile;
-use gltf_c_handle::open;
-use gltf_c_look::camera::GltfCamera;
-use gltf_c_look::light::GltfLight;
-use gltf_c_look::material::GltfMaterial;
-use gltf_c_look::texture::{GltfSampler, GltfTexture};
-use gltf_c_look::view::GltfBufferView;
-use gltf_c_rooms::room;
-use gltf_c_scene::animation::{GltfAnimation, GltfChannel};
-use gltf_c_scene::attribute::GltfAttribute;
-use gltf_c_scene::mesh::{GltfMesh, GltfPrimitive};
-use gltf_c_scene::node::{GltfNode, GltfScene};
-use gltf_c_scene::skin::GltfSkin;
+use gltf_c_calls::gltf_c_extensions::node::{GltfInstancing, GltfVisibility};
+use gltf_c_calls::gltf_c_extensions::texture::GltfTextureSource;
+use gltf_c_calls::gltf_c_extensions::view::GltfMeshopt;
+use gltf_c_calls::gltf_c_fault::fault::GltfFault;
+use gltf_c_calls::gltf_c_handle::handle::GltfFile;
+use gltf_c_calls::gltf_c_handle::open;
+use gltf_c_calls::gltf_c_look::camera::GltfCamera;
+use gltf_c_calls::gltf_c_look::light::GltfLight;
+use gltf_c_calls::gltf_c_look::material::GltfMaterial;
+use gltf_c_calls::gltf_c_look::texture::{GltfSampler, GltfTexture};
+use gltf_c_calls::gltf_c_look::view::GltfBufferView;
+use gltf_c_calls::gltf_c_scene::animation::{GltfAnimation, GltfChannel};
+use gltf_c_calls::gltf_c_scene::attribute::GltfAttribute;
+use gltf_c_calls::gltf_c_scene::mesh::{GltfMesh, GltfPrimitive};
+use gltf_c_calls::gltf_c_scene::node::{GltfNode, GltfScene};
+use gltf_c_calls::gltf_c_scene::skin::GltfSkin;
+use gltf_c_calls::{bytes, extension, look, room, scene};
 use std::alloc::Global;
 use std::borrow::CowSlice;
 

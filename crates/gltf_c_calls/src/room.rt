@@ -9,9 +9,9 @@ ghost use Rattle.gltf_c_scene.specs.Attributes.{attribute_name_of};
 ghost use Rattle.gltf_c_scene.specs.Names.{name_of};
 ghost use Rattle.gltf_c_scene.specs.Skins.{node_list_of};
 ghost use Rattle.gltf_c_handle.specs.Calls.{shown};
-ghost use Rattle.gltf_c_rooms.specs.Given.{IsGivenText, IsGivenList, IsGivenTextOr};
-ghost use Rattle.gltf_c_rooms.specs.Calls.{GivesText, GivesTextOr, GivesList, ReadsItems};
-ghost use Rattle.gltf_c_rooms.specs.Calls.{ReadsJson, IsJsonOf, IsKept};
+ghost use Rattle.gltf_c_calls.specs.Given.{IsGivenText, IsGivenList, IsGivenTextOr};
+ghost use Rattle.gltf_c_calls.specs.Rooms.{GivesText, GivesTextOr, GivesList, ReadsItems};
+ghost use Rattle.gltf_c_calls.specs.Rooms.{ReadsJson, IsJsonOf, IsKept};
 
 use crate::given::{give_indices, give_made_text, give_numbers, give_text};
 use gltf_c_bytes::{lists, read};

@@ -4,7 +4,7 @@ ghost use Rattle.std.specs.Option.{option_copied};
 ghost use Rattle.std.specs.String.{string_bytes};
 ghost use Rattle.gltf_c_fault.specs.declared.status.Status.TheVariants.{NoMemory};
 ghost use Rattle.gltf_c_scene.specs.Values.{listed_numbers};
-ghost use Rattle.gltf_c_rooms.specs.Given.{IsGivenText, IsGivenList};
+ghost use Rattle.gltf_c_calls.specs.Given.{IsGivenText, IsGivenList};
 
 use gltf_c_fault::message::put;
 use gltf_c_fault::status::Status;

@@ -10,7 +10,7 @@ use Rattle.gltf_c_open.specs.declared.file.File.{File}
 use Rattle.gltf_c_look.specs.Json.{extras_of, extension_of}
 use Rattle.gltf_c_bytes.specs.Read.{IsRead}
 use Rattle.gltf_c_handle.specs.Calls.{Answers, Fills, IsClosed}
-use Rattle.gltf_c_rooms.specs.Given.{IsGivenText, IsGivenTextOr, IsGivenList}
+use Rattle.gltf_c_calls.specs.Given.{IsGivenText, IsGivenTextOr, IsGivenList}
 
 -- a text of the file in a room, and its length beside it
 abbrev pub GivesText : (File → Option (List ℕ)) → Option File → ℕ → List ℕ → List ℕ → ℕ → ℕ
