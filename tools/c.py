@@ -2,28 +2,38 @@
 """Builds the library for C and tries it: `make c`, and a part of `make test`.
 
 `rt lib` proves `crates/gltf_c` before a byte of it is built: the exports, over the calls in
-`crates/gltf_c_calls`; and before that the crates below it, where they have
-changed. `out/c/libgltf.a` is that library, the few lines of C in `c/gltf_shim.c` and those of the
-toolchain over malloc, joined, and shows the calls of `c/gltf.h` alone. `out/c/libgltf.so` is the
-same as a shared library.
+`crates/gltf_c_calls`; and before that the crates below it, where they have changed.
+`out/c/libgltf.a` is that library, the few lines of C in `c/gltf_shim.c` and those of the toolchain
+over malloc, joined, and shows the calls of `c/gltf.h` alone. `out/c/libgltf.so` is the same as a
+shared library.
 
-With `--long` the tests take more files and more turns, some forty minutes.
+    c.py            all of this
+    c.py --long     the same with more files and more turns, some forty minutes
+    c.py --prove    proves it and builds the archive, and no more
+    c.py --beside   the same in a copy of the crates, beside another run of rt: the next c.py takes
+                    the archive from there, if it is of the same sources
 
 A test whose tool is not there is reported as not tried, and counts neither as passed nor as failed.
 The last line is `N passed, M failed`."""
 import os
 import pathlib
+import signal
 import subprocess
 import sys
 
 sys.dont_write_bytecode = True
 
 import c_code
+import c_copy
 import crates
+import proving
 
 CRATE = crates.TOP / "crates" / "gltf_c"
 C = c_code.C
 OUT = crates.TOP / "out" / "c"
+# Those that need no long way through crates.txt are proved side by side, with all below them. The
+# others are proved by the one call that builds the archive, since each call goes over all ways.
+SIDE_BY_SIDE = ("gltf_options", "gltf_access", "gltf_extensions", "gltf_c_look")
 LIBRARY = OUT / "libgltf.a"
 SHARED = OUT / "libgltf.so"
 # What the shim is compiled by, and with which warnings.
@@ -42,10 +52,19 @@ def kit():
     return pathlib.Path(ran("rt", "doc").strip()).parent
 
 
-def build():
-    """The archive of the crate, proved."""
+def prove():
+    """Proves the crate and those below it, and builds the archive."""
+    if not proving.Proving(crates.below(*SIDE_BY_SIDE), lambda _: [["lib"]]).run():
+        sys.exit("the library for C is not proved")
     subprocess.run(["rt", "lib"], cwd=CRATE, check=True)
-    return CRATE / "out" / "libgltf_c.a"
+
+
+def build():
+    """The archive of the crate, proved, here or in the copy."""
+    if c_copy.is_of_these_sources():
+        return c_copy.ARCHIVE
+    prove()
+    return CRATE / "out" / c_copy.ARCHIVE.name
 
 
 def join(archive):
@@ -78,15 +97,25 @@ def share():
     SHARED.symlink_to(f"libgltf.so.{major}")
 
 
-def main():
+def main(words):
+    if words == ["--prove"]:
+        return prove()
+    if words == ["--beside"]:
+        return c_copy.prove()
+
     import c_tests
 
     join(build())
     share()
-    results = c_tests.results("--long" in sys.argv[1:])
+    results = c_tests.results("--long" in words)
     print(f"{results.count(True)} passed, {results.count(False)} failed")
     return 1 if False in results else 0
 
 
 if __name__ == "__main__":
-    sys.exit(main())
+    # `kill` ends what runs, as an interrupt does.
+    signal.signal(signal.SIGTERM, signal.default_int_handler)
+    try:
+        sys.exit(main(sys.argv[1:]))
+    except KeyboardInterrupt:
+        sys.exit(130)

@@ -5,6 +5,10 @@ that it proved and built. The last line adds up the results of all: `N passed, M
 Each of them ends with such a line of its own. Where one ends otherwise, it counts as one that
 failed; where `rt ci` fails, the scripts are run nevertheless, over what it built.
 
+The library for C is proved in a copy of its crates meanwhile (`c.py --beside`), since `rt ci` builds
+no archive of it. What that prints goes to a log,
+and is shown where it fails.
+
     gate.py             runs them, and prints what each part took
     gate.py --write     the same, and where nothing failed writes that into docs/GATE.md
 
@@ -14,6 +18,7 @@ import os
 import re
 import subprocess
 import sys
+import time
 
 sys.dont_write_bytecode = True
 
@@ -22,6 +27,8 @@ import gate_page
 import gate_record
 import proving
 
+BESIDE = ["python3", "tools/c.py", "--beside"]
+LIBRARY = ["python3", "tools/c.py"]
 # Each runs in the folder of the repository.
 PARTS = (
     ["rt", "ci"],
@@ -29,7 +36,7 @@ PARTS = (
     ["python3", "tools/programs.py"],
     ["python3", "tools/conversions.py"],
     ["python3", "tools/findings.py"],
-    ["python3", "tools/c.py"],
+    LIBRARY,
     ["python3", "tools/python.py"],
     ["python3", "tools/rust.py"],
     ["python3", "tools/many.py"],
@@ -43,10 +50,31 @@ RESULT = re.compile(r"(\d+) passed, (\d+) failed")
 # What a line of a part has where something failed. The last of them are printed once more.
 FAULT = re.compile(r"FAILED|NOT PROVED|NOT TRIED|WRONG|Error|error:|expected|differs|failed:"
                    r"|growth \d+ refused:")
-MOST_FAULTS, LONGEST = 6, 300
+MOST_FAULTS, LONGEST, MOST_SHOWN = 6, 300, 2000
+LOG = proving.cache() / "beside.log"
 # The line in which `rt ci` says how much it did, and how much it took from earlier runs.
 DONE = re.compile(r"rt: ok\b.*")
 TOOLCHAIN = re.compile(r"rattle-kit-\S+ logic [0-9a-f]+")
+
+
+class Beside:
+    """The proof of the library for C, begun, and with at most so many checks at once."""
+
+    def __init__(self, jobs):
+        self.name, self.begun = " ".join(BESIDE), time.monotonic()
+        LOG.parent.mkdir(parents=True, exist_ok=True)
+        with LOG.open("wb") as log:
+            self.process = subprocess.Popen(BESIDE, cwd=crates.TOP, stdout=log, stderr=log,
+                                            env={**os.environ, "RT_JOBS": str(jobs)})
+        self.seconds = None
+
+    def wait(self):
+        """Waits for its end, and shows how it failed. Then `c.py` proves it once more."""
+        _, status, used = os.wait4(self.process.pid, 0)
+        self.process.returncode = os.waitstatus_to_exitcode(status)
+        self.seconds = [time.monotonic() - self.begun, used.ru_utime + used.ru_stime]
+        if status:
+            print(f"{self.name} failed:\n{LOG.read_text(errors='replace')[-MOST_SHOWN:]}")
 
 
 class Part:
@@ -97,13 +125,22 @@ def note_toolchains(here):
                 print(f"note: {place} names toolchain {named}; this is {here}")
 
 
-def cost(run, parts, result):
+def cost(run, parts, beside, whole, result):
     """What the parts took, as lines of the page."""
     about = run.about(f"`{result}`, with `RT_JOBS={os.environ['RT_JOBS']}`.",
                       *(f"`{part.name}`: `{part.done}`." for part in parts if part.done))
     rows = [(f"`{part.name}`", part.seconds) for part in parts]
-    rows.append(("all", [sum(column) for column in zip(*(part.seconds for part in parts))]))
+    rows.insert(1, (f"`{beside.name}`, meanwhile", beside.seconds))
+    rows.append(("all", whole))
     return [*about, "", *gate_page.table(["part", "by the clock", "processor"], rows)]
+
+
+def run_all(beside):
+    """Runs the parts, and what runs beside them up to the one that needs it."""
+    for words in PARTS:
+        if words == LIBRARY:
+            beside.wait()
+        yield Part(words)
 
 
 def main(words):
@@ -112,14 +149,16 @@ def main(words):
         return 2
     # With a number `rt ci` gives no check two processors, which would cost it a sixth more
     # processor time.
-    os.environ.setdefault("RT_JOBS", str(proving.checks_at_once()))
-    run, begun = gate_page.Run(), gate_record.begin()
+    most = proving.checks_at_once()
+    os.environ.setdefault("RT_JOBS", str(max(1, most - 1)))
+    run, begun, before = gate_page.Run(), gate_record.begin(), gate_page.times()
     note_toolchains(gate_record.toolchain())
-    parts = [Part(it) for it in PARTS]
+    beside = Beside(max(1, most // 2))
+    parts = list(run_all(beside))
     passed, failed = sum(part.passed for part in parts), sum(part.failed for part in parts)
     result = f"{passed} passed, {failed} failed"
     gate_record.end(begun, result)
-    lines = cost(run, parts, result)
+    lines = cost(run, parts, beside, gate_page.since(before), result)
     print("\n".join(["", "Seconds of each part:", "", *lines, ""]))
     for part in parts:
         part.show()

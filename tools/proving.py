@@ -1,9 +1,10 @@
 """Crates that are proved side by side, each after those that it uses.
 
 `rt` locks a crate and all below it, so that one repository proves one crate at a time. Here each
-crate is proved in a folder of its own, out/prove/NAME: a repository of that crate and those below
-it, in which sources and proved libraries are hard links to those of this one. What `rt` keeps of
-the crate itself, its out/, is moved there and back."""
+crate is proved in a folder of its own, ROOM/NAME: a repository of that crate and those below it, in
+which sources and proved libraries are hard links to those of this one. What `rt` keeps of the crate
+itself, its out/, is moved there and back."""
+import hashlib
 import os
 import pathlib
 import shutil
@@ -14,7 +15,14 @@ import time
 import crates
 import gate_page
 
-ROOM = crates.TOP / "out" / "prove"
+
+def cache():
+    """A folder for this repository outside it, since `rt ci` refuses a crates.txt below the top."""
+    caches = pathlib.Path(os.environ.get("XDG_CACHE_HOME") or pathlib.Path.home() / ".cache")
+    return caches / "gltf-proved" / hashlib.sha256(os.fsencode(crates.TOP)).hexdigest()[:16]
+
+
+ROOM = cache() / "prove"
 # What is in the folder of a crate and is no source.
 OUT = "out"
 # The most memory that a check was seen to take, and some more.
@@ -27,8 +35,9 @@ def say(text):
 
 
 def checks_at_once():
-    """One a processor, as many as there is memory for."""
-    return max(1, min(gate_page.processors(), gate_page.memory() // MEMORY_OF_A_CHECK))
+    """One a processor, as many as there is memory for, and no more than RT_JOBS says."""
+    most = max(1, min(gate_page.processors(), gate_page.memory() // MEMORY_OF_A_CHECK))
+    return min(most, int(os.environ.get("RT_JOBS") or most))
 
 
 def lines_of(name):
@@ -47,9 +56,18 @@ def ways(order):
     return way
 
 
+def link_or_copy(source, target):
+    """The file once more: a hard link, or a copy on another file system."""
+    try:
+        os.link(source, target)
+    except OSError:
+        shutil.copy2(source, target)
+
+
 def link(source, target, without=()):
-    """The files of a folder once more, as hard links."""
-    shutil.copytree(source, target, copy_function=os.link, ignore=shutil.ignore_patterns(*without))
+    """The files of a folder once more."""
+    shutil.copytree(source, target, copy_function=link_or_copy,
+                    ignore=shutil.ignore_patterns(*without))
 
 
 class Folder:
@@ -70,12 +88,12 @@ class Folder:
         (self.top / "crates.txt").write_text("".join(lines), encoding="utf-8")
         shutil.copy(crates.TOP / "HANDLES", self.top)
         if (self.home / OUT).exists():
-            os.rename(self.home / OUT, self.crate / OUT)
+            shutil.move(self.home / OUT, self.crate / OUT)
 
     def remove(self):
         """Removes it. What `rt` keeps goes back, unless the crate has got another one."""
         if (self.crate / OUT).exists() and not (self.home / OUT).exists():
-            os.rename(self.crate / OUT, self.home / OUT)
+            shutil.move(self.crate / OUT, self.home / OUT)
         shutil.rmtree(self.top, ignore_errors=True)
 
 

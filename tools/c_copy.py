@@ -1,0 +1,95 @@
+"""A copy of `crates/gltf_c` and of the crates below it, in which the library for C is proved while
+`rt ci` runs: `rt` locks a crate and all below it, and what `rt ci` proves serves no other command.
+
+It is a repository of its own, outside this one. What is proved there is known to be of the sources
+at hand by comparing them with those of the copy."""
+import filecmp
+import pathlib
+import shutil
+import subprocess
+import sys
+
+import crates
+import gate_record
+import proving
+
+COPY = proving.cache() / "c"
+ARCHIVE = COPY / "crates" / "gltf_c" / "out" / "libgltf_c.a"
+# Which toolchain proved the copy; it is written last.
+PROVED = COPY / "proved"
+CRATE = "gltf_c"
+# The files beside crates/ that rt and tools/c.py read.
+BESIDE = ("HANDLES", "tools", "c")
+
+
+def lines():
+    """The lines of crates.txt for these crates."""
+    below = set(crates.below(CRATE))
+    text = (crates.TOP / "crates.txt").read_text(encoding="utf-8")
+    heads = ((line, line.partition(":")[0].split()) for line in text.splitlines())
+    return "".join(f"{line}\n" for line, head in heads if below.intersection(head[:1]))
+
+
+def folders():
+    """The folders of sources, in the repository."""
+    for name in crates.below(CRATE):
+        for part in crates.PARTS:
+            folder = pathlib.Path("crates") / name / part
+            if (crates.TOP / folder).exists():
+                yield folder
+
+
+def make():
+    """Makes the copy anew, but for what rt keeps there of a former proof."""
+    COPY.mkdir(parents=True, exist_ok=True)
+    PROVED.unlink(missing_ok=True)
+    for name in BESIDE:
+        shutil.rmtree(COPY / name, ignore_errors=True)
+    for source in COPY.glob("crates/*/*"):
+        if source.name in crates.PARTS:
+            shutil.rmtree(source)
+    for folder in folders():
+        shutil.copytree(crates.TOP / folder, COPY / folder)
+    (COPY / "crates.txt").write_text(lines(), encoding="utf-8")
+    for name in BESIDE:
+        copy = shutil.copytree if (crates.TOP / name).is_dir() else shutil.copy
+        copy(crates.TOP / name, COPY / name)
+
+
+def ended(process):
+    """The status of a process at its end. Where this one is interrupted, it ends that one first."""
+    try:
+        return process.wait()
+    except KeyboardInterrupt:
+        process.terminate()
+        process.wait()
+        raise
+
+
+def prove():
+    """Proves the library for C in the copy: the status of that."""
+    make()
+    status = ended(subprocess.Popen([sys.executable, "tools/c.py", "--prove"], cwd=COPY))
+    if status == 0:
+        PROVED.write_text(gate_record.toolchain() + "\n", encoding="utf-8")
+    return status
+
+
+def are_same(seen):
+    """Whether two folders have the same files."""
+    same = not (seen.left_only or seen.right_only or seen.diff_files or seen.funny_files)
+    return same and all(are_same(each) for each in seen.subdirs.values())
+
+
+def is_of_these_sources():
+    """Whether the archive is proved, by this toolchain, of the sources at hand."""
+    if not PROVED.exists() or not ARCHIVE.exists():
+        return False
+    if PROVED.read_text(encoding="utf-8") != gate_record.toolchain() + "\n":
+        return False
+    if (COPY / "crates.txt").read_text(encoding="utf-8") != lines():
+        return False
+    filecmp.clear_cache()
+    return all((COPY / folder).exists() and are_same(filecmp.dircmp(crates.TOP / folder,
+                                                                    COPY / folder))
+               for folder in folders())
