@@ -6,8 +6,7 @@ Each of them ends with such a line of its own. Where one ends otherwise, it coun
 failed; where `rt ci` fails, the scripts are run nevertheless, over what it built.
 
 The library for C is proved in a copy of its crates meanwhile (`c.py --beside`), since `rt ci` builds
-no archive of it. What that prints goes to a log,
-and is shown where it fails.
+no archive of it. What that prints goes to a log, and is shown where it fails.
 
     gate.py             runs them, and prints what each part took
     gate.py --write     the same, and where nothing failed writes that into docs/GATE.md
