@@ -50,22 +50,28 @@ RESULT = re.compile(r"(\d+) passed, (\d+) failed")
 FAULT = re.compile(r"FAILED|NOT PROVED|NOT TRIED|WRONG|Error|error:|expected|differs|failed:"
                    r"|growth \d+ refused:")
 MOST_FAULTS, LONGEST, MOST_SHOWN = 6, 300, 2000
-LOG = proving.cache() / "beside.log"
+LOG, JOBS = proving.cache() / "beside.log", proving.cache() / "beside.jobs"
 # The line in which `rt ci` says how much it did, and how much it took from earlier runs.
 DONE = re.compile(r"rt: ok\b.*")
 TOOLCHAIN = re.compile(r"rattle-kit-\S+ logic [0-9a-f]+")
 
 
 class Beside:
-    """The proof of the library for C, begun, and with at most so many checks at once."""
+    """The proof of the library for C, begun. It has at most so many checks at once."""
 
     def __init__(self, jobs):
         self.name, self.begun = " ".join(BESIDE), time.monotonic()
         LOG.parent.mkdir(parents=True, exist_ok=True)
+        self.allow(jobs)
         with LOG.open("wb") as log:
             self.process = subprocess.Popen(BESIDE, cwd=crates.TOP, stdout=log, stderr=log,
-                                            env={**os.environ, "RT_JOBS": str(jobs)})
+                                            env={**os.environ, "GLTF_JOBS": os.fspath(JOBS)})
         self.seconds = None
+
+    @staticmethod
+    def allow(jobs):
+        """From now on it has at most so many checks at once."""
+        JOBS.write_text(str(jobs), encoding="utf-8")
 
     def wait(self):
         """Waits for its end, and shows how it failed. Then `c.py` proves it once more."""
@@ -134,12 +140,14 @@ def cost(run, parts, beside, whole, result):
     return [*about, "", *gate_page.table(["part", "by the clock", "processor"], rows)]
 
 
-def run_all(beside):
-    """Runs the parts, and what runs beside them up to the one that needs it."""
+def run_all(beside, most):
+    """Runs the parts, and what runs beside them up to the one that needs it. It has all processors
+    once `rt ci` has ended."""
     for words in PARTS:
         if words == LIBRARY:
             beside.wait()
         yield Part(words)
+        beside.allow(most)
 
 
 def main(words):
@@ -153,7 +161,7 @@ def main(words):
     run, begun, before = gate_page.Run(), gate_record.begin(), gate_page.times()
     note_toolchains(gate_record.toolchain())
     beside = Beside(max(1, most // 2))
-    parts = list(run_all(beside))
+    parts = list(run_all(beside, most))
     passed, failed = sum(part.passed for part in parts), sum(part.failed for part in parts)
     result = f"{passed} passed, {failed} failed"
     gate_record.end(begun, result)

@@ -35,9 +35,12 @@ def say(text):
 
 
 def checks_at_once():
-    """One a processor, as many as there is memory for, and no more than RT_JOBS says."""
+    """One a processor, as many as there is memory for, and no more than RT_JOBS says, or the file
+    that GLTF_JOBS names, which another run may change meanwhile."""
     most = max(1, min(gate_page.processors(), gate_page.memory() // MEMORY_OF_A_CHECK))
-    return min(most, int(os.environ.get("RT_JOBS") or most))
+    file = os.environ.get("GLTF_JOBS")
+    said = pathlib.Path(file).read_text(encoding="utf-8") if file else os.environ.get("RT_JOBS")
+    return min(most, int(said or most))
 
 
 def lines_of(name):
