@@ -1,8 +1,11 @@
 """A copy of `crates/gltf_c` and of the crates below it, in which the library for C is proved while
 `rt ci` runs: `rt` locks a crate and all below it, and what `rt ci` proves serves no other command.
 
-It is a repository of its own, outside this one. What is proved there is known to be of the sources
-at hand by comparing them with those of the copy."""
+It is a repository of its own, outside this one, and the same for all copies of this one on the
+machine: what is proved there serves each of them. It is known to be of the sources at hand by
+comparing them with those of the copy."""
+import contextlib
+import fcntl
 import filecmp
 import pathlib
 import shutil
@@ -41,7 +44,6 @@ def folders():
 
 def make():
     """Makes the copy anew, but for what rt keeps there of a former proof."""
-    COPY.mkdir(parents=True, exist_ok=True)
     PROVED.unlink(missing_ok=True)
     for name in BESIDE:
         shutil.rmtree(COPY / name, ignore_errors=True)
@@ -66,13 +68,25 @@ def ended(process):
         raise
 
 
+@contextlib.contextmanager
+def alone():
+    """Meanwhile no other run uses the copy."""
+    COPY.mkdir(parents=True, exist_ok=True)
+    with open(COPY.with_suffix(".lock"), "w", encoding="utf-8") as lock:
+        fcntl.flock(lock, fcntl.LOCK_EX)
+        yield
+
+
 def prove():
     """Proves the library for C in the copy: the status of that."""
-    make()
-    status = ended(subprocess.Popen([sys.executable, "tools/c.py", "--prove"], cwd=COPY))
-    if status == 0:
-        PROVED.write_text(gate_record.toolchain() + "\n", encoding="utf-8")
-    return status
+    with alone():
+        if is_of_these_sources():
+            return 0
+        make()
+        status = ended(subprocess.Popen([sys.executable, "tools/c.py", "--prove"], cwd=COPY))
+        if status == 0:
+            PROVED.write_text(gate_record.toolchain() + "\n", encoding="utf-8")
+        return status
 
 
 def are_same(seen):

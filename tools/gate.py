@@ -21,6 +21,7 @@ import time
 
 sys.dont_write_bytecode = True
 
+import c_copy
 import crates
 import gate_page
 import gate_record
@@ -50,31 +51,37 @@ RESULT = re.compile(r"(\d+) passed, (\d+) failed")
 FAULT = re.compile(r"FAILED|NOT PROVED|NOT TRIED|WRONG|Error|error:|expected|differs|failed:"
                    r"|growth \d+ refused:")
 MOST_FAULTS, LONGEST, MOST_SHOWN = 6, 300, 2000
-LOG, JOBS = proving.cache() / "beside.log", proving.cache() / "beside.jobs"
+LOG, JOBS = proving.own_cache() / "beside.log", proving.own_cache() / "beside.jobs"
 # The line in which `rt ci` says how much it did, and how much it took from earlier runs.
 DONE = re.compile(r"rt: ok\b.*")
 TOOLCHAIN = re.compile(r"rattle-kit-\S+ logic [0-9a-f]+")
 
 
 class Beside:
-    """The proof of the library for C, begun. It has at most so many checks at once."""
+    """The proof of the library for C, begun, where it was not proved before. It has at most so many
+    checks at once, or none."""
 
     def __init__(self, jobs):
         self.name, self.begun = " ".join(BESIDE), time.monotonic()
+        self.process, self.seconds = None, [0, 0]
+        if jobs:
+            self.start(jobs)
+
+    def start(self, jobs):
         LOG.parent.mkdir(parents=True, exist_ok=True)
         self.allow(jobs)
         with LOG.open("wb") as log:
             self.process = subprocess.Popen(BESIDE, cwd=crates.TOP, stdout=log, stderr=log,
                                             env={**os.environ, "GLTF_JOBS": os.fspath(JOBS)})
-        self.seconds = None
 
-    @staticmethod
-    def allow(jobs):
+    def allow(self, jobs):
         """From now on it has at most so many checks at once."""
         JOBS.write_text(str(jobs), encoding="utf-8")
 
     def wait(self):
         """Waits for its end, and shows how it failed. Then `c.py` proves it once more."""
+        if not self.process:
+            return
         _, status, used = os.wait4(self.process.pid, 0)
         self.process.returncode = os.waitstatus_to_exitcode(status)
         self.seconds = [time.monotonic() - self.begun, used.ru_utime + used.ru_stime]
@@ -147,7 +154,8 @@ def run_all(beside, most):
         if words == LIBRARY:
             beside.wait()
         yield Part(words)
-        beside.allow(most)
+        if beside.process:
+            beside.allow(most)
 
 
 def main(words):
@@ -157,10 +165,11 @@ def main(words):
     # With a number `rt ci` gives no check two processors, which would cost it a sixth more
     # processor time.
     most = proving.checks_at_once()
-    os.environ.setdefault("RT_JOBS", str(max(1, most - 1)))
+    is_proved = c_copy.is_of_these_sources()
+    os.environ.setdefault("RT_JOBS", str(most if is_proved else max(1, most - 1)))
     run, begun, before = gate_page.Run(), gate_record.begin(), gate_page.times()
     note_toolchains(gate_record.toolchain())
-    beside = Beside(max(1, most // 2))
+    beside = Beside(0 if is_proved else max(1, most // 2))
     parts = list(run_all(beside, most))
     passed, failed = sum(part.passed for part in parts), sum(part.failed for part in parts)
     result = f"{passed} passed, {failed} failed"

@@ -17,12 +17,18 @@ import gate_page
 
 
 def cache():
-    """A folder for this repository outside it, since `rt ci` refuses a crates.txt below the top."""
+    """A folder for all copies of this repository, outside them, since `rt ci` refuses a crates.txt
+    below the top."""
     caches = pathlib.Path(os.environ.get("XDG_CACHE_HOME") or pathlib.Path.home() / ".cache")
-    return caches / "gltf-proved" / hashlib.sha256(os.fsencode(crates.TOP)).hexdigest()[:16]
+    return caches / "gltf-proved"
 
 
-ROOM = cache() / "prove"
+def own_cache():
+    """A folder in it for this copy."""
+    return cache() / hashlib.sha256(os.fsencode(crates.TOP)).hexdigest()[:16]
+
+
+ROOM = own_cache() / "prove"
 # What is in the folder of a crate and is no source.
 OUT = "out"
 # The most memory that a check was seen to take, and some more.
