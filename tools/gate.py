@@ -29,20 +29,21 @@ import proving
 
 BESIDE = ["python3", "tools/c.py", "--beside"]
 LIBRARY = ["python3", "tools/c.py"]
-# Each runs in the folder of the repository.
+# Each runs in the folder of the repository. What needs the library for C is behind what needs the
+# programs alone.
 PARTS = (
     ["rt", "ci"],
     ["python3", "tools/refusals.py"],
     ["python3", "tools/programs.py"],
     ["python3", "tools/conversions.py"],
     ["python3", "tools/findings.py"],
+    ["python3", "tools/devices.py"],
+    ["python3", "tools/memory.py"],
     LIBRARY,
     ["python3", "tools/python.py"],
     ["python3", "tools/rust.py"],
     ["python3", "tools/many.py"],
     ["python3", "tools/packages.py"],
-    ["python3", "tools/devices.py"],
-    ["python3", "tools/memory.py"],
     ["python3", "tools/stack.py"],
     ["python3", "tools/fuzz.py", "--regressions"],
 )
