@@ -6,6 +6,7 @@ those that it uses, and runs its tests: `make check NAME=CRATE`.
 It prints a line for each crate on standard error. What the prover says of one goes to a log, which
 is named where it fails. What a former run proved is used."""
 import os
+import pathlib
 import signal
 import sys
 
@@ -38,6 +39,7 @@ def main():
     if asked and asked not in crates.listed():
         say(f"make check: there is no crate {asked}: NAME is one of {' '.join(crates.listed())}")
         return 2
+    pathlib.Path(WORDS["gltf_repack"][-1]).parent.mkdir(exist_ok=True)
     order = crates.below(asked) if asked else crates.below(*crates.PROGRAMS)
     if not proving.Proving(order, lambda crate: calls(crate, asked)).run():
         return 1
