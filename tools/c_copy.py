@@ -6,7 +6,6 @@ machine: what is proved there serves each of them. It is known to be of the sour
 comparing them with those of the copy."""
 import contextlib
 import fcntl
-import filecmp
 import pathlib
 import shutil
 import subprocess
@@ -33,13 +32,11 @@ def lines():
     return "".join(f"{line}\n" for line, head in heads if below.intersection(head[:1]))
 
 
-def folders():
-    """The folders of sources, in the repository."""
-    for name in crates.below(CRATE):
-        for part in crates.PARTS:
-            folder = pathlib.Path("crates") / name / part
-            if (crates.TOP / folder).exists():
-                yield folder
+def folders(top):
+    """The folders of sources below a top."""
+    found = (pathlib.Path("crates") / name / part
+             for name in crates.below(CRATE) for part in crates.PARTS)
+    return [folder for folder in found if (top / folder).exists()]
 
 
 def make():
@@ -50,7 +47,7 @@ def make():
     for source in COPY.glob("crates/*/*"):
         if source.name in crates.PARTS:
             shutil.rmtree(source)
-    for folder in folders():
+    for folder in folders(crates.TOP):
         shutil.copytree(crates.TOP / folder, COPY / folder)
     (COPY / "crates.txt").write_text(lines(), encoding="utf-8")
     for name in BESIDE:
@@ -89,10 +86,10 @@ def prove():
         return status
 
 
-def are_same(seen):
-    """Whether two folders have the same files."""
-    same = not (seen.left_only or seen.right_only or seen.diff_files or seen.funny_files)
-    return same and all(are_same(each) for each in seen.subdirs.values())
+def files(top):
+    """The sources below a top, by their paths."""
+    return {path.relative_to(top): path.read_bytes()
+            for folder in folders(top) for path in (top / folder).rglob("*") if path.is_file()}
 
 
 def is_of_these_sources():
@@ -103,7 +100,4 @@ def is_of_these_sources():
         return False
     if (COPY / "crates.txt").read_text(encoding="utf-8") != lines():
         return False
-    filecmp.clear_cache()
-    return all((COPY / folder).exists() and are_same(filecmp.dircmp(crates.TOP / folder,
-                                                                    COPY / folder))
-               for folder in folders())
+    return files(crates.TOP) == files(COPY)

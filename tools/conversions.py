@@ -203,7 +203,7 @@ def plain(value):
 # ends after 13 bytes, and behind it stand images and zeros.
 PLAIN_LEFT = plain(ONE_APART) | {
     "buffers": [{"byteLength": 13, "uri": "out.bin"}], "bufferViews": VIEWS[:2]}
-# What stands behind the last view of all.
+# What follows the last view of all.
 TAIL = b"the tail"
 DROPPED = ["--drop-image-views"]
 KNOWN = {"extensionsUsed": ["KHR_texture_transform", "KHR_materials_ior"]}
