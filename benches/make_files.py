@@ -44,6 +44,11 @@ def container(text, *blobs):
     return b"".join(parts)
 
 
+def data_uri(data):
+    """The URI whose payload spells these bytes."""
+    return "data:application/octet-stream;base64," + base64.b64encode(data).decode()
+
+
 def floats(count):
     """So many floats from 0 to 1, the same thousand again and again."""
     piece = struct.pack("<1000f", *(k / 1000 for k in range(1000)))
@@ -63,7 +68,6 @@ def over_one_buffer(buffer, views, accessors, **members):
 
 def records(count, pretty=False):
     """So many accessors with bounds, as many views, and as many nodes below one root."""
-    data = "data:application/octet-stream;base64," + base64.b64encode(bytes(384)).decode()
     bounds = {"min": [-0.5, -0.5, -0.5], "max": [0.5, 0.5, 0.5]}
     node = {"mesh": 0, "name": "node @", "translation": [0.5, 1.25, -3.0],
             "rotation": [0.0, 0.0, 0.0, 1.0]}
@@ -72,7 +76,7 @@ def records(count, pretty=False):
     nodes = listed(node, count, pretty)
     cut = nodes.rindex("}") + 1
     members = {
-        "buffers": listed({"byteLength": 384, "uri": data}, 1, pretty),
+        "buffers": listed({"byteLength": 384, "uri": data_uri(bytes(384))}, 1, pretty),
         "bufferViews": listed({"buffer": 0, "byteLength": 384, "byteStride": 12}, count, pretty),
         "accessors": listed(vectors(24, "@", byteOffset=96, **bounds), count, pretty),
         "meshes": listed({"primitives": [{"attributes": {"POSITION": 0}}]}, 1, pretty),
@@ -204,8 +208,7 @@ def large_bytes(divisor):
 def payload(divisor):
     """A text of 30 MB, nearly all of it a data URI."""
     data = floats(5_625_000 // divisor)
-    uri = "data:application/octet-stream;base64," + base64.b64encode(data).decode()
-    buffer = {"byteLength": len(data), "uri": uri}
+    buffer = {"byteLength": len(data), "uri": data_uri(data)}
     return document(over_one_buffer(buffer, [(0, len(data))], [vectors(len(data) // 12)]))
 
 
@@ -249,19 +252,20 @@ FILES = {
 }
 
 
-def main():
-    parser = argparse.ArgumentParser(description=__doc__.splitlines()[0])
+def main(doc, files):
+    """Writes those of these files that the command line names."""
+    parser = argparse.ArgumentParser(description=doc.splitlines()[0])
     parser.add_argument("folder", type=pathlib.Path)
-    parser.add_argument("names", nargs="*", metavar="name", help="one of " + ", ".join(FILES))
+    parser.add_argument("names", nargs="*", metavar="name", help="one of " + ", ".join(files))
     parser.add_argument("--divisor", type=int, default=1)
     words = parser.parse_args()
-    unknown = [name for name in words.names if name not in FILES]
+    unknown = [name for name in words.names if name not in files]
     if unknown or words.divisor < 1:
         parser.error(f"there is no file {unknown[0]}" if unknown else "a divisor is at least 1")
     words.folder.mkdir(parents=True, exist_ok=True)
-    for name in words.names or FILES:
-        (words.folder / name).write_bytes(FILES[name](words.divisor))
+    for name in words.names or files:
+        (words.folder / name).write_bytes(files[name](words.divisor))
 
 
 if __name__ == "__main__":
-    sys.exit(main())
+    sys.exit(main(__doc__, FILES))

@@ -45,8 +45,9 @@ def compiled(work, name, source, *more):
 def opening(work, path, rounds):
     """The least times of opening, by gltf.h and by cgltf, in seconds."""
     found, _, lacking = peers.programs(work, ["gltf.h", "cgltf"])
-    figures = peers.figures_of(path, found, rounds, False, False)
-    return [figures[name].wall if name in figures else None for name in ("gltf.h", "cgltf")], lacking
+    figures = peers.figures_of(path, found, rounds, peers.Items.SUMMED)
+    walls = {name: it.of_both(min)[0] for name, it in figures.items()}
+    return [walls.get(name) for name in ("gltf.h", "cgltf")], lacking
 
 
 def reading(work, path, rounds):

@@ -1,8 +1,8 @@
 /* Measures a loader: `main open|items FILE TIMES`. It prints the least wall time and the least
  * processor time of so many runs, in nanoseconds, what the file holds, and the sum of its items.
- * `open` is to open and to close the file, `items` to read all items of the open file. The bytes of
- * the file are in memory before. A file that is refused is reported on standard error, with exit
- * status 3. */
+ * `open` is to open and to close the file, `items` to read all items of the open file; with 0 TIMES
+ * none is read, and the sum is -1. The bytes of the file are in memory before. A file that is
+ * refused is reported on standard error, with exit status 3. */
 #define _POSIX_C_SOURCE 200809L
 #include "contents.h"
 #include "loader.h"
@@ -47,7 +47,7 @@ int main(int words, char **word)
     void *file = NULL;
     int reads, k;
     long times;
-    if (words != 4 || (times = atol(word[3])) < 1)
+    if (words != 4 || (times = atol(word[3])) < 0)
         return fputs("usage: main open|items FILE TIMES\n", stderr), 2;
     bytes = contents_of(word[2], &size);
     if (bytes == NULL)

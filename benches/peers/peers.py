@@ -8,18 +8,21 @@
 
 Each run is a process that reads the file's bytes, and then opens and frees the file: it parses,
 loads the buffers and validates. Loaders take turns. A loader that is not there is reported as not
-measured, with the command that gets it.
+measured, with the command that gets it. With --open the files are of the kinds that the workload
+`open` of bench/workloads.txt opens, and the tables have the medians of the turns.
 
 Exit status: 0; 1 where the proved loader refuses a file, two loaders disagree about what a file
 holds, or a program does not compile; 2 where the words are wrong or a tool is missing."""
 import argparse
 import datetime
+import enum
 import os
 import pathlib
 import platform
 import re
 import resource
 import shutil
+import statistics
 import subprocess
 import sys
 import tempfile
@@ -37,20 +40,37 @@ PAGE = TOP / "docs" / "BENCHMARKS.md"
 BEGIN, END = "<!-- peers: begin -->\n", "<!-- peers: end -->\n"
 # The same target and the same optimization for all that is compiled here.
 FLAGS = ["-O2", "-DNDEBUG", "-march=x86-64-v2", "-w", f"-I{HERE}", f"-I{TOP / 'c'}"]
-# The files of a table: of each its name, what it is, and whether its items are read too.
+
+
+class Items(enum.Enum):
+    """What is done with the items of a file: SUMMED are those whose sums alone are compared."""
+
+    TIMED, SUMMED, LEFT = range(3)
+
+
+# The files of a table: of each its name, what it is, and what is done with its items.
 TIMED = {
-    "records.gltf": ("JSON of 21 MB, compact", False),
-    "records_pretty.gltf": ("the same, indented: 45 MB", False),
-    "accessors.glb": ("50,000 accessors", True),
-    "character.glb": ("character, 60 animations", True),
-    "large.glb": ("container of 100 MB", True),
-    "payload.gltf": ("data URI of 30 MB", True),
-    "sparse.glb": ("sparse, a million vectors", True),
-    "box.glb": ("small, 2 kB", True),
+    "records.gltf": ("JSON of 21 MB, compact", Items.SUMMED),
+    "records_pretty.gltf": ("the same, indented: 45 MB", Items.SUMMED),
+    "accessors.glb": ("50,000 accessors", Items.TIMED),
+    "character.glb": ("character, 60 animations", Items.TIMED),
+    "large.glb": ("container of 100 MB", Items.TIMED),
+    "payload.gltf": ("data URI of 30 MB", Items.TIMED),
+    "sparse.glb": ("sparse, a million vectors", Items.TIMED),
+    "box.glb": ("small, 2 kB", Items.TIMED),
 }
 KINDS = ("materials", "nodes", "accessors", "meshes", "animations", "textures")
-MILLIONS = {f"million_{kind}.gltf": (f"a million {kind}", False) for kind in KINDS}
+MILLIONS = {f"million_{kind}.gltf": (f"a million {kind}", Items.SUMMED) for kind in KINDS}
 FILES = {**TIMED, **MILLIONS}
+# Those of the workload `open`. The accessors of short elements state thirty billion items.
+OPENED = {
+    "open_scene.glb": ("a scene as a container", Items.SUMMED),
+    "open_scene_pretty.gltf": ("a scene as pretty text", Items.SUMMED),
+    "open_character.glb": ("a character with animations", Items.SUMMED),
+    "open_payload.gltf": ("a payload", Items.SUMMED),
+    "open_short_elements.gltf": ("short elements", Items.LEFT),
+    "open_deep_extras.gltf": ("extras nested a hundred deep", Items.SUMMED),
+}
 BOX = TOP / "examples" / "box.glb"
 # A file below this many bytes is opened many times in each run.
 SMALL, TIMES = 100_000, 500
@@ -193,18 +213,24 @@ def measured(program, call, path, times):
 
 
 class Figures:
-    """The least of some runs of a loader on a file."""
+    """What the runs of a loader on a file took. The seconds of each are by the clock and of the
+    processor."""
 
     def __init__(self):
-        self.wall = self.cpu = self.memory = self.items = self.instructions = self.refused = None
+        self.seconds = []
+        self.memory = self.items = self.instructions = self.refused = None
 
     def add(self, run):
         if isinstance(run, str):
             self.refused = run
             return
         wall, cpu, memory, _ = run
-        self.wall, self.cpu = least(self.wall, wall), least(self.cpu, cpu)
+        self.seconds.append((wall, cpu))
         self.memory = max(self.memory or 0, memory)
+
+    def of_both(self, choice):
+        """The least or the median of both kinds of seconds; none where the file is refused."""
+        return [None, None] if self.refused else [choice(kind) for kind in zip(*self.seconds)]
 
 
 def least(one, other):
@@ -231,21 +257,23 @@ def agree(path, holds):
         raise Wrong(f"{path.name}: loaders disagree: {holds}")
 
 
-def figures_of(path, found, rounds, reads_items, callgrind):
+def figures_of(path, found, rounds, items, callgrind=False):
     """What is measured of each loader on a file: they take turns."""
     times = TIMES if path.stat().st_size < SMALL else 1
     figures, holds = {name: Figures() for name in found}, {}
-    for _ in range(rounds):
-        for name, it in figures.items():
-            if not it.refused:
-                it.add(measured(found[name], "open", path, times))
+    for turn in range(rounds):
+        # The one that goes first in a turn goes last in the next one.
+        for name in found if turn % 2 == 0 else reversed(found):
+            if not figures[name].refused:
+                figures[name].add(measured(found[name], "open", path, times))
     if "gltf.h" in figures and figures["gltf.h"].refused:
         raise Wrong(f"{path.name}: the proved loader: {figures['gltf.h'].refused}")
     accepting = {name: it for name, it in figures.items() if not it.refused}
-    for _ in range(rounds if reads_items else 1):
+    for _ in range(rounds if items is Items.TIMED else 1):
         for name, it in accepting.items():
-            wall, _, _, holds[name] = measured(found[name], "items", path, times)
-            if reads_items and holds[name][0] != -1:
+            reads = 0 if items is Items.LEFT else times
+            wall, _, _, holds[name] = measured(found[name], "items", path, reads)
+            if items is Items.TIMED and holds[name][0] != -1:
                 it.items = least(it.items, wall)
     agree(path, holds)
     for name, it in accepting.items() if callgrind else ():
@@ -257,6 +285,10 @@ def time_text(seconds):
     if seconds is None:
         return ""
     return f"{seconds * 1e6:.1f} µs" if seconds < 0.001 else f"{seconds * 1e3:,.1f} ms"
+
+
+def seconds_text(seconds):
+    return "" if seconds is None else f"{seconds:.4f}"
 
 
 def millions(count):
@@ -273,7 +305,7 @@ def memory_text(memory):
 
 def rows(what, figures):
     for name, it in figures.items():
-        cells = [time_text(it.wall), time_text(it.cpu), time_text(it.items),
+        cells = [*map(time_text, it.of_both(min)), time_text(it.items),
                  millions(it.instructions), memory_text(it.memory)]
         if it.refused:
             cells = [it.refused, "", "", "", ""]
@@ -300,7 +332,8 @@ def head(versions, lacking, words, load):
         yield "- instructions: not measured; `apt-get install valgrind` gets what counts them"
     elif not words.no_instructions:
         yield f"- instructions: counted by {first_line('valgrind', '--version')}"
-    best = "one run" if words.rounds == 1 else f"the best of {words.rounds} runs"
+    which = "medians" if words.open else "best"
+    best = "one run" if words.rounds == 1 else f"the {which} of {words.rounds} runs"
     yield f"- {best} of each" + (", on files of a thousandth" if words.quick else "")
 
 
@@ -317,26 +350,58 @@ def table(words, work):
         raise Wrong("no loader is there")
     folder = (words.files or work) / ("quick" if words.quick else "files")
     make(folder, words)
-    lines = [*head(versions, lacking, words, load), TABLE]
+    lines = open_lines if words.open else file_lines
+    return [*head(versions, lacking, words, load), *lines(words, folder, found)]
+
+
+def file_lines(words, folder, found):
+    """A table with a row for each file and loader."""
+    yield TABLE
     callgrind = shutil.which("valgrind") and not words.no_instructions
-    for name in words.only or FILES:
-        what, reads_items = FILES[name]
+    for name in words.only:
+        what, items = FILES[name]
         path = BOX if name == BOX.name else folder / name
         say(f"peers: {name}")
         counts = callgrind and name in ([BOX.name] if words.quick else TIMED)
-        lines += rows(what, figures_of(path, found, words.rounds, reads_items, counts))
-    return lines
+        yield from rows(what, figures_of(path, found, words.rounds, items, counts))
+
+
+def open_lines(words, folder, found):
+    """A table of the seconds by the clock and one of those of the processor; and before them which
+    loader refuses a file, and why."""
+    medians = {}
+    for name in words.only:
+        what, items = OPENED[name]
+        say(f"peers: {name}")
+        figures = figures_of(folder / name, found, words.rounds, items)
+        for loader, it in figures.items():
+            if it.refused:
+                yield f"- {loader}: {what}: {it.refused}"
+        head = f"{what} | {(folder / name).stat().st_size / 1e6:.1f}"
+        medians[head] = [it.of_both(statistics.median) for it in figures.values()]
+    for which, kind in enumerate(("by the clock", "of the processor")):
+        yield from median_lines(f"seconds {kind} | MB", found, {
+            head: [both[which] for both in of_loaders] for head, of_loaders in medians.items()})
+
+
+def median_lines(title, found, medians):
+    """A table with a row for each file and one for all of them, and a column for each loader."""
+    yield f"\n| {title} | {' | '.join(found)} |\n|---|---{'|---' * len(found)}|"
+    sums = [None if None in column else sum(column) for column in zip(*medians.values())]
+    for head, seconds in {**medians, "all | ": sums}.items():
+        yield f"| {head} | {' | '.join(map(seconds_text, seconds))} |"
 
 
 def make(folder, words):
     """Makes the files in a process of its own: a child counts the most memory of its parent as its
     own."""
     say("peers: making the files")
-    names = [name for name in words.only or FILES if name != BOX.name]
+    script = "open_files.py" if words.open else "make_files.py"
+    names = [name for name in words.only if name != BOX.name]
     names = [name for name in names if not (folder / name).is_file()] if words.files else names
     divisor = ["--divisor", "1000" if words.quick else "1"]
     if names and subprocess.run(
-            [sys.executable, HERE.parent / "make_files.py", folder, *names, *divisor]).returncode:
+            [sys.executable, HERE.parent / script, folder, *names, *divisor]).returncode:
         raise Wrong("the files cannot be made")
 
 
@@ -357,9 +422,13 @@ def parsed():
                         help="tries it in seconds: one run, on files of a thousandth")
     parser.add_argument("--write", action="store_true",
                         help="also puts the table into docs/BENCHMARKS.md")
-    parser.add_argument("--rounds", type=int, help="how many runs there are of each (5)")
-    parser.add_argument("--only", nargs="+", choices=FILES, metavar="FILE",
-                        help="only these files: " + ", ".join(FILES))
+    parser.add_argument("--open", action="store_true",
+                        help="the medians on files of the kinds of the workload `open`")
+    parser.add_argument("--rounds", type=int,
+                        help="how many runs there are of each (5, with --open 7)")
+    parser.add_argument("--only", nargs="+", choices=[*FILES, *OPENED], metavar="FILE",
+                        help=f"only these files: {', '.join(FILES)}; "
+                             f"with --open {', '.join(OPENED)}")
     parser.add_argument("--loader", nargs="+", choices=LOADERS, metavar="LOADER",
                         help="only these loaders: " + ", ".join(LOADERS))
     parser.add_argument("--no-instructions", action="store_true",
@@ -367,10 +436,15 @@ def parsed():
     parser.add_argument("--files", type=pathlib.Path, metavar="FOLDER",
                         help="keeps the files there, 450 MB, and takes those that are there")
     words = parser.parse_args()
-    if words.quick and words.write:
-        parser.error("--quick measures nothing to --write")
+    if words.write and (words.quick or words.open):
+        parser.error("--write takes no --quick, which measures nothing, and no --open")
+    files = OPENED if words.open else FILES
+    words.only = words.only or list(files)
+    if not files.keys() >= set(words.only):
+        parser.error(f"--only: these files are {', '.join(files)}")
+    words.no_instructions |= words.open
     if words.rounds is None:
-        words.rounds = 1 if words.quick else 5
+        words.rounds = 1 if words.quick else 7 if words.open else 5
     if words.rounds < 1:
         parser.error("--rounds is at least 1")
     return words
