@@ -5,7 +5,6 @@ It is a repository of its own, outside this one, and the same for all copies of 
 machine: what is proved there serves each of them. It is known to be of the sources at hand by
 comparing them with those of the copy."""
 import contextlib
-import fcntl
 import pathlib
 import shutil
 import subprocess
@@ -22,14 +21,6 @@ PROVED = COPY / "proved"
 CRATE = "gltf_c"
 # The files beside crates/ that rt and tools/c.py read.
 BESIDE = ("HANDLES", "tools", "c")
-
-
-def lines():
-    """The lines of crates.txt for these crates."""
-    below = set(crates.below(CRATE))
-    text = (crates.TOP / "crates.txt").read_text(encoding="utf-8")
-    heads = ((line, line.partition(":")[0].split()) for line in text.splitlines())
-    return "".join(f"{line}\n" for line, head in heads if below.intersection(head[:1]))
 
 
 def folders(top):
@@ -49,7 +40,7 @@ def make():
             shutil.rmtree(source)
     for folder in folders(crates.TOP):
         shutil.copytree(crates.TOP / folder, COPY / folder)
-    (COPY / "crates.txt").write_text(lines(), encoding="utf-8")
+    (COPY / "crates.txt").write_text(crates.lines(crates.below(CRATE)), encoding="utf-8")
     for name in BESIDE:
         copy = shutil.copytree if (crates.TOP / name).is_dir() else shutil.copy
         copy(crates.TOP / name, COPY / name)
@@ -67,20 +58,20 @@ def ended(process):
 
 @contextlib.contextmanager
 def alone():
-    """Meanwhile no other run uses the copy."""
-    COPY.mkdir(parents=True, exist_ok=True)
-    with open(COPY.with_suffix(".lock"), "w", encoding="utf-8") as lock:
-        fcntl.flock(lock, fcntl.LOCK_EX)
-        yield
+    """Meanwhile no other run uses the copy. Gives the file that is locked."""
+    with proving.alone(COPY) as lock:
+        yield lock
 
 
 def prove():
-    """Proves the library for C in the copy: the status of that."""
-    with alone():
+    """Proves the library for C in the copy: the status of that. The proof keeps the lock too, and
+    is a group of its own, so that it is ended by this run alone."""
+    with alone() as lock:
         if is_of_these_sources():
             return 0
         make()
-        status = ended(subprocess.Popen([sys.executable, "tools/c.py", "--prove"], cwd=COPY))
+        status = ended(subprocess.Popen([sys.executable, "tools/c.py", "--prove"], cwd=COPY,
+                                        pass_fds=[lock.fileno()], start_new_session=True))
         if status == 0:
             PROVED.write_text(gate_record.toolchain() + "\n", encoding="utf-8")
         return status
@@ -93,11 +84,13 @@ def files(top):
 
 
 def is_of_these_sources():
-    """Whether the archive is proved, by this toolchain, of the sources at hand."""
-    if not PROVED.exists() or not ARCHIVE.exists():
+    """Whether the archive is proved, by this toolchain, of the sources at hand. Where the copy is
+    made anew meanwhile, it is not."""
+    try:
+        return (ARCHIVE.exists()
+                and PROVED.read_text(encoding="utf-8") == gate_record.toolchain() + "\n"
+                and (COPY / "crates.txt").read_text(encoding="utf-8")
+                == crates.lines(crates.below(CRATE))
+                and files(crates.TOP) == files(COPY))
+    except OSError:
         return False
-    if PROVED.read_text(encoding="utf-8") != gate_record.toolchain() + "\n":
-        return False
-    if (COPY / "crates.txt").read_text(encoding="utf-8") != lines():
-        return False
-    return files(crates.TOP) == files(COPY)

@@ -9,24 +9,28 @@ by the processor time of the processes that were waited for.
     cost.py                    all crates
     cost.py NAME..             these crates and those below them
     cost.py --write            all of them, and writes the table into docs/GATE.md
-    cost.py --folder FOLDER    the clone is made there and stays, else in a temporary folder
+    cost.py --folder FOLDER    the clone is made there and stays, else in a temporary folder; a
+                               later call with this folder goes on behind the crates that are done
 
 It prints a line for each crate as it ends, then the table, and the longest way through crates.txt.
 What the commands print goes to out/cost.log. `rt lib` begins with what a check kept in another copy
 on this machine, this one too, and waits for one that runs there. Then the figures are not those of
 a first proof: a note says so, and with --write it stops. Remove crates/*/out of the other copies
-before."""
+before, and the copy in which the gate proved the library for C, which is named then."""
 import argparse
 import contextlib
+import json
 import pathlib
 import re
 import shutil
+import signal
 import subprocess
 import sys
 import tempfile
 
 sys.dont_write_bytecode = True
 
+import c_copy
 import crates
 import gate_page
 import gate_record
@@ -53,31 +57,33 @@ def run_of(crate):
 
 
 def commands(crate):
-    """What is timed in a crate's folder, by its kind."""
+    """What is timed of a crate, by its kind, and the folder that it is called in."""
     is_program = (crate / "src" / "main.rt").exists()
-    found = {PROOF: run_of(crate) if is_program else ["rt", "lib"]}
+    found = {PROOF: (run_of(crate) if is_program else ["rt", "lib"], crate)}
     if crates.has_tests(crate.name):
-        found[TESTS] = ["rt", "test"]
+        found[TESTS] = ["rt", "test"], crate
     if any((crate / "must-fail").glob("*.edit")):
-        found[EDITS] = ["rt", "must-fail", crate.name]
+        found[EDITS] = ["rt", "must-fail", crate.name], crate.parent.parent
     return found
 
 
 class Cost:
-    """What a crate took, by kinds: the seconds of the clock and of the processor; and what `rt` said
-    of work that it shared with other copies."""
+    """What a crate took, by kinds: the seconds of the clock and of the processor; and what `rt`
+    said of work that it shared with other copies."""
 
-    def __init__(self, crate):
-        self.name, self.seconds, self.shared = crate.name, {}, []
-        for kind, words in commands(crate).items():
-            self.seconds[kind] = self.timed(words, crate)
+    def __init__(self, name, seconds=()):
+        self.name, self.seconds, self.shared = name, dict(seconds), []
 
-    def timed(self, words, crate):
+    def measure(self, crate):
+        for kind, (words, folder) in commands(crate).items():
+            self.seconds[kind] = self.timed(words, folder)
+
+    def timed(self, words, folder):
         """The seconds of a command. What it prints is added to the log."""
         begun = LOG.stat().st_size
         with open(LOG, "ab") as log:
             before = gate_page.times()
-            done = subprocess.run(words, cwd=crate, stdin=subprocess.DEVNULL, stdout=log,
+            done = subprocess.run(words, cwd=folder, stdin=subprocess.DEVNULL, stdout=log,
                                   stderr=subprocess.STDOUT)
             seconds = gate_page.since(before)
         self.shared += SHARED.findall(LOG.read_bytes()[begun:].decode(errors="replace"))
@@ -125,22 +131,52 @@ def lines_of(run, costs):
             ", ".join(f"`{name}`" for name in way) + "."]
 
 
+class Clone:
+    """The clone in which crates are timed, and the file beside its crates that has what is done: of
+    which commit, by which toolchain, on which machine, and what each crate took."""
+
+    def __init__(self, folder):
+        self.top, self.file = pathlib.Path(folder), pathlib.Path(folder, "cost.json")
+        self.of = [gate_record.said("git", "rev-parse", "HEAD"), gate_record.toolchain(),
+                   gate_page.machine()]
+        self.done = {}
+        if self.file.exists():
+            of, self.done = json.loads(self.file.read_text(encoding="utf-8"))
+            if of != self.of:
+                raise Failed(f"{self.file} is of another commit, toolchain or machine")
+            return
+        subprocess.run(["git", "clone", "--quiet", crates.TOP, folder], check=True)
+        if gate_record.said("git", "status", "--porcelain"):
+            print("note: the clone has what is committed, and not what is changed here")
+
+    def note(self, cost):
+        self.done[cost.name] = cost.seconds
+        self.file.write_text(json.dumps([self.of, self.done]) + "\n", encoding="utf-8")
+
+    def cost(self, name, is_first):
+        """What a crate took. Where it is to be proved for the first time and is not, it fails."""
+        if name in self.done:
+            return Cost(name, self.done[name])
+        cost = Cost(name)
+        cost.measure(self.top / "crates" / name)
+        for said in cost.shared:
+            if is_first:
+                raise Failed(f"this is no first proof: {said}\n"
+                             f"The gate's copy of the library for C is {c_copy.COPY}")
+            print(f"note: this is no first proof: {said}")
+        self.note(cost)
+        return cost
+
+
 def costs_in(folder, order, is_first):
-    """What crates took in a clone, each after those that it uses. Prints each as it ends. Where
-    all are to be proved for the first time, it fails at one that is not."""
-    subprocess.run(["git", "clone", "--quiet", crates.TOP, folder], check=True)
-    if gate_record.said("git", "status", "--porcelain"):
-        print("note: the clone has what is committed, and not what is changed here")
+    """What crates took in a clone, each after those that it uses. Prints each as it ends."""
+    clone = Clone(folder)
     LOG.parent.mkdir(exist_ok=True)
     LOG.write_bytes(b"")
     costs = []
     for place, name in enumerate(order, 1):
-        costs.append(Cost(pathlib.Path(folder, "crates", name)))
+        costs.append(clone.cost(name, is_first))
         print(f"[{place}/{len(order)}] {costs[-1]}", flush=True)
-        for said in costs[-1].shared:
-            if is_first:
-                raise Failed(f"this is no first proof: {said}")
-            print(f"note: this is no first proof: {said}")
     return costs
 
 
@@ -168,7 +204,7 @@ def main():
     try:
         with place as folder:
             costs = costs_in(folder, order, words.write)
-    except (Failed, OSError, subprocess.CalledProcessError) as why:
+    except (Failed, OSError, gate_record.Unknown, subprocess.CalledProcessError) as why:
         print(f"make cost: {why}", file=sys.stderr)
         return 1
     lines = lines_of(run, costs)
@@ -179,6 +215,8 @@ def main():
 
 
 if __name__ == "__main__":
+    # `kill` ends it as an interrupt does: a temporary clone is removed.
+    signal.signal(signal.SIGTERM, signal.default_int_handler)
     try:
         sys.exit(main())
     except KeyboardInterrupt:

@@ -20,6 +20,13 @@ def listed():
     return crates
 
 
+def lines(names):
+    """The lines of crates.txt for some crates, as they stand there."""
+    text = (TOP / "crates.txt").read_text(encoding="utf-8")
+    heads = ((line, line.partition("#")[0].partition(":")[0].split()) for line in text.splitlines())
+    return "".join(f"{line}\n" for line, head in heads if head and head[0] in names)
+
+
 def below(*names):
     """The crates of this repository that some crates use, and these themselves: each after those
     that it names."""

@@ -5,8 +5,9 @@ that it proved and built. The last line adds up the results of all: `N passed, M
 Each of them ends with such a line of its own. Where one ends otherwise, it counts as one that
 failed; where `rt ci` fails, the scripts are run nevertheless, over what it built.
 
-The library for C is proved in a copy of its crates meanwhile (`c.py --beside`), since `rt ci` builds
-no archive of it. What that prints goes to a log, and is shown where it fails.
+The library for C is proved in a copy of its crates meanwhile (`c.py --beside`), since `rt ci`
+builds no archive of it, where there are more than two processors. What that prints goes to a log,
+and is shown where it fails.
 
     gate.py             runs them, and prints what each part took
     gate.py --write     the same, and where nothing failed writes that into docs/GATE.md
@@ -15,8 +16,10 @@ out/gate.json keeps which tree it ran on, and its last line, for PROOF.txt of `m
 import collections
 import os
 import re
+import signal
 import subprocess
 import sys
+import threading
 import time
 
 sys.dont_write_bytecode = True
@@ -58,6 +61,14 @@ DONE = re.compile(r"rt: ok\b.*")
 TOOLCHAIN = re.compile(r"rattle-kit-\S+ logic [0-9a-f]+")
 
 
+def waited(process, begun):
+    """Waits for the end of a process: the seconds of the clock since it was begun, and those of the
+    processor."""
+    _, status, used = os.wait4(process.pid, 0)
+    process.returncode = os.waitstatus_to_exitcode(status)
+    return [time.monotonic() - begun, used.ru_utime + used.ru_stime]
+
+
 class Beside:
     """The proof of the library for C, begun, where it was not proved before. It has at most so many
     checks at once, or none."""
@@ -74,6 +85,12 @@ class Beside:
         with LOG.open("wb") as log:
             self.process = subprocess.Popen(BESIDE, cwd=crates.TOP, stdout=log, stderr=log,
                                             env={**os.environ, "GLTF_JOBS": os.fspath(JOBS)})
+        # Its end is noted when it comes: the gate waits for it later.
+        self.waiting = threading.Thread(target=self.note_end, daemon=True)
+        self.waiting.start()
+
+    def note_end(self):
+        self.seconds = waited(self.process, self.begun)
 
     def allow(self, jobs):
         """From now on it has at most so many checks at once."""
@@ -83,11 +100,15 @@ class Beside:
         """Waits for its end, and shows how it failed. Then `c.py` proves it once more."""
         if not self.process:
             return
-        _, status, used = os.wait4(self.process.pid, 0)
-        self.process.returncode = os.waitstatus_to_exitcode(status)
-        self.seconds = [time.monotonic() - self.begun, used.ru_utime + used.ru_stime]
-        if status:
+        self.waiting.join()
+        if self.process.returncode:
             print(f"{self.name} failed:\n{LOG.read_text(errors='replace')[-MOST_SHOWN:]}")
+
+    def stop(self):
+        """Ends it, where it still runs: the gate was broken off."""
+        if self.process and self.waiting.is_alive():
+            self.process.terminate()
+            self.waiting.join()
 
 
 class Part:
@@ -99,13 +120,13 @@ class Part:
         self.last, self.done, self.faults = "", None, collections.deque(maxlen=MOST_FAULTS)
         print(f"== {self.name}", flush=True)
         how = {"stdout": subprocess.PIPE, "stderr": subprocess.STDOUT, "errors": "replace"}
-        before = gate_page.times()
+        begun = time.monotonic()
         part = subprocess.Popen(words, cwd=crates.TOP, **how)
         for line in part.stdout:
             self.note(line)
             print(line, end="", flush=True)
-        self.passed, self.failed = self.counts(part.wait())
-        self.seconds = gate_page.since(before)
+        self.seconds = waited(part, begun)
+        self.passed, self.failed = self.counts(part.returncode)
 
     def note(self, line):
         self.last = line.strip() or self.last
@@ -164,14 +185,17 @@ def main(words):
         print(__doc__)
         return 2
     # With a number `rt ci` gives no check two processors, which would cost it a sixth more
-    # processor time.
+    # processor time. Where there are two at most, the library for C comes behind `rt ci`.
     most = proving.checks_at_once()
-    is_proved = c_copy.is_of_these_sources()
-    os.environ.setdefault("RT_JOBS", str(most if is_proved else max(1, most - 1)))
+    is_beside = most > 2 and not c_copy.is_of_these_sources()
+    os.environ.setdefault("RT_JOBS", str(most - 1 if is_beside else most))
     run, begun, before = gate_page.Run(), gate_record.begin(), gate_page.times()
     note_toolchains(gate_record.toolchain())
-    beside = Beside(0 if is_proved else max(1, most // 2))
-    parts = list(run_all(beside, most))
+    beside = Beside(most // 2 if is_beside else 0)
+    try:
+        parts = list(run_all(beside, most))
+    finally:
+        beside.stop()
     passed, failed = sum(part.passed for part in parts), sum(part.failed for part in parts)
     result = f"{passed} passed, {failed} failed"
     gate_record.end(begun, result)
@@ -186,6 +210,8 @@ def main(words):
 
 
 if __name__ == "__main__":
+    # `kill` ends what runs, as an interrupt does.
+    signal.signal(signal.SIGTERM, signal.default_int_handler)
     try:
         sys.exit(main(sys.argv[1:]))
     except KeyboardInterrupt:

@@ -9,6 +9,7 @@ import os
 import pathlib
 import signal
 import sys
+import time
 
 sys.dont_write_bytecode = True
 
@@ -41,12 +42,13 @@ def main():
         return 2
     pathlib.Path(WORDS["gltf_repack"][-1]).parent.mkdir(exist_ok=True)
     order = crates.below(asked) if asked else crates.below(*crates.PROGRAMS)
+    begun = time.time()
     if not proving.Proving(order, lambda crate: calls(crate, asked)).run():
         return 1
     for program in () if asked else crates.PROGRAMS:
-        # It may have been built before, of the same text: rt has just found that it is of these
-        # sources.
-        os.utime(crates.program(program))
+        # It may have been built before, of the same text: rt has just found that it is of the
+        # sources that were there when it began.
+        os.utime(crates.program(program), (begun, begun))
         say(f"{program} is proved and built: {crates.program(program)}")
     return 0
 

@@ -4,6 +4,8 @@
 crate is proved in a folder of its own, ROOM/NAME: a repository of that crate and those below it, in
 which sources and proved libraries are hard links to those of this one. What `rt` keeps of the crate
 itself, its out/, is moved there and back."""
+import contextlib
+import fcntl
 import hashlib
 import os
 import pathlib
@@ -38,6 +40,19 @@ SECONDS_BETWEEN_LOOKS = 0.2
 
 def say(text):
     print(text, file=sys.stderr, flush=True)
+
+
+@contextlib.contextmanager
+def alone(folder):
+    """Meanwhile no other run uses a folder. Gives the file beside it that is locked."""
+    folder.mkdir(parents=True, exist_ok=True)
+    with open(folder.with_suffix(".lock"), "w", encoding="utf-8") as lock:
+        try:
+            fcntl.flock(lock, fcntl.LOCK_EX | fcntl.LOCK_NB)
+        except BlockingIOError:
+            say(f"waiting for another run, which uses {folder}")
+            fcntl.flock(lock, fcntl.LOCK_EX)
+        yield lock
 
 
 def checks_at_once():
@@ -88,20 +103,19 @@ class Folder:
 
     def make(self):
         """Makes it, with the crates below this one as they are proved."""
-        listed, below = crates.listed(), crates.below(self.name)
+        below = crates.below(self.name)
         self.top.mkdir(parents=True)
         for name in below[:-1]:
             link(crates.TOP / "crates" / name, self.top / "crates" / name)
         link(self.home, self.crate, without=[OUT])
-        lines = (f"{name}: {' '.join(listed[name])}\n" for name in below)
-        (self.top / "crates.txt").write_text("".join(lines), encoding="utf-8")
+        (self.top / "crates.txt").write_text(crates.lines(below), encoding="utf-8")
         shutil.copy(crates.TOP / "HANDLES", self.top)
         if (self.home / OUT).exists():
             shutil.move(self.home / OUT, self.crate / OUT)
 
     def remove(self):
-        """Removes it. What `rt` keeps goes back, unless the crate has got another one."""
-        if (self.crate / OUT).exists() and not (self.home / OUT).exists():
+        """Removes it. What `rt` keeps goes back, unless the crate has another one or is gone."""
+        if (self.crate / OUT).exists() and self.home.exists() and not (self.home / OUT).exists():
             shutil.move(self.crate / OUT, self.home / OUT)
         shutil.rmtree(self.top, ignore_errors=True)
 
@@ -114,10 +128,11 @@ def remove_folders():
 
 
 class Proof:
-    """The calls of `rt` for a crate, one after the other, while others run."""
+    """The calls of `rt` for a crate, one after the other, while others run; or alone."""
 
-    def __init__(self, name, calls):
+    def __init__(self, name, calls, is_alone):
         self.name, self.calls, self.begun = name, list(calls), time.monotonic()
+        self.jobs = [] if is_alone else ["--jobs", "1"]
         self.folder = Folder(name)
         self.folder.make()
         self.log = open(ROOM / f"{name}.log", "wb")
@@ -125,9 +140,9 @@ class Proof:
         self.next()
 
     def next(self):
-        """Starts the next call, with one job: several crates are proved at once."""
+        """Starts the next call, with one job where several crates are proved at once."""
         call, *words = self.calls.pop(0)
-        self.process = subprocess.Popen(["rt", call, "--jobs", "1", *words], cwd=self.folder.crate,
+        self.process = subprocess.Popen(["rt", call, *self.jobs, *words], cwd=self.folder.crate,
                                         stdin=subprocess.DEVNULL, stdout=self.log, stderr=self.log)
 
     def has_ended(self):
@@ -166,12 +181,15 @@ class Proving:
         return all(it in self.proved for it in self.listed[name] if it in self.listed)
 
     def start(self):
-        """Starts the crates that wait for none, those on the longest way first."""
-        for name in [name for name in self.waiting if self.is_ready(name)]:
-            if len(self.running) == checks_at_once() or self.failed:
+        """Starts the crates that wait for none, those on the longest way first. One for which all
+        others wait has all processors."""
+        ready = [name for name in self.waiting if self.is_ready(name)]
+        is_alone = len(ready) == 1 and not self.running and checks_at_once() > 1
+        for name in ready:
+            if len(self.running) >= checks_at_once() or self.failed:
                 break
             self.waiting.remove(name)
-            self.running.append(Proof(name, self.calls_of(name)))
+            self.running.append(Proof(name, self.calls_of(name), is_alone))
 
     def note(self, proof):
         """Says how a crate ended, how many are left, and the time so far."""
@@ -183,12 +201,15 @@ class Proving:
         self.proved.add(proof.name)
         minutes, rest = divmod(int(time.monotonic() - self.begun), 60)
         say(f"[{len(self.proved)}/{self.count}] {proof.name} proved ({seconds:.0f} s); "
-                 f"{self.count - len(self.proved)} left, {minutes} min {rest:02} s so far")
+            f"{self.count - len(self.proved)} left, {minutes} min {rest:02} s so far")
 
     def run(self):
         """Whether all are proved. After a failure what runs is waited for, and no other begun."""
+        with alone(ROOM):
+            return self.run_alone()
+
+    def run_alone(self):
         remove_folders()
-        ROOM.mkdir(parents=True, exist_ok=True)
         try:
             self.start()
             while self.running:
