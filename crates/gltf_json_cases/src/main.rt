@@ -1,9 +1,10 @@
 //! Reads each line of a file as a document, in one pass and from its tree, and says how the two
-//! readings compare. `cases.py` beside this folder writes the lines, and what has to be printed.
+//! readings compare. Where `from_slice` gives another answer than the tree, the line says so too.
+//! `cases.py` beside this folder writes the lines, and what has to be printed.
 #![tactic(auto)]
 
 use gltf_json::root::Root;
-use gltf_json_deserialize::deserialize::from_value;
+use gltf_json_deserialize::deserialize::{from_slice, from_value};
 use gltf_json_pull::text::pull;
 use gltf_json_record::error::Error;
 use serde_json::Value;
@@ -25,12 +26,13 @@ fn main(rt: HostRuntime) -> io::Result<()> {
     Ok(())
 }
 
-/// How the readings of a text compare. Both documents are dropped here, at one exit.
+/// How the readings of a text compare. The documents are dropped here, at one exit.
 fn compared(alloc: Global, bytes: &[u8]) -> Result<String, AllocError> {
     let mut line = String::new(alloc);
     let pulled: Option<Root> = pull(alloc, bytes);
     let read = of_tree(alloc, bytes);
-    write_compared(alloc, &pulled, &read, &mut line)?;
+    let sliced = from_slice(alloc, bytes);
+    write_compared(alloc, &pulled, &read, &sliced, &mut line)?;
     Ok(line)
 }
 
@@ -41,6 +43,32 @@ fn of_tree(alloc: Global, bytes: &[u8]) -> Result<Root, Error> {
 }
 
 fn write_compared(
+    alloc: Global,
+    pulled: &Option<Root>,
+    read: &Result<Root, Error>,
+    sliced: &Result<Root, Error>,
+    line: &mut String,
+) -> Result<(), AllocError> {
+    write_pulled(alloc, pulled, read, line)?;
+    if shown(alloc, read)? == shown(alloc, sliced)? {
+        Ok(())
+    } else {
+        line.push_str("; from_slice: ANOTHER")
+    }
+}
+
+/// All that a reading shows: the document, or the text of the error.
+fn shown(alloc: Global, reading: &Result<Root, Error>) -> Result<String, AllocError> {
+    let mut text = String::new(alloc);
+    match reading {
+        Ok(document) => write!(text, "{document:?}")?,
+        Err(error) => write!(text, "{error}")?,
+    }
+    Ok(text)
+}
+
+/// How the one pass compares with the tree.
+fn write_pulled(
     alloc: Global,
     pulled: &Option<Root>,
     read: &Result<Root, Error>,

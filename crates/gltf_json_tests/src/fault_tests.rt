@@ -57,7 +57,7 @@ const TURNED: &str = "\
 
 /// Documents in which several faults stand in one record, among them a missing member behind a wrong
 /// kind in an earlier row, and one before a wrong kind in a later row.
-const FAULTS: [&str; 12] = [
+const FAULTS: [&str; 14] = [
     "{\"asset\":{\"version\":\"2.0\"},\"accessors\":[{\"bufferView\":-1,\"count\":1,\
         \"type\":\"SCALAR\"}]}",
     "{\"asset\":{\"version\":\"2.0\"},\"accessors\":[{\"componentType\":5126,\"type\":0,\
@@ -65,13 +65,19 @@ const FAULTS: [&str; 12] = [
     "{\"asset\":{\"version\":\"2.0\"},\"accessors\":[{\"componentType\":5126,\"count\":1,\
         \"type\":\"SCALAR\",\"sparse\":{\"values\":{\"byteOffset\":-1},\"indices\":{},\
         \"count\":\"x\"}}]}",
-    "{\"materials\":[{\"pbrMetallicRoughness\":{\"baseColorFactor\":\"x\",\
-        \"metallicRoughnessTexture\":{\"texCoord\":-1},\"metallicFactor\":[]}}],\"asset\":{}}",
-    "{\"materials\":[{\"normalTexture\":{\"texCoord\":-1,\"scale\":[]},\"doubleSided\":1}]}",
-    "{\"materials\":[{\"occlusionTexture\":{\"strength\":{},\"texCoord\":1.5}}],\"scene\":-1}",
+    "{\"asset\":{\"version\":\"2.0\"},\"accessors\":[{\"componentType\":5126,\"count\":1,\
+        \"type\":\"SCALAR\",\"sparse\":{\"values\":{\"byteOffset\":-1},\"indices\":{\
+        \"bufferView\":0,\"componentType\":5123},\"count\":1}}]}",
+    "{\"materials\":[{\"pbrMetallicRoughness\":{\"metallicRoughnessTexture\":[],\
+        \"baseColorTexture\":3,\"metallicFactor\":[]}}],\"asset\":{\"version\":\"2.0\"}}",
+    "{\"materials\":[{\"normalTexture\":{\"texCoord\":-1,\"scale\":[]},\"doubleSided\":1}],\
+        \"asset\":{\"version\":\"2.0\"}}",
+    "{\"asset\":{\"version\":\"2.0\"},\"materials\":[{\"occlusionTexture\":{\
+        \"texCoord\":1.5,\"strength\":{}}}]}",
     "{\"meshes\":[{\"name\":1,\"weights\":{}}],\"asset\":{\"version\":2}}",
+    "{\"meshes\":[{\"name\":1,\"weights\":{}}],\"asset\":{\"version\":\"2.0\"}}",
     "{\"meshes\":[{\"primitives\":[{\"targets\":[{\"POSITION\":-1,\"NORMAL\":\"x\"},\
-        {\"TANGENT\":[]}]}]}],\"asset\":{\"version\":\"2.0\"}}",
+        {\"TANGENT\":[]}],\"attributes\":{}}]}],\"asset\":{\"version\":\"2.0\"}}",
     "{\"buffers\":[{\"byteLength\":18446744073709551615},{\"byteLength\":18446744073709551616}],\
         \"asset\":{\"version\":\"2.0\"}}",
     "{\"bufferViews\":[{\"buffer\":0,\"byteOffset\":18446744073709551616,\"byteLength\":-1}],\
@@ -79,7 +85,7 @@ const FAULTS: [&str; 12] = [
     "{\"nodes\":[{\"camera\":4294967295},{\"camera\":4294967296,\"mesh\":-1}],\
         \"asset\":{\"version\":\"2.0\"}}",
     "{\"animations\":[{\"channels\":[{\"target\":{\"path\":1,\"node\":-1}}],\"samplers\":[{\
-        \"interpolation\":0,\"input\":-1}]}]}",
+        \"interpolation\":0,\"input\":-1}]}],\"asset\":{\"version\":\"2.0\"}}",
 ];
 
 /// Values of each kind, and whole numbers at the ends of their ranges.

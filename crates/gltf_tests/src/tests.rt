@@ -4,6 +4,7 @@
 mod bounds;
 mod callers;
 mod copies;
+mod errors;
 mod every_list;
 mod first_steps;
 mod items;
