@@ -59,5 +59,6 @@ ROWS = [
     Row(INSPECT, "2,000 skins of 300 joints", 2_000, functools.partial(skins_of, 300)),
     Row(INSPECT, "a chain of 60,000 nodes in no order, such a skin and 1,000 along the chain",
         60_000, in_no_order),
-    Row(f"{INSPECT} --json", "1,000,000 nodes that nothing names", 1_000_000, unused),
+    *(Row(f"{INSPECT}{word}", "1,000,000 nodes that nothing names", 1_000_000, unused)
+      for word in ("", " --json", " --html")),
 ]
