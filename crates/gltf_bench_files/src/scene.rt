@@ -29,10 +29,27 @@ pub fn text(
     is_pretty: bool,
     node: &str,
 ) -> Result<File, AllocError> {
-    let mut file = File::new(alloc, seed, is_pretty);
+    up_to_buffers(File::new(alloc, seed, is_pretty), cubes, node, 0)
+}
+
+/// The same of a scene with a second buffer, which has so many bytes. A last view has all of them.
+pub fn text_of_two(
+    alloc: Global,
+    seed: u64,
+    cubes: u32,
+    node: &str,
+    more: u32,
+) -> Result<File, AllocError> {
+    up_to_buffers(File::new(alloc, seed, false), cubes, node, more)
+}
+
+/// Adds all up to what the list of buffers holds. A second buffer has so many bytes; with none
+/// there is no view of it.
+fn up_to_buffers(mut file: File, cubes: u32, node: &str, more: u32) -> Result<File, AllocError> {
     file.text(ASSET)?;
     nodes(&mut file, cubes, node)?;
     meshes(&mut file, cubes)?;
+    views(&mut file, cubes, more)?;
     materials(&mut file, looks(cubes))?;
     file.text("\"buffers\": [")?;
     Ok(file)
@@ -49,14 +66,24 @@ fn nodes(file: &mut File, cubes: u32, node: &str) -> Result<(), AllocError> {
     file.text("],\n")
 }
 
-/// Adds the meshes with their accessors and views.
+/// Adds the meshes with their accessors.
 fn meshes(file: &mut File, cubes: u32) -> Result<(), AllocError> {
     file.text("  \"meshes\": [")?;
     file.list(MESH, 0, cubes)?;
     file.text("],\n  \"accessors\": [")?;
     file.list(ACCESSORS, 0, cubes)?;
-    file.text("],\n  \"bufferViews\": [")?;
+    file.text("],\n")
+}
+
+/// Adds the views of the meshes, and one of a second buffer that has so many bytes, if it has some.
+fn views(file: &mut File, cubes: u32, more: u32) -> Result<(), AllocError> {
+    file.text("  \"bufferViews\": [")?;
     file.list(VIEWS, 0, cubes)?;
+    if more > 0 {
+        file.text(", {\"buffer\": 1, \"byteLength\": ")?;
+        file.number(u64::from(more))?;
+        file.text("}")?;
+    }
     file.text("],\n")
 }
 

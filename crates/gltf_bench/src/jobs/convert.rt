@@ -45,9 +45,10 @@ pub fn convert(
     Ok(())
 }
 
-/// The text of the scene. Its cubes are in the first buffer, and a larger one lies beside it.
+/// The text of the scene. Its cubes are in the first buffer, and a larger one, which is one view,
+/// lies beside it.
 fn text(alloc: Global, seed: u64, cubes: u32) -> Result<File, AllocError> {
-    let mut file = scene::text(alloc, seed, cubes, false, scene::LAST)?;
+    let mut file = scene::text_of_two(alloc, seed, cubes, scene::LAST, more(cubes))?;
     file.text("{\"uri\": \"cubes.bin\", \"byteLength\": ")?;
     file.number(u64::from(scene::length(cubes)))?;
     file.text("}, {\"uri\": \"more.bin\", \"byteLength\": ")?;

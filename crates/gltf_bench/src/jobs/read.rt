@@ -121,9 +121,9 @@ fn add_targets<'s, F: Fn(Buffer) -> Option<&'s [u8]>>(
 )
     requires { F.IsAlwaysCallable (asked_of_primitive reader.now) }
 {
-    // An iterator for each, since the prover does not take a loop over this one.
-    for k in 0..reader.read_morph_targets().count() {
-        if let Some(target) = reader.read_morph_targets().nth(k) {
+    let mut targets = reader.read_morph_targets();
+    for k in 0..targets.len() {
+        if let Some(target) = targets.nth(0) {
             add_target(target, k % 2 == 0, digest);
         }
     }
