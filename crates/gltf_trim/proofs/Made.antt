@@ -15,6 +15,7 @@ use Rattle.gltf_trim.specs.Lengths.{marked_buffer, raised_by, all_shorter, lengt
 use Rattle.gltf_trim.specs.Lengths.{drop_items, shorter_if, is_in_some, may_go, holds_from}
 use Rattle.gltf_trim.specs.Lengths.{all_may_go}
 use Rattle.gltf_trim.specs.Marks.{folded, marked_image, marked_accessor, before_marked, staying}
+use Rattle.gltf_trim.specs.Passed.{ArePassed}
 use Rattle.gltf_trim.specs.Tails.{tail, all_tails, byte_at, is_blank}
 use Rattle.gltf_trim.specs.TrimmedLaws.{holds_at}
 use Rattle.gltf_trim.proofs.Cleared.{same_test}
@@ -26,7 +27,7 @@ count_is k d vs is = sym (counted vs) ∙ ap items_len is
 
 -- ---- what stands behind
 
-holds_all : (f : ℕ → Bool) (e n : ℕ) → ((k : ℕ) → k < n → f (e + k) ≡ true)
+pub holds_all : (f : ℕ → Bool) (e n : ℕ) → ((k : ℕ) → k < n → f (e + k) ≡ true)
     → holds_from f e n ≡ true
 holds_all f e zero all = refl
 holds_all f e (suc n) all =
@@ -70,57 +71,78 @@ same_where : (mark x y : Bool) → (mark ≡ true → x ≡ y) → (mark && x) �
 same_where true x y same = same refl
 same_where false x y same = refl
 
-module _ (ms : List Bool) (ends : List ℕ) (bs ts : List (List ℕ)) (gone : Items)
+module _ (ms ls : List Bool) (ends : List ℕ) (bs ts : List (List ℕ)) (gone : Items)
+    (passed : ArePassed ms ends bs gone ls)
     (cleared : (b i : ℕ) → byte_at ts b i
-    ≡ (if is_in_some b (get_or ends b 0 + i) gone then 0 else byte_at (all_tails ms ends 0 bs) b i))
+    ≡ (if is_in_some b (get_or ends b 0 + i) gone then 0 else byte_at (all_tails ls ends 0 bs) b i))
   where
-    module _ (b : ℕ) (mark : get_or ms b false ≡ true) where
+    module _ (b : ℕ) where
       abbrev e : ℕ
       e = get_or ends b 0
 
       abbrev bytes : List ℕ
       bytes = get_or bs b []
 
-      whole : (k : ℕ) → byte_at (all_tails ms ends 0 bs) b k ≡ get_or bytes (e + k) 0
-      whole k =
-          ap (λ (xs : List ℕ). get_or xs k 0)
-          (tail_at ms ends 0 bs b b (omega arith)
-          ∙ ap (λ (t : Bool). tail t e bytes) mark)
-          ∙ get_or-drop e bytes k 0
-
-      zero_if : (t : Bool) (x y : ℕ) → x ≡ (if t then 0 else y)
-          → (x == 0) ≡ (if t then true else y == 0)
-      zero_if true x y is = ap (λ (n : ℕ). n == 0) is
-      zero_if false x y is = ap (λ (n : ℕ). n == 0) is
-
-      may_at : (k : ℕ) → (byte_at ts b k == 0) ≡ may_go gone b bytes (e + k)
-      may_at k =
-          zero_if (is_in_some b (e + k) gone) (byte_at ts b k) (get_or bytes (e + k) 0)
-          (cleared b k
-          ∙ ap (λ (n : ℕ). if is_in_some b (e + k) gone then 0 else n) (whole k))
-
       zero_or : (t : Bool) (x : ℕ) → x ≡ 0 → (if t then true else x == 0) ≡ true
       zero_or true x is = refl
       zero_or false x is = ap (λ (n : ℕ). n == 0) is
 
-      zero_at : holds_from (may_go gone b bytes) e (length bytes - e) ≡ true
-          → (k : ℕ) → byte_at ts b k ≡ 0
-      zero_at all k =
-          eqb-true (byte_at ts b k) 0
-          (may_at k
-          ∙ ⊎_elim {C = may_go gone b bytes (e + k) ≡ true}
-          (λ inside. holds_at (may_go gone b bytes) e (length bytes - e) (e + k) all (omega arith)
-          (omega arith))
-          (λ past. zero_or (is_in_some b (e + k) gone) (get_or bytes (e + k) 0)
-          (get_or_past bytes (e + k) 0 past))
-          (cases_lt (e + k) (length bytes)))
+      zero_both : (t : Bool) (x : ℕ) → x ≡ 0 → ◌≡◌ {A = ℕ} (if t then 0 else x) 0
+      zero_both true x is = refl
+      zero_both false x is = is
 
-      same_blank : is_blank (get_or ts b []) ≡ all_may_go gone b bytes e
-      same_blank =
-          same_test (is_blank (get_or ts b [])) (all_may_go gone b bytes e)
-          (λ is. holds_all (may_go gone b bytes) e (length bytes - e)
-          (λ k h. sym (may_at k) ∙ ap (λ (n : ℕ). n == 0) (blank_at (get_or ts b []) k is)))
-          (λ all. blank_all (get_or ts b []) (zero_at all))
+      -- there is no tail
+      none_blank : get_or ls b false ≡ false → is_blank (get_or ts b []) ≡ true
+      none_blank out =
+          blank_all (get_or ts b [])
+          (λ k. cleared b k
+          ∙ zero_both (is_in_some b (e + k) gone) (byte_at (all_tails ls ends 0 bs) b k)
+          (ap (λ (xs : List ℕ). get_or xs k 0)
+          (tail_at ls ends 0 bs b b (omega arith)
+          ∙ ap (λ (t : Bool). tail t e bytes) out)))
+
+      module _ (mark : get_or ls b false ≡ true) where
+        whole : (k : ℕ) → byte_at (all_tails ls ends 0 bs) b k ≡ get_or bytes (e + k) 0
+        whole k =
+            ap (λ (xs : List ℕ). get_or xs k 0)
+            (tail_at ls ends 0 bs b b (omega arith)
+            ∙ ap (λ (t : Bool). tail t e bytes) mark)
+            ∙ get_or-drop e bytes k 0
+
+        zero_if : (t : Bool) (x y : ℕ) → x ≡ (if t then 0 else y)
+            → (x == 0) ≡ (if t then true else y == 0)
+        zero_if true x y is = ap (λ (n : ℕ). n == 0) is
+        zero_if false x y is = ap (λ (n : ℕ). n == 0) is
+
+        may_at : (k : ℕ) → (byte_at ts b k == 0) ≡ may_go gone b bytes (e + k)
+        may_at k =
+            zero_if (is_in_some b (e + k) gone) (byte_at ts b k) (get_or bytes (e + k) 0)
+            (cleared b k
+            ∙ ap (λ (n : ℕ). if is_in_some b (e + k) gone then 0 else n) (whole k))
+
+        zero_at : holds_from (may_go gone b bytes) e (length bytes - e) ≡ true
+            → (k : ℕ) → byte_at ts b k ≡ 0
+        zero_at all k =
+            eqb-true (byte_at ts b k) 0
+            (may_at k
+            ∙ ⊎_elim {C = may_go gone b bytes (e + k) ≡ true}
+            (λ inside. holds_at (may_go gone b bytes) e (length bytes - e) (e + k) all
+            (omega arith) (omega arith))
+            (λ past. zero_or (is_in_some b (e + k) gone) (get_or bytes (e + k) 0)
+            (get_or_past bytes (e + k) 0 past))
+            (cases_lt (e + k) (length bytes)))
+
+        same_blank : is_blank (get_or ts b []) ≡ all_may_go gone b bytes e
+        same_blank =
+            same_test (is_blank (get_or ts b [])) (all_may_go gone b bytes e)
+            (λ is. holds_all (may_go gone b bytes) e (length bytes - e)
+            (λ k h. sym (may_at k) ∙ ap (λ (n : ℕ). n == 0) (blank_at (get_or ts b []) k is)))
+            (λ all. blank_all (get_or ts b []) (zero_at all))
+
+      either : (t : Bool) → get_or ls b false ≡ t → get_or ms b false ≡ true
+          → is_blank (get_or ts b []) ≡ all_may_go gone b bytes e
+      either true is mark = same_blank is
+      either false out mark = none_blank out ∙ sym (passed b mark out)
 
     pub same_blanks : (ds : Items)
         → all_shorter (λ b. get_or ms b false && is_blank (get_or ts b [])) ends 0 ds
@@ -130,7 +152,8 @@ module _ (ms : List Bool) (ends : List ℕ) (bs ts : List (List ℕ)) (gone : It
         all_same (λ b. get_or ms b false && is_blank (get_or ts b []))
         (λ b. get_or ms b false && all_may_go gone b (get_or bs b []) (get_or ends b 0)) ends 0 ds
         (λ b. same_where (get_or ms b false) (is_blank (get_or ts b []))
-        (all_may_go gone b (get_or bs b []) (get_or ends b 0)) (same_blank b))
+        (all_may_go gone b (get_or bs b []) (get_or ends b 0))
+        (either b (get_or ls b false) refl))
 
 -- ---- the whole
 
@@ -170,20 +193,21 @@ module _ (d : Data) (n s : ℕ) (vs bs : List Value) (is_min : s ≡ min n (leng
       all_shorter
       (λ b. get_or ms b false && all_may_go ds b (get_or held b []) (get_or ends b 0)) ends 0 list
 
-  pub are_lengths : (ms : List Bool) (ends : List ℕ) (held ts : List (List ℕ))
+  pub are_lengths : (ms ls : List Bool) (ends : List ℕ) (held ts : List (List ℕ))
+      → ArePassed ms ends held (items_view (take (length vs - s) (drop s vs))) ls
       → ms ≡ marks_of (items_view (take (length vs - s) (drop s vs))) (length bs)
       → ends ≡ ends_of (items_view (take s vs)) (length bs)
       → ((b i : ℕ) → byte_at ts b i
       ≡ (if is_in_some b (get_or ends b 0 + i) (items_view (take (length vs - s) (drop s vs)))
-      then 0 else byte_at (all_tails ms ends 0 held) b i))
+      then 0 else byte_at (all_tails ls ends 0 held) b i))
       → all_shorter (λ b. get_or ms b false && is_blank (get_or ts b [])) ends 0 (items_view bs)
       ≡ lengths n d held
-  are_lengths ms ends held ts ms_are ends_are cleared =
+  are_lengths ms ls ends held ts passed ms_are ends_are cleared =
       let went = items_view (take (length vs - s) (drop s vs)) in
       let own_ends = ends_of (take_items n (items_at (codes "bufferViews") d))
       (count_at (codes "buffers") d) in
       let own_marks = marks_of gone (count_at (codes "buffers") d) in
-      same_blanks ms ends held ts went cleared (items_view bs)
+      same_blanks ms ls ends held ts went passed cleared (items_view bs)
       ∙ ap (λ ds. left ds ms ends held (items_view bs)) those_that_go
       ∙ ap (λ (xs : List Bool). left gone xs ends held (items_view bs))
       (ms_are ∙ ap (λ ds. marks_of ds (length bs)) those_that_go ∙ ap (marks_of gone) count)

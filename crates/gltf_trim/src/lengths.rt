@@ -8,6 +8,7 @@ ghost use Rattle.gltf_trim.specs.Tails.{bytes_of, is_blank};
 
 use crate::lists::list_at;
 use crate::marks::{is_marked, set_mark};
+use crate::passed::unpassed;
 use crate::tails::{clear_views, is_blank_at, number_at, tails};
 use gltf_edit::size_at;
 use serde_json::Value;
@@ -32,7 +33,8 @@ pub(crate) fn lengths(
     let stay = stay.min(views.len());
     mark_buffers(&mut marks, &views[stay..]);
     raise_ends(&mut ends, &views[..stay]);
-    let mut tails = tails(alloc, &marks, &ends, bytes)?;
+    let left = unpassed(alloc, &marks, &ends, bytes, &views[stay..])?;
+    let mut tails = tails(alloc, &left, &ends, bytes)?;
     clear_views(&mut tails, &ends, &views[stay..]);
     all_shorter(alloc, &marks, &ends, &tails, buffers)
 }

@@ -8,6 +8,7 @@ mod known;
 mod lengths;
 mod lists;
 mod marks;
+mod passed;
 mod tails;
 mod trim;
 
