@@ -55,8 +55,8 @@ const TURNED: &str = "\
     \"byteLength\":1}],\
     \"scene\":0,\"asset\":{\"version\":\"2.0\"}}";
 
-/// Documents in which several faults stand in one record, among them a missing member behind a wrong
-/// kind in an earlier row, and one before a wrong kind in a later row.
+/// Documents in which several faults stand in one record, among them a missing member behind a
+/// wrong kind in an earlier row, and one before a wrong kind in a later row.
 const FAULTS: [&str; 14] = [
     "{\"asset\":{\"version\":\"2.0\"},\"accessors\":[{\"bufferView\":-1,\"count\":1,\
         \"type\":\"SCALAR\"}]}",

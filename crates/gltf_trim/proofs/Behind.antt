@@ -1,14 +1,13 @@
 -- Views that pass buffers.
-use Rattle.std.proofs.Common.{◌≡◌, ℕ, zero, suc, ◌+◌, ◌-◌, List, [], ◌∷◌, drop, get_or}
+use Rattle.std.proofs.Common.{◌≡◌, ℕ, zero, suc, ◌+◌, ◌-◌, ◌<◌, List, [], ◌∷◌, drop, get_or}
 use Rattle.std.proofs.Common.{Bool, true, false, refl, ap, ◌∙◌, arith, ⊎_elim, length}
 use Rattle.std.proofs.lemmas.Bool.{cases_lt}
 use Rattle.std.specs.Prelude.{if◌then◌else◌, ◌==◌}
 use Rattle.serde_json.specs.Data.{Items}
 use Rattle.serde_json.specs.View.{view, items_view}
 use Rattle.serde_json.specs.declared.value.Value.{Value}
-use Rattle.gltf_trim.specs.Lengths.{is_in, is_in_some, may_go}
+use Rattle.gltf_trim.specs.Lengths.{is_in, is_in_some, may_go, holds_from}
 use Rattle.gltf_trim.specs.Passed.{MayGoUpTo, MayGoBy, AreBlank, ArePassed}
-use Rattle.gltf_trim.proofs.Made.{holds_all}
 
 -- ---- a view among those that go
 
@@ -38,12 +37,19 @@ in_may : (gone : Items) (b : ℕ) (bytes : List ℕ) (p : ℕ) → is_in_some b 
     → may_go gone b bytes p ≡ true
 in_may gone b bytes p is = first_holds (is_in_some b p gone) (get_or bytes p 0 == 0) is
 
-zero_may : (gone : Items) (b : ℕ) (bytes : List ℕ) (p : ℕ) → get_or bytes p 0 ≡ 0
+pub zero_may : (gone : Items) (b : ℕ) (bytes : List ℕ) (p : ℕ) → get_or bytes p 0 ≡ 0
     → may_go gone b bytes p ≡ true
 zero_may gone b bytes p is =
     second_holds (is_in_some b p gone) (get_or bytes p 0 == 0) (ap (λ (n : ℕ). n == 0) is)
 
 -- ---- places
+
+pub holds_all : (f : ℕ → Bool) (e n : ℕ) → ((k : ℕ) → k < n → f (e + k) ≡ true)
+    → holds_from f e n ≡ true
+holds_all f e zero all = refl
+holds_all f e (suc n) all =
+    ap (λ (b : Bool). if b then holds_from f e n else false) (all n (omega arith))
+    ∙ holds_all f e n (λ k h. all k (omega arith))
 
 -- one view more
 pub one_more : (ends places next : List ℕ) (buffers : List (List ℕ)) (vs : List Value) (i : ℕ)

@@ -1,4 +1,4 @@
 mod Elements
 mod Cleared
-mod Made
 mod Behind
+mod Made

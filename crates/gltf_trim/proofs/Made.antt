@@ -1,5 +1,5 @@
 -- What is counted over lists of values is what the definitions say of the document.
-use Rattle.std.proofs.Common.{◌≡◌, ℕ, zero, suc, ◌+◌, ◌-◌, ◌<◌, List, [], ◌∷◌, length, drop}
+use Rattle.std.proofs.Common.{◌≡◌, ℕ, zero, suc, ◌+◌, ◌-◌, List, [], ◌∷◌, length, drop}
 use Rattle.std.proofs.Common.{take, min, replicate, get_or, Bool, true, false, refl, sym, ap, ◌∙◌}
 use Rattle.std.proofs.Common.{codes, arith, Option, ⊎_elim}
 use Rattle.std.proofs.lemmas.Bool.{cases_lt, eqb-true, and_parts}
@@ -18,6 +18,7 @@ use Rattle.gltf_trim.specs.Marks.{folded, marked_image, marked_accessor, before_
 use Rattle.gltf_trim.specs.Passed.{ArePassed}
 use Rattle.gltf_trim.specs.Tails.{tail, all_tails, byte_at, is_blank}
 use Rattle.gltf_trim.specs.TrimmedLaws.{holds_at}
+use Rattle.gltf_trim.proofs.Behind.{holds_all, zero_may}
 use Rattle.gltf_trim.proofs.Cleared.{same_test}
 use Rattle.gltf_trim.proofs.Elements.{taken, dropped, counted}
 
@@ -26,13 +27,6 @@ pub count_is : (k : List ℕ) (d : Data) (vs : List Value) → items_view vs ≡
 count_is k d vs is = sym (counted vs) ∙ ap items_len is
 
 -- ---- what stands behind
-
-pub holds_all : (f : ℕ → Bool) (e n : ℕ) → ((k : ℕ) → k < n → f (e + k) ≡ true)
-    → holds_from f e n ≡ true
-holds_all f e zero all = refl
-holds_all f e (suc n) all =
-    ap (λ (b : Bool). if b then holds_from f e n else false) (all n (omega arith))
-    ∙ holds_all f e n (λ k h. all k (omega arith))
 
 blank_at : (xs : List ℕ) (k : ℕ) → is_blank xs ≡ true → get_or xs k 0 ≡ 0
 blank_at [] k is = refl
@@ -83,10 +77,6 @@ module _ (ms ls : List Bool) (ends : List ℕ) (bs ts : List (List ℕ)) (gone :
       abbrev bytes : List ℕ
       bytes = get_or bs b []
 
-      zero_or : (t : Bool) (x : ℕ) → x ≡ 0 → (if t then true else x == 0) ≡ true
-      zero_or true x is = refl
-      zero_or false x is = ap (λ (n : ℕ). n == 0) is
-
       zero_both : (t : Bool) (x : ℕ) → x ≡ 0 → ◌≡◌ {A = ℕ} (if t then 0 else x) 0
       zero_both true x is = refl
       zero_both false x is = is
@@ -128,8 +118,7 @@ module _ (ms ls : List Bool) (ends : List ℕ) (bs ts : List (List ℕ)) (gone :
             ∙ ⊎_elim {C = may_go gone b bytes (e + k) ≡ true}
             (λ inside. holds_at (may_go gone b bytes) e (length bytes - e) (e + k) all
             (omega arith) (omega arith))
-            (λ past. zero_or (is_in_some b (e + k) gone) (get_or bytes (e + k) 0)
-            (get_or_past bytes (e + k) 0 past))
+            (λ past. zero_may gone b bytes (e + k) (get_or_past bytes (e + k) 0 past))
             (cases_lt (e + k) (length bytes)))
 
         same_blank : is_blank (get_or ts b []) ≡ all_may_go gone b bytes e

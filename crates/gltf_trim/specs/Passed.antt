@@ -1,6 +1,5 @@
 -- How far the views that go pass buffers (glTF 2.0, sections 3.6.1, 5.10 and 5.11).
-use Rattle.std.specs.Prelude.{ℕ, ◌≡◌, ◌≤◌, ◌<◌, ◌⊎◌, List, [], Bool, true, false, get_or}
-use Rattle.std.specs.Prelude.{codes}
+use Rattle.std.specs.Prelude.{ℕ, ◌≡◌, ◌≤◌, ◌<◌, ◌⊎◌, List, [], Bool, true, false, get_or, codes}
 use Rattle.serde_json.specs.Data.{Data, Items}
 use Rattle.gltf_edit.specs.Bundled.{size_or_zero}
 use Rattle.gltf_trim.specs.Lengths.{is_between, is_in, view_end, may_go, all_may_go}

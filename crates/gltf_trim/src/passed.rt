@@ -11,9 +11,9 @@ use gltf_edit::size_at;
 use serde_json::Value;
 use std::alloc::{AllocError, Global};
 
-/// The marks but for those of buffers of which one walk over the views that go shows that all behind
-/// these ends may go. It is seen where views stand in the order of their places, as `gltf_bundle`
-/// writes them; of another buffer the mark stays.
+/// The marks but for those of buffers of which one walk over the views that go shows that all
+/// behind these ends may go. It is seen where views stand in the order of their places, as
+/// `gltf_bundle` writes them; of another buffer the mark stays.
 pub(crate) fn unpassed(
     alloc: Global,
     marks: &[bool],
@@ -64,8 +64,8 @@ fn pass(places: &mut Vec<u64>, bytes: &[Vec<u8>], one: &Value)
     }
 }
 
-/// The place behind a view, where only zeros stand between this place and the view; else that of the
-/// first byte that is none.
+/// The place behind a view, where only zeros stand between this place and the view; else that of
+/// the first byte that is none.
 fn passed_by(one: &Value, bytes: &[u8], place: u64) -> u64
     ensures { (p : ℕ) → place ≤ p → p < result
         → (covers (view one.now) p ≡ true) ⊎ (get_or bytes.now p 0 ≡ 0) }
