@@ -115,9 +115,9 @@ enum {
                                     an index out of range, or an unknown word */
 };
 
-/* Why gltf_open failed. */
+/* Why gltf_open failed, or what gltf_variant_fault found. */
 typedef struct gltf_fault {
-    gltf_status status;  /* what gltf_open returned */
+    gltf_status status;  /* what gltf_open returned, or GLTF_BAD_EXTENSION */
     unsigned int rules;  /* the number of broken rules if it is GLTF_BROKEN_RULES, else 0 */
     size_t buffer;       /* the buffer that is at fault, or GLTF_NONE */
     size_t expected;     /* the byteLength of that buffer if it is GLTF_SHORT_BUFFER, else 0 */
@@ -410,6 +410,15 @@ GLTF_API gltf_status gltf_attribute_find(const gltf_file *file, size_t mesh, siz
  * checks this index: gltf_material_info returns GLTF_NO_SUCH_INDEX if there is no such material. */
 GLTF_API gltf_status gltf_variant_material(const gltf_file *file, size_t mesh, size_t primitive,
                                            size_t variant, size_t *material)
+    GLTF_CHECKED GLTF_NONNULL((5));
+
+/* Fills in what is wrong with that material: `status` is GLTF_BAD_EXTENSION, and `path` leads to an
+ * index that is out of range, as
+ * `/meshes/0/primitives/0/extensions/KHR_materials_variants/mappings/1/material`. Returns
+ * GLTF_NO_SUCH_INDEX if nothing is: gltf_variant_material finds a material that is there, or
+ * none. */
+GLTF_API gltf_status gltf_variant_fault(const gltf_file *file, size_t mesh, size_t primitive,
+                                        size_t variant, gltf_fault *fault)
     GLTF_CHECKED GLTF_NONNULL((5));
 
 /* ---- Materials, textures, images (3.8, 3.9, 5.18 to 5.22, 5.26, 5.29, 5.30) ------------------ */

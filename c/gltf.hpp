@@ -189,6 +189,22 @@ public:
         return out;
     }
 
+    // The material of a primitive in a variant; GLTF_NONE if the variant names none, and that of
+    // the primitive applies. An index that is out of range is an error: GLTF_BAD_EXTENSION, whose
+    // fault has the place of the index.
+    std::size_t variant_material(std::size_t mesh, std::size_t primitive,
+                                 std::size_t variant) const
+    {
+        gltf_fault fault;
+        gltf_status status = gltf_variant_fault(file_, mesh, primitive, variant, &fault);
+        if (status == GLTF_SUCCESS)
+            throw error(fault);
+        check_found(status);
+        std::size_t out = GLTF_NONE;
+        check_found(gltf_variant_material(file_, mesh, primitive, variant, &out));
+        return out;
+    }
+
     // The scene to show at first; GLTF_NONE if the file names none.
     std::size_t default_scene() const
     {

@@ -230,6 +230,9 @@ CALL(default_scene, (core_file *, size_t *), (const gltf_file *file, size_t *sce
 CALL(variant_material, (core_file *, size_t, size_t, size_t, size_t *),
      (const gltf_file *file, size_t mesh, size_t primitive, size_t variant, size_t *material),
      (&handle, mesh, primitive, variant, material))
+CALL(variant_fault, (core_file *, size_t, size_t, size_t, gltf_fault *),
+     (const gltf_file *file, size_t mesh, size_t primitive, size_t variant, gltf_fault *fault),
+     (&handle, mesh, primitive, variant, fault))
 CALL(accessor_read, (core_file *, size_t, void *, size_t),
      (const gltf_file *file, size_t index, void *out, size_t room), (&handle, index, out, room))
 /* The components are read to the end of their room, and widened from the first on: none is written

@@ -1,5 +1,6 @@
 """The tests of the library for C."""
 import ctypes
+import json
 import os
 import pathlib
 import re
@@ -152,6 +153,16 @@ def lists_every_member():
         "fault actual: 0", "fault path: /nodes/0/mesh", f"fault text: {MESSAGE}"])
 
 
+# The materials of a primitive in three variants: one that is there, one that is not, and none.
+VARIED = {
+    "asset": {"version": "2.0"}, "materials": [{}, {}],
+    "meshes": [{"primitives": [{"attributes": {}, "extensions": {"KHR_materials_variants": {
+        "mappings": [{"material": 1, "variants": [0]}, {"material": 7, "variants": [0, 1]}]}}}]}],
+    "extensionsUsed": ["KHR_materials_variants"],
+    "extensions": {"KHR_materials_variants": {"variants": [{"name": name} for name in "abc"]}}}
+MAPPING = "/meshes/0/primitives/0/extensions/KHR_materials_variants/mappings/1/material"
+
+
 def lists_by(compiler):
     """The wrapper for C++."""
     need(compiler)
@@ -163,8 +174,12 @@ def lists_by(compiler):
     for language in ("c++11", "c++17", "c++20"):
         compiled(TESTS_OF_C / "list.cpp", program, by=compiler, language=language)
         same(ran(program, BOX, DANGLING), wanted)
-        same(ran(program, SURFACE), "sheen: 1\nno film: 17\nscene -1, version 2.0, no buffer ``\n"
-             "12 : gltf: a call returned status 12\n")
+        end = "scene -1, version 2.0, no buffer ``\n12 : gltf: a call returned status 12\n"
+        same(ran(program, SURFACE), f"sheen: 1\nno film: 17\n{end}")
+        varied = OUT / "varied.gltf"
+        varied.write_text(json.dumps(VARIED))
+        same(ran(program, varied), f"variant: 1\n17 {MAPPING}: the document has no material with "
+             f"this index\nvariant: -1\n{end}")
 
 
 # URIs of a buffer of eight bytes in below/file.gltf, with what gltf_load gives of them.

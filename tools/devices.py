@@ -1,8 +1,8 @@
 #!/usr/bin/env python3
-"""Runs the programs where the system fails them: a folder or a device for a file, a file that is
-cut while it is read, a pipe that ends early or that nobody reads, a closed output, a full disk, too
-little memory, a name that is too long, no permission. A row is a call with its status and its
-error; what a program writes is whole or not there.
+"""Runs the programs where the system fails them: a folder or a device for a file or for a buffer, a
+file that is cut while it is read, a pipe that ends early or that nobody reads, a closed output, a
+full disk, too little memory, a name that is too long, no permission. A row is a call with its
+status and its error; what a program writes is whole or not there.
 
 A row whose device cannot be had on this machine is reported as not tried, and counts neither as
 passed nor as failed. The last line is `N passed, M failed`."""
@@ -37,7 +37,15 @@ LARGE = container(chunk(b"JSON", padded(LARGE)), chunk(b"BIN\0", bytes(LENGTH)))
 # A file whose buffer is in another one.
 OUTSIDE = document(buffers=[{"byteLength": LENGTH, "uri": "outside.bin"}])
 SMALL = container(chunk(b"JSON", padded(document(nodes=[{"children": [1]}, {}]))))
-FILES = {"in.glb": SMALL, "large.glb": LARGE, "cut.glb": LARGE, "locked": SMALL,
+# Files whose buffers, of four bytes each, are in a device without end, in a pipe, and in one large
+# file.
+FOUR = 4
+ENDLESS = document(buffers=[{"byteLength": FOUR, "uri": "/dev/zero"}])
+PIPED = document(buffers=2 * [{"byteLength": FOUR, "uri": "named"}])
+BUFFERS = 1_000
+SHARED = document(buffers=BUFFERS * [{"byteLength": FOUR, "uri": "shared.bin"}])
+FILES = {"in.glb": SMALL, "endless.gltf": ENDLESS, "piped.gltf": PIPED, "shared.gltf": SHARED,
+         "shared.bin": bytes(1 << 20), "large.glb": LARGE, "cut.glb": LARGE, "locked": SMALL,
          "outside.gltf": OUTSIDE, "outside.bin": bytes(LENGTH), "short.glb": SMALL[:24],
          "empty.glb": b""}
 # What stands where a program is to write: links to devices, and what is no file.
@@ -69,6 +77,8 @@ CALLS = (
     Call("gltf_convert", ending=".gltf"),
 )
 WRITERS = [call for call in CALLS if call.ending]
+# The calls that look at a file and at those that its buffers name, and write none.
+LOOKERS = [call for call in CALLS if not call.ending] + [Call("gltf_show", "inspect", "--html")]
 
 
 class Results:
@@ -211,6 +221,46 @@ def lacks(call, file, lacking, room, library):
         good = (got.returncode == call.status and is_line(got.stderr, lacking)
                 and got.stderr != b"out of memory\n" and state(room) == before)
         RESULTS.row(f"{call.shown} {file}, where {way} has no memory for {lacking}", good, got)
+
+
+# ---- What buffers name, for the calls that look at a file and write none.
+
+def is_looked_at(call, got, fails, buffers):
+    """Whether a file of so many buffers is accepted, or a line says so of the name that failed:
+    for `inspect` that is a finding at each buffer."""
+    if call.words[0] == "check":
+        wanted = (1, b"", f"{fails}: file too large\n".encode()) if fails else (
+            0, f"ok buffers={buffers} accessors=0 meshes=0 nodes=0\n".encode(), b"")
+        return (got.returncode, got.stdout, got.stderr) == wanted
+    found = got.stdout.count(b"IO_ERROR")
+    return (got.returncode, got.stderr, found) == (
+        (1, b"", buffers) if fails else (0, b"", 0))
+
+
+def from_device(call, room):
+    """A buffer of four bytes in a device without end is a failed read, in little memory."""
+    got = ran(call, call.on("endless.gltf"), room, {"memory": SOME_MEMORY})
+    good = is_looked_at(call, got, "/dev/zero", 1)
+    RESULTS.row(f"{call.shown} of a buffer in /dev/zero", good, got)
+
+
+def from_named_pipe(call, room):
+    """Buffers of four bytes in one pipe, which is opened once: one that has up to three more bytes
+    is read, and one that has a fourth is a failed read."""
+    for more, fails in ((0, None), (3, None), (4, "named"), (100_000, "named")):
+        feeder = feeds(room / "named", bytes(FOUR + more))
+        got = ran(call, call.on("piped.gltf"), room)
+        feeder.kill()
+        feeder.wait()
+        good = is_looked_at(call, got, fails, 2)
+        RESULTS.row(f"{call.shown} of two buffers in a pipe of {FOUR + more} bytes", good, got)
+
+
+def from_shared(call, room):
+    """Buffers of one large file have its bytes once."""
+    got = ran(call, call.on("shared.gltf"), room, {"memory": SOME_MEMORY})
+    good = is_looked_at(call, got, None, BUFFERS)
+    RESULTS.row(f"{call.shown} of {BUFFERS} buffers in one file", good, got)
 
 
 # ---- What is printed.
@@ -383,7 +433,7 @@ def fill(room):
     for name, mode in folders.items():
         (room / name).mkdir()
         (room / name).chmod(mode)
-    for name in ("pipe", *(f"pipe{it}" for it in ENDINGS)):
+    for name in ("pipe", "named", *(f"pipe{it}" for it in ENDINGS)):
         os.mkfifo(room / name)
         (room / name).chmod(0o666)
     room.chmod(0o777)
@@ -437,6 +487,9 @@ def main():
         for call in CALLS:
             read_rows(call, room, libraries)
             for rows in (to_full, to_nobody, to_nothing, prints_to_full_disk):
+                rows(call, room)
+        for call in LOOKERS:
+            for rows in (from_device, from_named_pipe, from_shared):
                 rows(call, room)
         for call in WRITERS:
             write_rows(call, room)

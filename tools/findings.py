@@ -16,6 +16,7 @@ sys.dont_write_bytecode = True
 
 import crates
 import graphs
+import unkept
 from graphs import ROOTED, apart, nodes
 
 U8, U16, U32, FLOAT = 5121, 5123, 5125, 5126
@@ -491,6 +492,7 @@ ROWS += [(VARIANTS, undeclared(f"{PRIMITIVE}/extensions/EXT_mine"))]
 MOVES = animated("translation", accessor("VEC3", count=2))
 MOVES["animations"][0] |= ROOT
 ROWS += [(MOVES, undeclared("/animations/0/extensions/EXT_mine"))]
+ROWS += unkept.ROWS
 
 
 def packed(form, *numbers):
@@ -657,7 +659,17 @@ ROWS += [
     (sparse(None, [0, 65535], [1, 2], U16, count=65536), []),
     (sparse(None, [0, 65535], [1, 2], U16, count=65535), PAST),
     (sparse(None, [0, 2 ** 32 - 1], [1, 2], U32, count=2 ** 53), []),
-    (sparse(None, [0, 0], [1, 2], U32, count=2 ** 53, min=[9], max=[9]), FALLS),
+    (sparse(None, [0, 2 ** 32 - 1], [1, 2], U32, count=2 ** 53, min=[0], max=[2]), []),
+    (sparse(None, [0, 0], [1, 2], U32, count=2 ** 53, min=[9], max=[9]),
+     FALLS + least(LOW, BELOW) + greatest(HIGH)),
+    *((sparse(None, [0, 3], [1, 2], min=[low], max=[2]), least(*codes))
+      for low, codes in ((0, []), (1, [LOW, BELOW]))),
+    (sparse(None, [0, 3], [1, 2], min=[0], max=[1]), greatest(HIGH, ABOVE)),
+    *((sparse(None, [0, 1], [5, 6], count=count, min=[low], max=[6]), least(*codes))
+      for count, low, codes in ((2, 5, []), (2, 0, [LOW]), (3, 5, [LOW, BELOW]), (3, 0, []))),
+    *((sparse(None, [i, 4], [1, 2], min=[0], max=[1]), PAST) for i in (0, 3)),
+    (sparse(None, [4, 5], [1, 2], min=[0], max=[0]), PAST),
+    (sparse(None, [2, 1], [3, 9], min=[0], max=[3]), FALLS),
     (sparse(FIVES, [2], [1], min=[1], max=[5]), []),
     (sparse(FIVES, [2], [9], min=[5], max=[5]), greatest(HIGH, ABOVE)),
     (sparse([5, 5, 1, 5], [2], [5], min=[5], max=[5]), []),
@@ -670,18 +682,58 @@ REPLACED = {"accessors": [accessor("SCALAR", count=2, bufferView=0, sparse={
 ROWS += [(OVER | REPLACED, []), (UNDER | REPLACED, INFINITE)]
 
 
+def placed(count, places, *values, component=FLOAT, **members):
+    """So many zeros without a view, with these values in place of some of them."""
+    made = views(packed("B", *places), packed({U8: "B", FLOAT: "f"}[component], *values))
+    part = {"count": len(places), "values": {"bufferView": 1},
+            "indices": {"bufferView": 0, "componentType": U8}}
+    return made | {"accessors": [accessor("SCALAR", component, count, sparse=part, **members)]}
+
+
+def drawn(count, places, *values):
+    """Three vertices, drawn by such indices."""
+    made, drawing = placed(count, places, *values, component=U8), attributes()
+    drawing["meshes"][0]["primitives"][0]["indices"] = 1
+    return made | drawing | {"accessors": drawing["accessors"] + made["accessors"]}
+
+
+def drawn_wrong(code):
+    return [(f"ACCESSOR_INDEX_{code}", f"{PRIMITIVE}/indices")]
+
+
+# Floats and indices of sparse accessors without a view (3.6.2.3).
+ROWS += [
+    (placed(3, [1], 1), []),
+    *((placed(n, [1], NAN), INFINITE) for n in (2, 2 ** 50)), (placed(2, [2], NAN), PAST),
+    (drawn(3, [1, 2], 1, 2), []),
+    (drawn(3, [1, 2], 1, 3), drawn_wrong("OOB")),
+    (drawn(3, [1, 2], 1, 255), drawn_wrong("PRIMITIVE_RESTART")),
+    *((drawn(count, [1, 2], 1, 2), drawn_wrong("TRIANGLE_DEGENERATE")) for count in (6, 3 * 2 ** 50)),
+]
+
+
+def animation(samplers=1):
+    """Samplers with the same times."""
+    return {
+        "nodes": [ROOTED] * samplers,
+        "animations": [{
+            "channels": [{"sampler": i, "target": {"node": i, "path": "scale"}} for i in range(samplers)],
+            "samplers": [{"input": 0, "output": 1}] * samplers}]}
+
+
 def timed(*times, least=None, greatest=None, samplers=1):
     """An animation at these times."""
     bounds = {"min": [min(times) if least is None else least],
               "max": [max(times) if greatest is None else greatest]}
-    sampler = {"input": 0, "output": 1}
-    return views(floats(*times)) | {
+    return views(floats(*times)) | animation(samplers) | {
         "accessors": [accessor("SCALAR", count=len(times), bufferView=0, **bounds),
-                      accessor("VEC3", count=len(times))],
-        "nodes": [ROOTED] * samplers,
-        "animations": [{
-            "channels": [{"sampler": i, "target": {"node": i, "path": "scale"}} for i in range(samplers)],
-            "samplers": [sampler] * samplers}]}
+                      accessor("VEC3", count=len(times))]}
+
+
+def late(count, places, *values, least=0, greatest=0):
+    """An animation at zeros without a view, with these times in place of some of them."""
+    made = placed(count, places, *values, min=[least], max=[greatest])
+    return made | animation() | {"accessors": made["accessors"] + [accessor("VEC3", count=count)]}
 
 
 def times(*codes, sampler=0):
@@ -712,6 +764,11 @@ ROWS += [
     (timed(0, INFINITY, least=0, greatest=0), INFINITE + greatest(HIGH, ABOVE)),
     (timed(-INFINITY, 0, least=0, greatest=0), INFINITE + least(LOW, BELOW) + times(NEGATIVE)),
     (timed(1, 0, samplers=2), times(NON_INCREASING) + times(NON_INCREASING, sampler=1)),
+    (late(3, [1, 2], 1, 2, greatest=2), []),
+    (late(3, [2], 1, greatest=1), times(NON_INCREASING)),
+    (late(2, [0], -1, least=-1), times(NEGATIVE)),
+    (late(2 ** 50, [0], -1, least=-1), times(NEGATIVE, NON_INCREASING)),
+    (late(2, [2], -1), times(NON_INCREASING) + PAST),
 ]
 
 
@@ -726,7 +783,8 @@ def main():
     with tempfile.TemporaryDirectory() as folder:
         paths = [pathlib.Path(folder) / f"{i}.gltf" for i in range(len(ROWS))]
         for path, (members, _) in zip(paths, ROWS):
-            path.write_text(json.dumps({"asset": {"version": "2.0"}, **members}))
+            text = members if isinstance(members, str) else unkept.text(members)
+            path.write_text(text)
         ran = subprocess.run([*program, "inspect", "--json", *paths], capture_output=True, text=True)
     reports = [line for line in ran.stdout.splitlines() if line.startswith("{")]
     if len(reports) != len(ROWS):

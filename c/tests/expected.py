@@ -447,18 +447,31 @@ def print_attributes(about, attributes):
         put(about, name, attributes[name])
 
 
+def print_variants(file, about, record):
+    """The material in each variant: that of the first mapping with it. Of an index that is out of
+    range the place is shown."""
+    mappings = (known(record, VARIANTS) or {}).get("mappings", [])
+    for variant in range(len(file.list("variants"))):
+        of = [k for k, it in enumerate(mappings) if variant in it["variants"]]
+        if not of:
+            continue
+        put(about, "variant", variant)
+        if mappings[of[0]]["material"] < len(file.list("materials")):
+            put(about, "of material", mappings[of[0]]["material"])
+            continue
+        _, mesh, primitive = about.split()
+        put(about, "of no material", f"/meshes/{mesh}/primitives/{primitive}/extensions/{VARIANTS}"
+            f"/mappings/{of[0]}/material")
+        put(about, "reason", "the document has no material with this index")
+
+
 def print_primitive(file, about, record):
     put(about, "mode", record.get("mode", 4))
     put(about, "indices", record.get("indices"))
     put(about, "material", record.get("material"))
     put(about, "attributes", len(record["attributes"]))
     put(about, "targets", len(record.get("targets", [])))
-    mappings = (known(record, VARIANTS) or {}).get("mappings", [])
-    for variant in range(len(file.list("variants"))):
-        of = [it["material"] for it in mappings if variant in it["variants"]]
-        if of:
-            put(about, "variant", variant)
-            put(about, "of material", of[0])
+    print_variants(file, about, record)
     print_extras(file, about, record)
     print_attributes(about, record["attributes"])
 

@@ -322,10 +322,37 @@ static void print_attributes(const gltf_file *file, size_t mesh, size_t primitiv
           == GLTF_NO_SUCH_INDEX);
 }
 
+/* The material of a primitive in a variant, or where the index of one that is not there stands. */
+static void print_variant(const gltf_file *file, size_t mesh, size_t index, size_t variant)
+{
+    gltf_fault it;
+    gltf_status fault;
+    size_t material = 777;
+    if (gltf_variant_material(file, mesh, index, variant, &material) != GLTF_SUCCESS) {
+        CHECK(gltf_variant_fault(file, mesh, index, variant, &it) == GLTF_NO_SUCH_INDEX);
+        CHECK(material == 777);
+        return;
+    }
+    put_size("variant", variant);
+    memset(&it, 0x5a, sizeof it);
+    fault = gltf_variant_fault(file, mesh, index, variant, &it);
+    if (fault == GLTF_NO_SUCH_INDEX) {
+        CHECK(it.status == 0x5a5a5a5a && it.path[0] == 0x5a && it.text[0] == 0x5a);
+        put_size("of material", material);
+        return;
+    }
+    CHECK(fault == GLTF_SUCCESS && material >= gltf_count(file, GLTF_MATERIALS));
+    FILL(it, gltf_variant_fault(file, mesh, index, variant, &it));
+    CHECK(it.status == GLTF_BAD_EXTENSION && it.rules == 0 && it.buffer == GLTF_NONE);
+    CHECK(it.expected == 0 && it.actual == 0);
+    put_text("of no material", it.path, strlen(it.path));
+    put_text("reason", it.text, strlen(it.text));
+}
+
 static void print_primitive(const gltf_file *file, size_t mesh, size_t index)
 {
     gltf_primitive it;
-    size_t i, variant;
+    size_t i;
     record("primitives", 2, mesh, index, 0);
     FILL(it, gltf_primitive_info(file, mesh, index, &it));
     CHECK(it.reserved_word == 0);
@@ -335,8 +362,7 @@ static void print_primitive(const gltf_file *file, size_t mesh, size_t index)
     SIZE(it, attributes);
     SIZE(it, targets);
     for (i = 0; i < gltf_count(file, GLTF_VARIANTS); i++)
-        if (gltf_variant_material(file, mesh, index, i, &variant) == GLTF_SUCCESS)
-            put_size("variant", i), put_size("of material", variant);
+        print_variant(file, mesh, index, i);
     print_json(file, GLTF_PRIMITIVES, mesh, index);
     print_attributes(file, mesh, index, GLTF_NONE);
     for (i = 0; i < it.targets; i++) {

@@ -44,6 +44,12 @@ static void print(const gltf::file &file)
             std::cout << "no film: " << why.fault.status << "\n";
         }
     }
+    for (std::size_t v = 0; v < file.count(GLTF_VARIANTS); v++)
+        try {
+            std::cout << "variant: " << static_cast<long>(file.variant_material(0, 0, v)) << "\n";
+        } catch (const gltf::error &why) {
+            std::cout << why.fault.status << " " << why.fault.path << ": " << why.what() << "\n";
+        }
     std::cout << "scene " << static_cast<long>(file.default_scene()) << ", version "
               << file.text(GLTF_ASSET_VERSION, 0) << ", no buffer `"
               << file.text(GLTF_BUFFER_URI, 99) << "`\n";

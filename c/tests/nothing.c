@@ -49,6 +49,7 @@ static void try_nothing(void)
     IS_CLOSED(gltf_attribute_name(none, 0, 0, 0, 0, text, 8, size));
     IS_CLOSED(gltf_attribute_find(none, 0, 0, 0, GLTF_POSITION, 0, size));
     IS_CLOSED(gltf_variant_material(none, 0, 0, 0, size));
+    IS_CLOSED(gltf_variant_fault(none, 0, 0, 0, (gltf_fault *)out));
     IS_CLOSED(gltf_material_info(none, 0, (gltf_material *)out));
     IS_CLOSED(gltf_material_info(none, GLTF_NONE, (gltf_material *)out));
     IS_CLOSED(gltf_sampler_info(none, 0, (gltf_sampler *)out));

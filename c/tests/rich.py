@@ -202,6 +202,9 @@ def meshes(at):
                {"NORMAL": at["turned"]}]
     variants = {"KHR_materials_variants": {"mappings": [
         {"material": 1, "variants": [1]}, {"material": 2, "variants": [0, 2]}]}}
+    if not is_valid:
+        # Out of range: a fault in the variant that no mapping before it has.
+        variants["KHR_materials_variants"]["mappings"].append({"material": 40, "variants": [1, 4]})
     first = unnamed({"attributes": attributes, "indices": at["indices"], "material": 0,
                      "targets": targets, "extensions": variants})
     mesh = marked({"weights": [0.25, 0.75], "primitives": [first]})
@@ -253,7 +256,8 @@ def document():
             "KHR_materials_pbrSpecularGlossiness", "KHR_materials_clearcoat", "EXT_mark"]
     asset = unnamed({"version": "2.0", "minVersion": "2.0", "generator": "rich.py",
                      "copyright": "© none"})
-    variants = [{"name": "day"}, {"name": "night"}, {"name": "fog"}, {"name": "none"}]
+    variants = [{"name": "day"}, {"name": "night"}, {"name": "fog"}, {"name": "none"},
+                {"name": "lost"}]
     return {
         "asset": asset, "extensionsUsed": used, "extensionsRequired": used[:3], "scene": 1,
         "scenes": [marked({"nodes": [0, 4]}), {"nodes": [7, 5, 6], "name": "Main"}, {}],

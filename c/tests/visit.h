@@ -338,10 +338,34 @@ static void visit_json(visit *v, unsigned int kind, size_t index, size_t part)
     visit_packet(v, kind, index, part);
 }
 
+/* The material of a primitive in a variant, and what is wrong with it: one that is there has no
+ * fault, and one that is not has its own. Nothing is written where there is none. */
+static void visit_variant(visit *v, size_t mesh, size_t primitive, size_t variant)
+{
+    size_t material = 0x5a, at;
+    gltf_fault fault;
+    gltf_status found = gltf_variant_material(v->file, mesh, primitive, variant, &material), status;
+    memset(&fault, 0x5a, sizeof fault);
+    status = gltf_variant_fault(v->file, mesh, primitive, variant, &fault);
+    MUST(v, found == GLTF_SUCCESS || (found == GLTF_NO_SUCH_INDEX && material == 0x5a));
+    if (found == GLTF_SUCCESS && material >= v->counts[GLTF_MATERIALS]) {
+        MUST(v, status == GLTF_SUCCESS && fault.status == GLTF_BAD_EXTENSION && fault.rules == 0);
+        MUST(v, fault.buffer == GLTF_NONE && fault.expected == 0 && fault.actual == 0);
+        MUST(v, fault.path[0] == '/' && memchr(fault.path, 0, sizeof fault.path) != NULL);
+        MUST(v, fault.text[0] != 0 && memchr(fault.text, 0, sizeof fault.text) != NULL);
+    } else {
+        MUST(v, status == GLTF_NO_SUCH_INDEX);
+        for (at = 0; at < sizeof fault; at++)
+            MUST(v, ((unsigned char *)&fault)[at] == 0x5a);
+    }
+    visit_add(v, &material, sizeof material);
+    visit_add(v, &fault, sizeof fault);
+}
+
 static void visit_primitive(visit *v, size_t mesh, size_t index, size_t primitives)
 {
     gltf_primitive it;
-    size_t i, t, material = 0;
+    size_t i, t;
     FILL(v, it, gltf_primitive_info(v->file, mesh, index, &it),
          gltf_primitive_info(v->file, mesh, primitives, &it));
     MUST(v, it.mode <= GLTF_TRIANGLE_FAN && it.reserved_word == 0);
@@ -350,8 +374,7 @@ static void visit_primitive(visit *v, size_t mesh, size_t index, size_t primitiv
     visit_add(v, &it, sizeof it);
     visit_json(v, GLTF_PRIMITIVES, mesh, index);
     for (i = 0; i <= v->counts[GLTF_VARIANTS] && i < 9; i++)
-        if (gltf_variant_material(v->file, mesh, index, i, &material) == GLTF_SUCCESS)
-            visit_add(v, &material, sizeof material);
+        visit_variant(v, mesh, index, i);
     for (i = 0; visit_attribute(v, mesh, index, GLTF_NONE, i); i++)
         continue;
     MUST(v, i == it.attributes);

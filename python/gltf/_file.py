@@ -84,6 +84,13 @@ class File:
             raise error(status)
         return out
 
+    def check_variant(self, *place: int) -> None:
+        """Raises where the material of a primitive in a variant is out of range: the indices of the
+        mesh, the primitive and the variant."""
+        fault = _native.Fault()
+        if library.gltf_variant_fault(self.at, *place, byref(fault)) == 0:
+            raise _fault_error(fault)
+
     def call(self, name: str, *words: Any, about: str = "") -> None:
         """A call that returns a status; raises where it does not succeed."""
         status = getattr(library, "gltf_" + name)(self.at, *words)

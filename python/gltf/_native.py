@@ -142,6 +142,7 @@ _CALLS = {
     "accessor_read_u32": [c_size_t, c_void_p, c_size_t],
     "default_scene": [POINTER(c_size_t)],
     "variant_material": [c_size_t, c_size_t, c_size_t, POINTER(c_size_t)],
+    "variant_fault": [c_size_t, c_size_t, c_size_t, POINTER(Fault)],
     "attribute_name": [c_size_t, c_size_t, c_size_t, c_size_t, *_TEXT],
     "attribute_info": [c_size_t] * 4 + [POINTER(Attribute)],
     "primitive_info": [c_size_t] * 2 + [POINTER(Primitive)],

@@ -340,10 +340,13 @@ class Primitive:
 
     def material_of(self, variant: int) -> Optional[Material]:
         """The material under a variant of KHR_materials_variants, by the number of the variant:
-        that which the variant names here, else the primitive's own."""
+        that which the variant names here, else the primitive's own. Raises BadExtensionError, with
+        the place of the index, where the variant names a material that the document has not: no
+        rule looks at that index."""
         material, file = c_size_t(), self.document._open()
-        status = library.gltf_variant_material(
-            file.at, self.mesh.index, self.index, variant, byref(material))
+        place = (self.mesh.index, self.index, variant)
+        file.check_variant(*place)
+        status = library.gltf_variant_material(file.at, *place, byref(material))
         return self.document.materials[material.value] if status == 0 else self.material
 
     @property

@@ -122,6 +122,32 @@ class Extensions(unittest.TestCase):
                     getattr(document.materials[1], member)
 
 
+class Variants(unittest.TestCase):
+    """The materials of KHR_materials_variants."""
+
+    def test_a_material_that_is_not_there_is_an_error(self):
+        mapped = {"attributes": {}, "material": 1, "extensions": {"KHR_materials_variants": {
+            "mappings": [{"material": 0, "variants": [1]}, {"material": 2, "variants": [0, 1]}]}}}
+        text = text_of({
+            "asset": {"version": "2.0"}, "materials": [{"name": "Red"}, {"name": "Blue"}],
+            "meshes": [{"primitives": []}, {"primitives": [{"attributes": {}}, mapped]}],
+            "extensionsUsed": ["KHR_materials_variants"],
+            "extensions": {"KHR_materials_variants": {
+                "variants": [{"name": "Lost"}, {"name": "Day"}, {"name": "Night"}]}}})
+        with gltf.open(text) as document:
+            primitive = document.meshes[1].primitives[1]
+            with self.assertRaises(gltf.BadExtensionError) as caught:
+                primitive.material_of(0)
+            self.assertEqual(
+                (caught.exception.path, str(caught.exception)),
+                ("/meshes/1/primitives/1/extensions/KHR_materials_variants/mappings/1/material",
+                 "the document has no material with this index"))
+            # The first mapping with the variant counts, and without one the primitive's own.
+            self.assertEqual(primitive.material_of(1).name, "Red")
+            self.assertEqual(primitive.material_of(2).name, "Blue")
+        self.assertRaises(gltf.ClosedError, primitive.material_of, 0)
+
+
 class Files(unittest.TestCase):
     """What is read of the examples is what an independent reader reads."""
 

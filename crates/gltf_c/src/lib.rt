@@ -20,7 +20,7 @@ ghost use Rattle.gltf_c_calls.specs.Exported.{shown_channel_of, shown_attribute_
 ghost use Rattle.gltf_c_calls.specs.Exported.{found_attribute_of, attribute_name_of, shown_mesh_of};
 ghost use Rattle.gltf_c_calls.specs.Exported.{shown_primitive_of, variant_material_of, name_of};
 ghost use Rattle.gltf_c_calls.specs.Exported.{shown_node_of, shown_scene_of, shown_skin_of};
-ghost use Rattle.gltf_c_calls.specs.Exported.{node_list_of, Gives, GivesRead};
+ghost use Rattle.gltf_c_calls.specs.Exported.{node_list_of, variant_fault_of, Gives, GivesRead};
 ghost use Rattle.gltf_c_calls.specs.Exported.{said, shown, IsOpened, IsGivenBytes};
 ghost use Rattle.gltf_c_calls.specs.Rooms.{GivesText, GivesTextOr, GivesList};
 ghost use Rattle.gltf_c_calls.specs.Rooms.{ReadsItems, ReadsJson};
@@ -506,6 +506,24 @@ pub extern "C" fn core_variant_material(
         file.old.value result out.old out.new }
 {
     scene::variant_material(alloc, file, mesh, primitive, variant, out)
+}
+
+/// What is wrong with the material of a primitive under a variant, where the document does not have
+/// it (`KHR_materials_variants`).
+#[unsafe(no_mangle)]
+pub extern "C" fn core_variant_fault(
+    alloc: Global,
+    file: &mut GltfFile,
+    mesh: usize,
+    primitive: usize,
+    variant: usize,
+    out: &mut GltfFault,
+) -> u32
+    ensures same { file.new.value ≡ file.old.value }
+    ensures given { Gives (shown (variant_fault_of mesh primitive variant))
+        file.old.value result out.old out.new }
+{
+    scene::variant_fault(alloc, file, mesh, primitive, variant, out)
 }
 
 /// The accessor of an attribute, by the number of what it means and that of its set (section

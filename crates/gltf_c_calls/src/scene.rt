@@ -7,10 +7,12 @@ ghost use Rattle.gltf_c_scene.specs.Meshes.{shown_mesh_of, shown_primitive_of};
 ghost use Rattle.gltf_c_scene.specs.Meshes.{variant_material_of};
 ghost use Rattle.gltf_c_scene.specs.Nodes.{shown_node_of, shown_scene_of};
 ghost use Rattle.gltf_c_scene.specs.Skins.{shown_skin_of};
+ghost use Rattle.gltf_c_scene.specs.Variants.{variant_fault_of};
 ghost use Rattle.gltf_c_handle.specs.Calls.{Gives, shown};
 ghost use Rattle.gltf_c_calls.specs.Calls.{HasCount, default_scene};
 
 use crate::at::At;
+use gltf_c_fault::fault::GltfFault;
 use gltf_c_handle::ask::{Ask, answer};
 use gltf_c_handle::handle::GltfFile;
 use gltf_c_open::file::File;
@@ -19,7 +21,7 @@ use gltf_c_scene::attribute::GltfAttribute;
 use gltf_c_scene::mesh::{GltfMesh, GltfPrimitive};
 use gltf_c_scene::node::{GltfNode, GltfScene};
 use gltf_c_scene::skin::GltfSkin;
-use gltf_c_scene::{animation, attribute, kind, mesh, node, skin};
+use gltf_c_scene::{animation, attribute, kind, mesh, node, skin, variant};
 use std::alloc::Global;
 
 /// How many records of a kind there are.
@@ -225,6 +227,41 @@ pub fn variant_material(
 ) -> u32
     ensures same { file.new.value ≡ file.old.value }
     ensures given { Gives (shown (variant_material_of mesh primitive variant)) file.old.value
+        result out.old out.new }
+{
+    let material = VariantOf {
+        mesh,
+        primitive,
+        variant,
+    };
+    answer(alloc, file, &material, out)
+}
+
+impl Ask<GltfFault> for VariantOf {
+    ghost asked = { λ call. shown (variant_fault_of call.mesh call.primitive call.variant) };
+
+    fn ask(&self, file: &File) -> Option<GltfFault> {
+        variant::variant_fault(
+            file.document.as_json(),
+            self.mesh,
+            self.primitive,
+            self.variant,
+        )
+    }
+}
+
+/// What is wrong with the material of a primitive under a variant, where the document does not have
+/// it (`KHR_materials_variants`).
+pub fn variant_fault(
+    alloc: Global,
+    file: &mut GltfFile,
+    mesh: usize,
+    primitive: usize,
+    variant: usize,
+    out: &mut GltfFault,
+) -> u32
+    ensures same { file.new.value ≡ file.old.value }
+    ensures given { Gives (shown (variant_fault_of mesh primitive variant)) file.old.value
         result out.old out.new }
 {
     let material = VariantOf {

@@ -12,6 +12,7 @@ use Rattle.gltf_json_record.specs.declared.error.Error.TheVariants as json
 use Rattle.gltf_validation.specs.declared.error.Error as validation
 use Rattle.gltf_c_fault.specs.Message.{text_in_room, Tells}
 use Rattle.gltf_c_fault.specs.Status.{code, status_of}
+use Rattle.gltf_c_fault.specs.declared.status.Status.TheVariants.{BadExtension}
 use Rattle.gltf_c_fault.specs.declared.fault.GltfFault.{GltfFault}
 use Rattle.gltf_c_fault.specs.declared.fault.Numbers.{Numbers}
 use Rattle.gltf_c_fault.specs.declared.fault.TheConstants.{NONE}
@@ -96,3 +97,16 @@ pub record IsFault (e : Error) (f : GltfFault) : Type 0 where
   pub reserved : f.reserved ≡ replicate 4 0
   pub path : f.path ≡ text_in_room (pointer_text (place_of e)) (replicate 128 0)
   pub text : Tells e (replicate 512 0) f.text
+
+-- what is said of an extension at fault: the place in the document, and the reason
+abbrev pub extension_fault : List Place → List ℕ → GltfFault
+extension_fault places reason = record {
+  status = code BadExtension;
+  rules = 0;
+  buffer = NONE;
+  expected = 0;
+  actual = 0;
+  reserved = replicate 4 0;
+  path = text_in_room (pointer_text places) (replicate 128 0);
+  text = text_in_room reason (replicate 512 0);
+}

@@ -3,10 +3,11 @@ ghost use Rattle.std.specs.Prelude.{◌≡◌, ℕ, List, map, replicate};
 ghost use Rattle.gltf_json_record.specs.Place.{place_of};
 ghost use Rattle.gltf_json_record.specs.Pointer.{pointer_text};
 ghost use Rattle.gltf_c_fault.specs.Fault.{no_fault, IsFault, first_place, numbers_of, rules_of};
+ghost use Rattle.gltf_c_fault.specs.Fault.{extension_fault};
 ghost use Rattle.gltf_c_fault.specs.Fault as fault;
 ghost use Rattle.gltf_c_fault.specs.Message.{Tells, text_in_room};
 
-use crate::message::tell;
+use crate::message::{put, tell};
 use crate::pointer::put_pointer;
 use crate::status::Status;
 use gltf_glb::Error;
@@ -18,7 +19,7 @@ use std::alloc::Global;
 /// What stands for a buffer where none is at fault.
 pub const NONE: usize = usize::MAX;
 
-/// Why a file is refused, laid out as C does.
+/// Why a file is refused, or what is wrong with an extension, laid out as C does.
 #[repr(C)]
 #[derive(Clone, Copy, Drop)]
 pub struct GltfFault {
@@ -82,6 +83,26 @@ pub fn fault_of(alloc: Global, error: &Error) -> GltfFault
         buffer,
         expected,
         actual,
+        reserved: [0; 4],
+        path,
+        text,
+    }
+}
+
+/// What is said of an extension at fault: the steps to the place, and the reason. Takes no memory.
+pub fn extension_fault(steps: &[Step], reason: &[u8]) -> GltfFault
+    ensures { result ≡ extension_fault (map place_of steps.now) reason.now }
+{
+    let mut path = [0; 128];
+    put_pointer(steps, &mut path);
+    let mut text = [0; 512];
+    put(reason, &mut text);
+    GltfFault {
+        status: Status::BadExtension.code(),
+        rules: 0,
+        buffer: NONE,
+        expected: 0,
+        actual: 0,
         reserved: [0; 4],
         path,
         text,

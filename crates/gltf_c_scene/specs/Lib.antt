@@ -6,3 +6,4 @@ pub mod Attributes
 pub mod Nodes
 pub mod Skins
 pub mod Animations
+pub mod Variants

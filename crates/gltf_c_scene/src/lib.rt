@@ -12,3 +12,4 @@ pub mod name;
 pub mod node;
 pub mod numbers;
 pub mod skin;
+pub mod variant;

@@ -116,7 +116,7 @@ pub fn variant_material(root: &Root, mesh: usize, primitive: usize, variant: usi
 }
 
 /// The mappings of a primitive: none, where the extension is absent.
-fn mappings(primitive: &Primitive) -> &[Mapping]
+pub(crate) fn mappings(primitive: &Primitive) -> &[Mapping]
     ensures { result.now ≡ mappings_of primitive.now.extensions }
 {
     match lent(&primitive.extensions) {
@@ -141,7 +141,7 @@ fn mapped(mappings: &[Mapping], variant: usize) -> Option<usize>
 }
 
 /// Whether a list has a number.
-fn has_variant(variants: &[u32], variant: usize) -> bool
+pub(crate) fn has_variant(variants: &[u32], variant: usize) -> bool
     ensures { result ≡ has_number variant variants.now }
 {
     for number in variants {

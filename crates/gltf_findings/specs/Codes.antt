@@ -100,6 +100,7 @@ code_text code.ElementOutOfMinBound = codes "ACCESSOR_ELEMENT_OUT_OF_MIN_BOUND"
 code_text code.ElementOutOfMaxBound = codes "ACCESSOR_ELEMENT_OUT_OF_MAX_BOUND"
 code_text code.AnimationInputNegative = codes "ACCESSOR_ANIMATION_INPUT_NEGATIVE"
 code_text code.AnimationInputNonIncreasing = codes "ACCESSOR_ANIMATION_INPUT_NON_INCREASING"
+code_text code.ItemsNotLookedAt = codes "ACCESSOR_ITEMS_NOT_LOOKED_AT"
 
 abbrev pub sentence : Code → List ℕ
 sentence code.UnresolvedReference = codes "The index leads to no element of its list."
@@ -221,6 +222,8 @@ sentence code.ElementOutOfMinBound = codes "An item is below the stated minimum.
 sentence code.ElementOutOfMaxBound = codes "An item is above the stated maximum."
 sentence code.AnimationInputNegative = codes "A time is negative."
 sentence code.AnimationInputNonIncreasing = codes "A time is not greater than the one before."
+sentence code.ItemsNotLookedAt =
+    codes "The items were not looked at: all together are too many for a file of this size."
 
 -- an error is what the standard forbids
 abbrev pub severity : Code → Severity
@@ -317,6 +320,7 @@ severity code.ElementOutOfMinBound = grave.Error
 severity code.ElementOutOfMaxBound = grave.Error
 severity code.AnimationInputNegative = grave.Error
 severity code.AnimationInputNonIncreasing = grave.Error
+severity code.ItemsNotLookedAt = grave.Warning
 
 -- the number of a severity in a report
 abbrev pub severity_number : Severity → ℕ

@@ -295,6 +295,9 @@ pub enum Code {
     /// `ACCESSOR_ANIMATION_INPUT_NON_INCREASING`: A time is not greater than the one before
     /// (section 3.11).
     AnimationInputNonIncreasing,
+    /// `ACCESSOR_ITEMS_NOT_LOOKED_AT`: The items of the accessor were not looked at, since those of
+    /// all accessors are too many for a file of this size.
+    ItemsNotLookedAt,
 }
 
 impl Code {
@@ -307,7 +310,8 @@ impl Code {
             | Code::NoPosition
             | Code::TangentWithoutNormal
             | Code::IncompatibleMode
-            | Code::SkinnedMeshWithoutSkin => Severity::Warning,
+            | Code::SkinnedMeshWithoutSkin
+            | Code::ItemsNotLookedAt => Severity::Warning,
             Code::UnsupportedExtension
             | Code::UnusedObject
             | Code::NodeEmpty
@@ -497,6 +501,7 @@ impl Code {
             Code::ElementOutOfMaxBound => "ACCESSOR_ELEMENT_OUT_OF_MAX_BOUND",
             Code::AnimationInputNegative => "ACCESSOR_ANIMATION_INPUT_NEGATIVE",
             Code::AnimationInputNonIncreasing => "ACCESSOR_ANIMATION_INPUT_NON_INCREASING",
+            Code::ItemsNotLookedAt => "ACCESSOR_ITEMS_NOT_LOOKED_AT",
         }
     }
 
@@ -624,6 +629,9 @@ impl Code {
             Code::ElementOutOfMaxBound => "An item is above the stated maximum.",
             Code::AnimationInputNegative => "A time is negative.",
             Code::AnimationInputNonIncreasing => "A time is not greater than the one before.",
+            Code::ItemsNotLookedAt => {
+                "The items were not looked at: all together are too many for a file of this size."
+            }
         }
     }
 }

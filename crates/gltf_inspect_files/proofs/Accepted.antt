@@ -3,7 +3,7 @@
 -- result (`one_result`). The premises (`Law`) are laws of `gltf_json` and `gltf_rules`.
 use Rattle.std.proofs.Common.{ℕ, ◌≡◌, List, [], ◌∷◌, length, map, get_or, refl, sym, ◌∙◌}
 use Rattle.std.proofs.Common.{ap, arith, suc, inl, inr, Result, Ok, Err}
-use Rattle.std.specs.Prelude.{IfOk, IfNone, MatchOption, Option, Some, None, slice_get, ⊤}
+use Rattle.std.specs.Prelude.{IfNone, MatchOption, Option, Some, None, slice_get, ⊤}
 use Rattle.std.specs.List.{AllByRecursion}
 use Rattle.std.proofs.lemmas.Option.{slice_get_cases, slice_get_within}
 use Rattle.gltf_glb.specs.declared.error.Error.{Error}
@@ -23,13 +23,11 @@ use Rattle.gltf_buffers.specs.Buffers.{bytes_of, name_at, IsBytesOf, blob_for, A
 use Rattle.gltf_buffers.specs.Each.{AreAnswers}
 use Rattle.gltf_buffers.specs.Errors.{FailsOrNames}
 use Rattle.gltf_buffers.specs.ErrorLaws.{named_fault}
-use Rattle.gltf_buffers.specs.Shown.{bytes_of_each}
 use Rattle.gltf_buffers.specs.Names.{Nowhere, MayBeGiven, name_of}
 use Rattle.gltf.specs.Import.{IsOnlyDocument, Accepts, IsNotAccepted}
 use Rattle.gltf_inspect_files.specs.Buffers.{buffers_findings, SaysSomething}
 use Rattle.gltf_inspect_files.specs.Reports.{Found}
-use Rattle.gltf_inspect_files.specs.Reports.{IsOfAccepted, IsOfRefused, IsReportOf}
-use Rattle.gltf_inspect_files.specs.declared.inspect.Inspected.{Inspected}
+use Rattle.gltf_inspect_files.specs.Reports.{IsOfRefused}
 
 -- ---- what documents that show the same say of their buffers
 
@@ -172,18 +170,7 @@ not_accepted law bytes None found (inr is) = λ s buffers accepted.
 
 -- ---- a file that was looked at
 
-of_none : {T : Type 0} (P : T → Type 0) (Q R : Type 0) (o : Option T) → (Q → R)
+pub of_none : {T : Type 0} (P : T → Type 0) (Q R : Type 0) (o : Option T) → (Q → R)
     → MatchOption o Q P → IfNone o R
 of_none P Q R None leads is = leads is
 of_none P Q R (Some x) leads is = tt
-
-pub none_accepted : {E : Type 0} (bytes : List ℕ) (made : Result Inspected E)
-    → ((cause : Option Error) (found : Found) → IsOfRefused Nowhere bytes cause found
-    → IsNotAccepted bytes)
-    → IfOk made (IsReportOf Nowhere bytes)
-    → IfOk made (λ file. IfNone file.imported (IsNotAccepted bytes))
-none_accepted bytes (Ok file) law is =
-    of_none (λ read. IsOfAccepted Nowhere bytes read.0 (bytes_of_each read.1.items) file.report)
-    (IsOfRefused Nowhere bytes file.cause file.report) (IsNotAccepted bytes) file.imported
-    (law file.cause file.report) is
-none_accepted bytes (Err e) law is = tt

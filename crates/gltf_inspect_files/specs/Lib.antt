@@ -2,4 +2,9 @@ pub mod Containers
 pub mod Texts
 pub mod Buffers
 pub mod Reports
+pub mod Within
+pub mod LeftOut
 pub mod Layers
+pub mod Asking
+pub mod Contents
+pub mod Unkept

@@ -3,7 +3,10 @@
 -- the JSON text (section 2.7), the records (section 5), the rules between them (sections 3 and 5)
 -- and the buffers (section 3.6.1).
 use Rattle.std.specs.Prelude.{◌≡◌, ◌≢◌, ◌++◌, ◌⊎◌, ℕ, List, [], ◌∷◌, length, slice_get}
-use Rattle.std.specs.Prelude.{Option, MatchOption, Result}
+use Rattle.std.specs.Prelude.{Option, MatchOption, option_map, Result, Vec}
+use Rattle.std.specs.declared.alloc.Global.{Global}
+use Rattle.std.specs.declared.rc.Rc.{Rc}
+use Rattle.gltf_buffers.specs.declared.data.Data.{Data}
 use Rattle.std.specs.List.{AllByRecursion}
 use Rattle.gltf_json.specs.declared.root.Root.{Root}
 use Rattle.gltf_json_record.specs.Place.{Place}
@@ -11,19 +14,18 @@ use Rattle.gltf_glb.specs.declared.error.Error.{Error}
 use Rattle.gltf_glb.specs.declared.error.Error.TheVariants.{Binary, Deserialize}
 use Rattle.gltf_buffers.specs.Buffers.{sources_of}
 use Rattle.gltf_buffers.specs.Each.{AreAnswers}
-use Rattle.gltf_buffers.specs.Names.{Names, Gives}
-use Rattle.gltf_names.specs.Named.{File}
+use Rattle.gltf_buffers.specs.Names.{Names}
 use Rattle.gltf_validation.specs.Documents.{Faults}
 use Rattle.gltf.specs.Import.{IsDocument, IsValidDocument, AcceptsWith, IsOnlyDocument}
 use Rattle.gltf.specs.Import.{IsNoDocument, RefusesRecords}
 use Rattle.gltf.specs.Shown.{bytes_of_each}
+use Rattle.gltf_shared.specs.Shown.{bytes_of_each as shared_bytes}
 use Rattle.gltf_findings.specs.declared.code.Code.{Code}
 use Rattle.gltf_findings.specs.Checks.{Checks, ◌&◌, findings_of}
 use Rattle.gltf_inspect.specs.Documents.{root_checks}
 use Rattle.gltf_inspect_items.specs.Documents.{items_checks}
 use Rattle.gltf_inspect_items.specs.Reading.{Bytes}
 use Rattle.gltf_inspect_values.specs.Documents.{values_checks}
-use Rattle.gltf_inspect_files.specs.declared.inspect.Inspected.{Inspected}
 use Rattle.gltf_inspect_files.specs.Buffers.{buffers_findings, SaysSomething}
 use Rattle.gltf_inspect_files.specs.Containers.{container_code}
 use Rattle.gltf_inspect_files.specs.Texts.{text_findings}
@@ -91,13 +93,22 @@ pub record IsOfAccepted (names : Names) (bytes : List ℕ) (root : Root) (buffer
   pub accepted : AcceptsWith names bytes root buffers
   pub same : found ≡ document_findings root buffers
 
--- what is known of a file that was looked at: its report, and what is imported where it is accepted
-abbrev pub IsReportOf : Names → List ℕ → Inspected → Type 0
-IsReportOf names bytes file =
-    MatchOption file.imported (IsOfRefused names bytes file.cause file.report)
-    (λ read. IsOfAccepted names bytes read.0 (bytes_of_each read.1.items) file.report)
+-- what is said of a file that is accepted: by its bytes, its root, and the bytes of its buffers
+abbrev pub Said : Type 1
+Said = Names → List ℕ → Root → List (List ℕ) → Found → Type 0
 
--- the same of the file at a path, which the source gives
-abbrev pub IsReportOfFile : Names → List ℕ → Inspected → Type 0
-IsReportOfFile names path file =
-    (bytes : List ℕ) × Gives names (File path) bytes × IsReportOf names bytes file
+-- what is known of a file that was looked at, by the cause why it is no document, and by what is
+-- imported where it is accepted
+abbrev pub IsFound : Said → Names → List ℕ → Option Error → Option (Root × List (List ℕ)) → Found
+    → Type 0
+IsFound IsSaid names bytes cause imported found =
+    MatchOption imported (IsOfRefused names bytes cause found)
+    (λ read. IsSaid names bytes read.0 read.1 found)
+
+-- what is imported, by the bytes of its buffers
+abbrev pub imported_of : Option (Root × Vec Data Global) → Option (Root × List (List ℕ))
+imported_of = option_map (λ read. (read.0, bytes_of_each read.1.items))
+
+-- the same of buffers that share bytes
+abbrev pub lent_of : Option (Root × Vec (Rc Data Global) Global) → Option (Root × List (List ℕ))
+lent_of = option_map (λ read. (read.0, shared_bytes read.1.items))

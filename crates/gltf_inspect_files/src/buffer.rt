@@ -1,7 +1,7 @@
 //! Buffers whose bytes cannot be had (glTF 2.0, section 3.6.1).
 ghost use Rattle.std.specs.Prelude.{◌≡◌, ◌++◌, [], ◌∷◌, IfOk, OnOk};
 ghost use Rattle.std.specs.List.{AllByRecursion};
-ghost use Rattle.gltf_buffers.specs.Shown.{answer_of, answer_of_each, bytes_of_each};
+ghost use Rattle.gltf_shared.specs.Shown.{answer_of, answer_of_each, bytes_of_each};
 ghost use Rattle.gltf_inspect_files.specs.Buffers.{buffer_code, is_of_bytes, is_memory};
 ghost use Rattle.gltf_inspect_files.specs.Buffers.{buffer_place, answer_findings};
 ghost use Rattle.gltf_inspect_files.specs.Buffers.{buffers_findings, SaysSomething, had};
@@ -12,6 +12,7 @@ use gltf_findings::code::Code;
 use gltf_findings::findings::Findings;
 use gltf_json_record::path::{Path, Step};
 use std::alloc::{AllocError, Global};
+use std::rc::Rc;
 
 fn buffer_code(error: &Error) -> Code
     ensures { result ≡ buffer_code error.now }
@@ -58,7 +59,7 @@ fn tell_buffer(
 fn tell_answer(
     alloc: Global,
     index: usize,
-    answer: &Result<Data, Error>,
+    answer: &Result<Rc<Data>, Error>,
     findings: &mut Findings,
 ) -> Result<(), AllocError>
     ensures found { OnOk result (findings.new
@@ -76,7 +77,7 @@ fn tell_answer(
 /// also where there was none for the bytes of a buffer.
 pub(crate) fn tell_buffers(
     alloc: Global,
-    answers: &[Result<Data, Error>],
+    answers: &[Result<Rc<Data>, Error>],
     findings: &mut Findings,
 ) -> Result<(), AllocError>
     ensures found { OnOk result (findings.new
@@ -91,7 +92,10 @@ pub(crate) fn tell_buffers(
 
 /// The bytes of the buffers that have no fault.
 #[tactic(auto, using(crate::proofs::Answered::had_one_more))]
-pub(crate) fn had(alloc: Global, answers: Vec<Result<Data, Error>>) -> Result<Vec<Data>, AllocError>
+pub(crate) fn had(
+    alloc: Global,
+    answers: Vec<Result<Rc<Data>, Error>>,
+) -> Result<Vec<Rc<Data>>, AllocError>
     ensures { IfOk result (λ buffers. bytes_of_each buffers.items
         ≡ had (answer_of_each answers.items)) }
 {
@@ -102,7 +106,7 @@ pub(crate) fn had(alloc: Global, answers: Vec<Result<Data, Error>>) -> Result<Ve
     Ok(buffers)
 }
 
-fn add_had(buffers: &mut Vec<Data>, answer: Result<Data, Error>) -> Result<(), AllocError>
+fn add_had(buffers: &mut Vec<Rc<Data>>, answer: Result<Rc<Data>, Error>) -> Result<(), AllocError>
     ensures { OnOk result (bytes_of_each buffers.new.items
         ≡ bytes_of_each buffers.old.items ++ had (answer_of answer ∷ [])) }
 {

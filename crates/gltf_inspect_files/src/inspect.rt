@@ -8,17 +8,18 @@ ghost use Rattle.gltf_glb.specs.declared.error.Error.TheVariants.{Memory};
 ghost use Rattle.gltf_names.specs.Named.{File};
 ghost use Rattle.gltf_findings.specs.Reports.{count_of};
 ghost use Rattle.gltf_findings.specs.declared.code.Severity.TheVariants as grave;
-ghost use Rattle.gltf_inspect_files.specs.Reports.{document_findings, IsReportOf, IsReportOfFile};
+ghost use Rattle.gltf_inspect_files.specs.Reports.{document_findings};
+ghost use Rattle.gltf_inspect_files.specs.Unkept.{IsWholeReport, IsWholeReportOfFile};
 
 use crate::contents::inspect_contents;
 use crate::join::joined;
 use crate::laws::{what_is_refused_has_an_error, what_is_refused_is_not_accepted};
-use crate::layers::inspect_bytes;
+use crate::lent::{inspect_lent_from, inspect_lent_slice, owned};
 use gltf::buffer::Data;
-use gltf::{Document, Error, Name, NamedBytes};
-use gltf_buffers::{Ask, NoNames};
+use gltf::{Document, Error, NamedBytes};
 use gltf_findings::report::Report;
 use gltf_inspect::inspect::inspect;
+use gltf_shared::lent;
 use std::alloc::{AllocError, Global};
 
 /// A file that was looked at.
@@ -44,7 +45,8 @@ pub fn inspect_imported(
         ≡ document_findings document.now (bytes_of_each buffers.now)) }
 {
     let records = inspect(alloc, document.as_json())?;
-    let items = inspect_contents(alloc, document, buffers)?;
+    let lent = lent(alloc, buffers)?;
+    let items = inspect_contents(alloc, document, &lent)?;
     joined(alloc, &records, &items)
 }
 
@@ -55,8 +57,10 @@ pub fn inspect_imported(
 /// record; or all broken rules, and what else is found in the records; or the fault of each buffer,
 /// and what is found in the records. Files that buffers name are not looked for. Fails where there
 /// is no memory.
+///
+/// All items are looked at, however many; [`crate::lent::inspect_lent_slice`] takes a budget.
 pub fn inspect_slice(alloc: Global, bytes: &[u8]) -> Result<Inspected, AllocError>
-    ensures report { IfOk result (IsReportOf Nowhere bytes.now) }
+    ensures report { IfOk result (IsWholeReport Nowhere bytes.now) }
     ensures fine { IfOk result (λ file. count_of grave.Error file.report ≡ 0
         → IsSome file.imported) }
     ensures exact { IfOk result (λ file. IfNone file.imported (IsNotAccepted bytes.now)) }
@@ -64,12 +68,13 @@ pub fn inspect_slice(alloc: Global, bytes: &[u8]) -> Result<Inspected, AllocErro
     // Laws that the proof stands on; the calls do nothing.
     what_is_refused_has_an_error();
     what_is_refused_is_not_accepted();
-    inspect_bytes(alloc, &mut NoNames, bytes)
+    let file = inspect_lent_slice(alloc, bytes, None)?;
+    owned(alloc, file)
 }
 
 /// All that is found in the file at a path of a source, and in those that its buffers name, and
-/// what is imported where it is accepted, as [`gltf::import_from`] accepts it. The file is read
-/// once, and so is each buffer.
+/// what is imported where it is accepted, as [`gltf::import_from`] accepts it. Each buffer has bytes
+/// of its own.
 ///
 /// The error is that the file itself cannot be read, or [`Error::Memory`].
 pub fn inspect_from<S: NamedBytes>(
@@ -77,7 +82,7 @@ pub fn inspect_from<S: NamedBytes>(
     source: &mut S,
     path: &str,
 ) -> gltf::Result<Inspected>
-    ensures report { IfOk result (IsReportOfFile (names_of (S.bytes_by_name source.old))
+    ensures report { IfOk result (IsWholeReportOfFile (names_of (S.bytes_by_name source.old))
         path.now) }
     ensures fine { IfOk result (λ file. count_of grave.Error file.report ≡ 0
         → IsSome file.imported) }
@@ -87,7 +92,7 @@ pub fn inspect_from<S: NamedBytes>(
 {
     // A law that the proof stands on; the call does nothing.
     what_is_refused_has_an_error();
-    let bytes = source.ask(alloc, Name::File(path))?;
-    let file = inspect_bytes(alloc, source, &bytes)?;
-    Ok(file)
+    let file = inspect_lent_from(alloc, source, path, None)?;
+    let own = owned(alloc, file)?;
+    Ok(own)
 }

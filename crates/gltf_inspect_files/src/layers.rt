@@ -1,50 +1,56 @@
-//! The layers of a file, one after the other: container, text, records, rules, buffers, items.
+//! The layers of a file, one after the other: container, text, records, rules, buffers.
 ghost use Rattle.std.specs.Prelude.{◌≡◌, ◌≢◌, ◌++◌, [], false, IfOk, OnOk, IfSome};
 ghost use Rattle.std.specs.Prelude.{IfNone, length};
-ghost use Rattle.std.specs.Prelude.{slice_get};
 ghost use Rattle.std.specs.List.{AllByRecursion};
 ghost use Rattle.gltf_buffers.specs.Buffers.{sources_of};
 ghost use Rattle.gltf_buffers.specs.Each.{AreAnswers};
-ghost use Rattle.gltf_buffers.specs.Shown.{answer_of_each, blob_bytes, bytes_of_each};
+ghost use Rattle.gltf_buffers.specs.Names.{CanBeAsked};
+ghost use Rattle.gltf_buffers.specs.Shown.{blob_bytes};
+ghost use Rattle.gltf_shared.specs.Asked.{AsksOnce};
+ghost use Rattle.gltf_shared.specs.Shared.{AreShared};
+ghost use Rattle.gltf_shared.specs.Shown.{answer_of_each};
 ghost use Rattle.gltf_validation.specs.Documents.{Faults};
-ghost use Rattle.gltf_findings.specs.Checks.{findings_of};
 ghost use Rattle.gltf_inspect_files.specs.Buffers.{buffers_findings, is_memory, SaysSomething};
 ghost use Rattle.gltf_inspect_files.specs.Buffers.{is_nil};
-ghost use Rattle.gltf_inspect_files.specs.Layers.{IsReportOfRecords, IsReportOfBuffers};
-ghost use Rattle.gltf_inspect_files.specs.Reports.{contents_checks, error_findings};
-ghost use Rattle.gltf_inspect_files.specs.Reports.{records_findings, IsReportOf};
+ghost use Rattle.gltf_inspect_files.specs.Asking.{AsksOnceOf};
+ghost use Rattle.gltf_inspect_files.specs.Layers.{IsOfLayers, IsOfRecords, IsRead, IsShared};
+ghost use Rattle.gltf_inspect_files.specs.Layers.{IsSharedRead};
+ghost use Rattle.gltf_inspect_files.specs.Reports.{error_findings, records_findings};
 
 use crate::buffer::{had, is_memory, tell_buffers};
 use crate::container::container_code;
-use crate::contents::inspect_contents;
-use crate::inspect::Inspected;
 use crate::join::joined;
+use crate::lent::Lent;
 use crate::text::tell_text;
 use gltf::buffer::Data;
 use gltf::{Document, Error, Gltf, RawGltf};
 use gltf_buffers::laws::are_bytes_of_all;
-use gltf_buffers::{Ask, read_each_buffer};
 use gltf_findings::findings::Findings;
 use gltf_findings::report::Report;
 use gltf_inspect::inspect::inspect;
 use gltf_json::root::Root;
 use gltf_json_record::path::Path;
+use gltf_shared::{AskUpTo, read_each_shared};
 use std::alloc::{AllocError, Global};
+use std::rc::Rc;
 
-/// What is found in these bytes, where names are asked of `names`. Each name is asked for once for
-/// each buffer that leads to it. Fails where there is no memory.
-pub(crate) fn inspect_bytes<N: Ask>(
+/// What is found in the layers of these bytes, where names are asked of `names`, none of them twice,
+/// and what is imported where all hold; items are not looked at. Fails where there is no memory.
+pub(crate) fn inspect_bytes<N: AskUpTo>(
     alloc: Global,
     names: &mut N,
     bytes: &[u8],
-) -> Result<Inspected, AllocError>
-    ensures { IfOk result (IsReportOf (N.names names.old) bytes.now) }
+) -> Result<Lent, AllocError>
+    ensures layers { IfOk result (IsOfLayers (N.names names.old) bytes.now) }
+    ensures shared { IfOk result IsShared }
+    ensures asked { CanBeAsked (N.names names.old) → OnOk result
+        (AsksOnceOf N.asks bytes.now names.old names.new) }
 {
     match Gltf::from_slice_without_validation(alloc, bytes) {
         Ok(file) => inspect_records(alloc, names, file),
         Err(cause) => {
             let report = report_of_error(alloc, bytes, &cause)?;
-            Ok(Inspected {
+            Ok(Lent {
                 report,
                 cause: Some(cause),
                 imported: None,
@@ -80,21 +86,24 @@ fn tell_error(
     }
 }
 
-/// What is found in records, and where no rule is broken, in buffers and items.
-fn inspect_records<N: Ask>(
+/// What is found in records, and where no rule is broken, in buffers.
+fn inspect_records<N: AskUpTo>(
     alloc: Global,
     names: &mut N,
     file: RawGltf,
-) -> Result<Inspected, AllocError>
-    ensures { IfOk result (IsReportOfRecords (N.names names.old) file.document
+) -> Result<Lent, AllocError>
+    ensures records { IfOk result (IsOfRecords (N.names names.old) file.document
         (blob_bytes file.blob)) }
+    ensures shared { IfOk result IsShared }
+    ensures asked { CanBeAsked (N.names names.old) → OnOk result
+        (AsksOnce N.asks (sources_of file.document) names.old names.new) }
 {
     let RawGltf { document, blob } = file;
     let root = document.into_json();
     let records = inspect(alloc, &root)?;
     match document_of(alloc, root)? {
-        Some(document) => inspect_valid(alloc, names, document, blob, &records),
-        None => Ok(Inspected {
+        Some(document) => inspect_valid(alloc, names, document, blob, records),
+        None => Ok(Lent {
             report: records,
             cause: None,
             imported: None,
@@ -127,27 +136,28 @@ fn not_memory(cause: &Error) -> Result<(), AllocError>
     }
 }
 
-/// What is found in buffers, and where each has its bytes, in items.
-fn inspect_valid<N: Ask>(
+/// What is found in buffers, and the bytes of all where each has its own.
+fn inspect_valid<N: AskUpTo>(
     alloc: Global,
     names: &mut N,
     document: Document,
     blob: Option<Vec<u8>>,
-    records: &Report,
-) -> Result<Inspected, AllocError>
+    records: Report,
+) -> Result<Lent, AllocError>
     requires rules { Faults document ≡ [] }
-    requires records { records.now ≡ records_findings document }
-    ensures { IfOk result (IsReportOfRecords (N.names names.old) document (blob_bytes blob)) }
+    requires records { records ≡ records_findings document }
+    ensures records { IfOk result (IsOfRecords (N.names names.old) document (blob_bytes blob)) }
+    ensures shared { IfOk result IsShared }
+    ensures asked { CanBeAsked (N.names names.old) → OnOk result
+        (AsksOnce N.asks (sources_of document) names.old names.new) }
 {
-    let read = inspect_buffers(alloc, names, &document, blob, records)?;
-    let Read { report, buffers } = read;
-    match buffers {
-        Some(buffers) => Ok(Inspected {
-            report,
+    match inspect_buffers(alloc, names, &document, blob, &records)? {
+        Read::Had(buffers) => Ok(Lent {
+            report: records,
             cause: None,
             imported: Some((document, buffers)),
         }),
-        None => Ok(Inspected {
+        Read::Fail(report) => Ok(Lent {
             report,
             cause: None,
             imported: None,
@@ -155,22 +165,25 @@ fn inspect_valid<N: Ask>(
     }
 }
 
-/// The buffers of a document, where each has its bytes, and what is found.
+/// The bytes of all buffers of a document, or what is found where some have none.
 #[derive(Drop)]
-struct Read {
-    report: Report,
-    buffers: Option<Vec<Data>>,
+enum Read {
+    Had(Vec<Rc<Data>>),
+    Fail(Report),
 }
 
-fn inspect_buffers<N: Ask>(
+fn inspect_buffers<N: AskUpTo>(
     alloc: Global,
     names: &mut N,
     document: &Document,
     blob: Option<Vec<u8>>,
     records: &Report,
 ) -> Result<Read, AllocError>
-    ensures { IfOk result (λ read. IsReportOfBuffers (N.names names.old) document.now
-        (blob_bytes blob) records.now read.buffers read.report) }
+    ensures read { IfOk result (IsRead (N.names names.old) document.now (blob_bytes blob)
+        records.now) }
+    ensures shared { IfOk result (IsSharedRead document.now) }
+    ensures asked { CanBeAsked (N.names names.old) → OnOk result
+        (AsksOnce N.asks (sources_of document.now) names.old names.new) }
 {
     // A law that the proof stands on; the call does nothing.
     are_bytes_of_all();
@@ -178,17 +191,10 @@ fn inspect_buffers<N: Ask>(
     let faults = report_of_buffers(alloc, answers.as_slice())?;
     if is_clean(&faults) {
         let buffers = had(alloc, answers)?;
-        let report = with_items(alloc, document, &buffers, records)?;
-        return Ok(Read {
-            report,
-            buffers: Some(buffers),
-        });
+        return Ok(Read::Had(buffers));
     }
     let report = joined(alloc, &faults, records)?;
-    Ok(Read {
-        report,
-        buffers: None,
-    })
+    Ok(Read::Fail(report))
 }
 
 fn is_clean(report: &Report) -> bool
@@ -197,34 +203,27 @@ fn is_clean(report: &Report) -> bool
     report.findings().is_empty()
 }
 
-/// What is found in the records, and then in the items.
-fn with_items(
-    alloc: Global,
-    document: &Document,
-    buffers: &[Data],
-    records: &Report,
-) -> Result<Report, AllocError>
-    ensures { IfOk result (λ report. report ≡ records.now ++ findings_of []
-        (contents_checks document.now (slice_get (bytes_of_each buffers.now)))) }
-{
-    let items = inspect_contents(alloc, document, buffers)?;
-    joined(alloc, records, &items)
-}
-
 /// Each buffer's own answer.
-fn answers_of<N: Ask>(
+fn answers_of<N: AskUpTo>(
     alloc: Global,
     names: &mut N,
     document: &Document,
     blob: Option<Vec<u8>>,
-) -> Result<Vec<Result<Data, Error>>, AllocError>
-    ensures { IfOk result (λ all. AreAnswers (N.names names.old) (sources_of document.now)
+) -> Result<Vec<Result<Rc<Data>, Error>>, AllocError>
+    ensures ok { IfOk result (λ all. AreAnswers (N.names names.old) (sources_of document.now)
         (blob_bytes blob) (length (sources_of document.now)) (answer_of_each all.items)) }
+    ensures shared { IfOk result (λ all. AreShared (sources_of document.now)
+        (answer_of_each all.items)) }
+    ensures asked { CanBeAsked (N.names names.old) → OnOk result
+        (AsksOnce N.asks (sources_of document.now) names.old names.new) }
 {
-    read_each_buffer(alloc, &document.as_json().buffers, names, blob)
+    read_each_shared(alloc, &document.as_json().buffers, names, blob)
 }
 
-fn report_of_buffers(alloc: Global, answers: &[Result<Data, Error>]) -> Result<Report, AllocError>
+fn report_of_buffers(
+    alloc: Global,
+    answers: &[Result<Rc<Data>, Error>],
+) -> Result<Report, AllocError>
     ensures found { IfOk result (λ report. report
         ≡ buffers_findings 0 (answer_of_each answers.now)) }
     ensures told { OnOk result (AllByRecursion SaysSomething (answer_of_each answers.now)) }

@@ -8,4 +8,6 @@ pub mod inspect;
 mod join;
 pub mod laws;
 mod layers;
+pub mod lent;
 mod text;
+mod unkept;

@@ -1,4 +1,9 @@
 pub mod Reading
+pub mod Parts
+pub mod Members
 pub mod Attributes
 pub mod Indices
+pub mod Found
 pub mod Documents
+pub mod Plans
+pub mod AlikeLaws

@@ -22,17 +22,12 @@ abbrev pub items_or_none : {X : Type 0} → Result (List X) Unreadable → List 
 items_or_none (Ok items) = items
 items_or_none (Err reason) = []
 
--- the items of an accessor that has a view: as many as are read, so none where it cannot be read.
--- One without a view is zeros but for its sparse part, and may have any count: there is nothing to
--- check
-abbrev pub viewed_items : {X : Type 0} → Ghosts X → Root → Bytes → Accessor → Option ℕ → List X
-viewed_items t r bytes a None = []
-viewed_items t r bytes a (Some view) =
-    items_or_none (items_or_reason t r a (answers_by bytes t.size r a))
-
+-- the items of an accessor: as many as are read, so none where it cannot be read. A sparse one
+-- without a view is zeros under its values (glTF 2.0, section 3.6.2.3)
 abbrev pub accessor_items : {X : Type 0} → Ghosts X → Root → Bytes → Option Accessor → List X
 accessor_items t r bytes None = []
-accessor_items t r bytes (Some a) = viewed_items t r bytes a a.buffer_view
+accessor_items t r bytes (Some a) =
+    items_or_none (items_or_reason t r a (answers_by bytes t.size r a))
 
 -- those of the accessor at an index
 abbrev pub items_at : {X : Type 0} → Ghosts X → Root → Bytes → ℕ → List X

@@ -1,35 +1,51 @@
 //! What is found in the indices of primitives (glTF 2.0, section 3.7.2.1).
-ghost use Rattle.std.specs.Prelude.{◌≡◌, OnOk, slice_get};
-ghost use Rattle.std.specs.List.{list_any};
+ghost use Rattle.std.specs.Prelude.{◌≡◌, false, Some, OnOk, slice_get, unwrap_or};
+ghost use Rattle.gltf_shared.specs.Shown.{lent_bytes};
 ghost use Rattle.gltf_data.specs.Iter.{counted_items};
 ghost use Rattle.gltf_validation.specs.Locations.{places_of};
 ghost use Rattle.gltf_findings.specs.Checks.{told_after, list_checks};
-ghost use Rattle.gltf.specs.Shown.{bytes_of_each};
-ghost use Rattle.gltf_inspect_items.specs.Indices.{is_past, is_restart, has_equal, any_degenerate};
-ghost use Rattle.gltf_inspect_items.specs.Indices.{are_triangles, numbers_checks, typed_checks};
-ghost use Rattle.gltf_inspect_items.specs.Indices.{primitive_checks, mesh_checks};
-ghost use Rattle.gltf_inspect_items.specs.Reading.{items_at, items_left};
+ghost use Rattle.gltf_inspect_items.specs.Found.{past_by, found_checks, AreFound};
+ghost use Rattle.gltf_inspect_items.specs.Indices.{has_equal, any_degenerate, are_triangles};
+ghost use Rattle.gltf_inspect_items.specs.Indices.{typed_checks};
+ghost use Rattle.gltf_inspect_items.specs.Plans.{is_out, index_checks_but, primitive_checks_but};
+ghost use Rattle.gltf_inspect_items.specs.Plans.{mesh_checks_but};
+ghost use Rattle.gltf_inspect_items.specs.Reading.{items_left};
+ghost use Rattle.gltf_ranges.specs.Alike.{AreFirsts};
 
 use crate::attribute::vertex_count;
+use crate::found::{Found, are_indices, found_once};
 use crate::number::Number;
-use crate::read::{items_at, take};
+use crate::plan::{Plan, first_of, is_out};
+use crate::read::take;
 use gltf::Document;
 use gltf::accessor::Iter;
-use gltf::buffer::Data;
 use gltf_findings::code::Code;
 use gltf_findings::findings::Findings;
-use gltf_json_geometry::accessor::ComponentType;
+use gltf_json_geometry::accessor::Accessor;
 use gltf_json_geometry::mesh::{Mesh, Mode, Primitive};
 use gltf_json_record::validation::Checked;
 use gltf_validation::location::Location;
 use std::alloc::AllocError;
 
-fn is_past(vertices: Option<u64>, greatest: u64, index: u64) -> bool
-    ensures { result ≡ is_past vertices greatest index }
+/// Whether an index names no vertex, where this is the greatest one.
+fn past_by(vertices: Option<u64>, greatest: Option<u64>) -> bool
+    ensures { result ≡ past_by vertices greatest }
 {
     match vertices {
         None => false,
-        Some(vertices) => vertices <= index && index != greatest,
+        Some(vertices) => match greatest {
+            None => false,
+            Some(greatest) => vertices <= greatest,
+        },
+    }
+}
+
+fn or_false(found: Option<bool>) -> bool
+    ensures { result ≡ unwrap_or found false }
+{
+    match found {
+        None => false,
+        Some(found) => found,
     }
 }
 
@@ -43,32 +59,6 @@ fn are_triangles(mode: Checked<Mode>) -> bool
     ensures { result ≡ are_triangles mode }
 {
     matches!(mode, Checked::Valid(Mode::Triangles))
-}
-
-/// Whether an item that is left names no vertex, and is not the greatest number.
-fn any_past<T: Number>(items: &mut Iter<'_, T>, vertices: Option<u64>) -> bool
-    ensures { result ≡ list_any (λ x. is_past vertices T.most (T.number x))
-        (counted_items items.old).items }
-{
-    while let Some(item) = take(items) {
-        if is_past(vertices, T::most(), item.number()) {
-            return true;
-        }
-    }
-    false
-}
-
-/// Whether an item that is left is the greatest number.
-fn any_restart<T: Number>(items: &mut Iter<'_, T>) -> bool
-    ensures { result ≡ list_any (λ x. is_restart T.most (T.number x))
-        (counted_items items.old).items }
-{
-    while let Some(item) = take(items) {
-        if item.number() == T::most() {
-            return true;
-        }
-    }
-    false
 }
 
 /// Whether two of three items are the same number, three by three.
@@ -89,27 +79,10 @@ fn any_degenerate<T: Number>(items: &mut Iter<'_, T>) -> bool
     false
 }
 
-/// Whether the indices at an accessor name no vertex that is there.
-fn are_past<T: Number>(items: Option<Iter<'_, T>>, vertices: Option<u64>) -> bool
-    ensures { result ≡ list_any (λ x. is_past vertices T.most (T.number x))
-        (items_left items.entry) }
-{
-    match items {
-        Some(mut items) => any_past(&mut items, vertices),
-        None => false,
-    }
-}
-
-fn are_restarted<T: Number>(items: Option<Iter<'_, T>>) -> bool
-    ensures { result ≡ list_any (λ x. is_restart T.most (T.number x)) (items_left items.entry) }
-{
-    match items {
-        Some(mut items) => any_restart(&mut items),
-        None => false,
-    }
-}
-
-fn are_degenerate<T: Number>(items: Option<Iter<'_, T>>) -> bool
+/// Whether three of these indices, that are a triangle, name a vertex twice. Of a sparse accessor
+/// without a view it takes no more triangles than there are values, and one, since a triangle with
+/// two zeros is one.
+pub(crate) fn are_degenerate<T: Number>(items: Option<Iter<'_, T>>) -> bool
     ensures { result ≡ any_degenerate T.number (items_left items.entry) }
 {
     match items {
@@ -127,101 +100,146 @@ struct Drawn {
     triangles: bool,
 }
 
-/// Reports what is found in the indices at an accessor, read as numbers of this type.
-fn tell_numbers<T: Number>(
-    document: &Document,
-    buffers: &[Data],
-    index: usize,
+/// Reports what is found in the indices at an accessor.
+fn tell_found(
+    found: Found,
     drawn: Drawn,
     location: &Location<'_>,
     findings: &mut Findings,
 ) -> Result<(), AllocError>
     ensures { OnOk result (findings.new ≡ told_after findings.old (places_of location.now)
-        (numbers_checks T.number T.most drawn.vertices drawn.triangles
-        (items_at T.Item document.now (slice_get (bytes_of_each buffers.now)) index))) }
+        (found_checks drawn.vertices drawn.triangles found)) }
 {
-    let past = are_past::<T>(items_at(document, buffers, index), drawn.vertices);
+    let past = past_by(drawn.vertices, found.greatest);
     findings.tell(!past, Code::IndexOob, location)?;
-    let restarted = are_restarted::<T>(items_at(document, buffers, index));
-    findings.tell(!restarted, Code::IndexPrimitiveRestart, location)?;
-    let degenerate = drawn.triangles && are_degenerate::<T>(items_at(document, buffers, index));
+    findings.tell(!found.restarts, Code::IndexPrimitiveRestart, location)?;
+    let degenerate = drawn.triangles && or_false(found.degenerate);
     findings.tell(!degenerate, Code::IndexTriangleDegenerate, location)
 }
 
-/// The same, by the type of components.
-fn tell_typed(
+/// The same, where the accessor is one of indices. They are gone over once, however many primitives
+/// name the accessor.
+fn tell_indices(
     document: &Document,
-    buffers: &[Data],
+    buffers: &[&[u8]],
     index: usize,
-    component: Checked<ComponentType>,
+    accessor: &Accessor,
     drawn: Drawn,
+    table: &mut [Option<Found>],
     location: &Location<'_>,
     findings: &mut Findings,
 ) -> Result<(), AllocError>
-    ensures { OnOk result (findings.new ≡ told_after findings.old (places_of location.now)
-        (typed_checks document.now (slice_get (bytes_of_each buffers.now)) drawn.vertices
-        drawn.triangles index component)) }
+    requires here { slice_get document.now.accessors.items index ≡ Some accessor.now }
+    requires kept { AreFound document.now (slice_get (lent_bytes buffers.now)) table.old }
+    ensures told { OnOk result (findings.new ≡ told_after findings.old (places_of location.now)
+        (typed_checks document.now (slice_get (lent_bytes buffers.now)) drawn.vertices
+        drawn.triangles index accessor.now.component_type)) }
+    ensures kept { AreFound document.now (slice_get (lent_bytes buffers.now)) table.new }
 {
-    match component {
-        Checked::Valid(ComponentType::U8) => {
-            tell_numbers::<u8>(document, buffers, index, drawn, location, findings)
-        }
-        Checked::Valid(ComponentType::U16) => {
-            tell_numbers::<u16>(document, buffers, index, drawn, location, findings)
-        }
-        Checked::Valid(ComponentType::U32) => {
-            tell_numbers::<u32>(document, buffers, index, drawn, location, findings)
-        }
-        _ => Ok(()),
+    if !are_indices(accessor.component_type) {
+        return Ok(());
     }
+    let found = found_once(document, buffers, index, accessor, drawn.triangles, table);
+    tell_found(found, drawn, location, findings)
+}
+
+/// Reports what is found in the indices at an accessor, where it is not left out. Those of the
+/// first accessor that reads the same are gone over for both.
+fn tell_index(
+    document: &Document,
+    buffers: &[&[u8]],
+    plan: Plan<'_>,
+    index: usize,
+    drawn: Drawn,
+    table: &mut [Option<Found>],
+    location: &Location<'_>,
+    findings: &mut Findings,
+) -> Result<(), AllocError>
+    requires firsts { AreFirsts document.now.accessors.items plan.firsts.now }
+    requires kept { AreFound document.now (slice_get (lent_bytes buffers.now)) table.old }
+    ensures told { OnOk result (findings.new ≡ told_after findings.old (places_of location.now)
+        (index_checks_but (is_out plan.entry.left_out.now) document.now
+        (slice_get (lent_bytes buffers.now)) drawn.vertices drawn.triangles index)) }
+    ensures kept { AreFound document.now (slice_get (lent_bytes buffers.now)) table.new }
+{
+    if is_out(plan.left_out, index) {
+        return Ok(());
+    }
+    let first = first_of(plan.firsts, index);
+    let Some(accessor) = document.as_json().accessors.as_slice().get(first) else {
+        return Ok(());
+    };
+    tell_indices(
+        document, buffers, first, accessor, drawn, table, location, findings,
+    )
 }
 
 fn tell_primitive(
     document: &Document,
-    buffers: &[Data],
+    buffers: &[&[u8]],
+    plan: Plan<'_>,
     primitive: &Primitive,
+    table: &mut [Option<Found>],
     location: &Location<'_>,
     findings: &mut Findings,
 ) -> Result<(), AllocError>
-    ensures { OnOk result (findings.new ≡ told_after findings.old (places_of location.now)
-        (primitive_checks document.now (slice_get (bytes_of_each buffers.now)) primitive.now)) }
+    requires firsts { AreFirsts document.now.accessors.items plan.firsts.now }
+    requires kept { AreFound document.now (slice_get (lent_bytes buffers.now)) table.old }
+    ensures told { OnOk result (findings.new ≡ told_after findings.old (places_of location.now)
+        (primitive_checks_but (is_out plan.entry.left_out.now) document.now
+        (slice_get (lent_bytes buffers.now)) primitive.now)) }
+    ensures kept { AreFound document.now (slice_get (lent_bytes buffers.now)) table.new }
 {
-    let accessors = document.as_json().accessors.as_slice();
     let Some(index) = primitive.indices else {
         return Ok(());
     };
-    let Some(accessor) = accessors.get(index.value()) else {
-        return Ok(());
-    };
     let drawn = Drawn {
-        vertices: vertex_count(accessors, &primitive.attributes),
+        vertices: vertex_count(
+            document.as_json().accessors.as_slice(),
+            &primitive.attributes,
+        ),
         triangles: are_triangles(primitive.mode),
     };
-    tell_typed(
+    let at = Location::Member(location, "indices");
+    tell_index(
         document,
         buffers,
+        plan,
         index.value(),
-        accessor.component_type,
         drawn,
-        &Location::Member(location, "indices"),
+        table,
+        &at,
         findings,
     )
 }
 
 fn tell_primitives(
     document: &Document,
-    buffers: &[Data],
+    buffers: &[&[u8]],
+    plan: Plan<'_>,
     primitives: &[Primitive],
+    table: &mut [Option<Found>],
     location: &Location<'_>,
     findings: &mut Findings,
 ) -> Result<(), AllocError>
-    ensures { OnOk result (findings.new ≡ told_after findings.old (places_of location.now)
-        (list_checks (primitive_checks document.now (slice_get (bytes_of_each buffers.now)))
-        primitives.now)) }
+    requires firsts { AreFirsts document.now.accessors.items plan.firsts.now }
+    requires kept { AreFound document.now (slice_get (lent_bytes buffers.now)) table.old }
+    ensures told { OnOk result (findings.new ≡ told_after findings.old (places_of location.now)
+        (list_checks (primitive_checks_but (is_out plan.entry.left_out.now) document.now
+        (slice_get (lent_bytes buffers.now))) primitives.now)) }
+    ensures kept { AreFound document.now (slice_get (lent_bytes buffers.now)) table.new }
 {
     for (i, primitive) in primitives.iter().enumerate() {
         let at = Location::Item(&*location, i);
-        tell_primitive(document, buffers, primitive, &at, findings)?;
+        tell_primitive(
+            document,
+            buffers,
+            plan,
+            primitive,
+            &mut *table,
+            &at,
+            findings,
+        )?;
     }
     Ok(())
 }
@@ -229,14 +247,19 @@ fn tell_primitives(
 /// Reports what is found in the indices of each mesh.
 pub(crate) fn tell_meshes(
     document: &Document,
-    buffers: &[Data],
+    buffers: &[&[u8]],
+    plan: Plan<'_>,
     meshes: &[Mesh],
+    table: &mut [Option<Found>],
     location: &Location<'_>,
     findings: &mut Findings,
 ) -> Result<(), AllocError>
-    ensures { OnOk result (findings.new ≡ told_after findings.old (places_of location.now)
-        (list_checks (mesh_checks document.now (slice_get (bytes_of_each buffers.now)))
-        meshes.now)) }
+    requires firsts { AreFirsts document.now.accessors.items plan.firsts.now }
+    requires kept { AreFound document.now (slice_get (lent_bytes buffers.now)) table.old }
+    ensures told { OnOk result (findings.new ≡ told_after findings.old (places_of location.now)
+        (list_checks (mesh_checks_but (is_out plan.entry.left_out.now) document.now
+        (slice_get (lent_bytes buffers.now))) meshes.now)) }
+    ensures kept { AreFound document.now (slice_get (lent_bytes buffers.now)) table.new }
 {
     for (i, mesh) in meshes.iter().enumerate() {
         let at = Location::Item(&*location, i);
@@ -244,7 +267,9 @@ pub(crate) fn tell_meshes(
         tell_primitives(
             document,
             buffers,
+            plan,
             mesh.primitives.as_slice(),
+            &mut *table,
             &primitives,
             findings,
         )?;

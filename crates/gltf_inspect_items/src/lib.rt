@@ -3,8 +3,13 @@
 #![tactic(auto)]
 
 mod attribute;
+mod found;
 mod indices;
 pub mod inspect;
+pub mod kept;
 pub mod laws;
+pub mod members;
 pub mod number;
+pub mod part;
+pub mod plan;
 pub mod read;

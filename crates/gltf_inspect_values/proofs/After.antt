@@ -1,5 +1,5 @@
 -- What a walk has found after a list of further items.
-use Rattle.std.proofs.Common.{◌≡◌, ℕ, ◌+◌, Bool, true, false, ◌||◌, List, [], ◌∷◌, Option, refl, ap}
+use Rattle.std.proofs.Common.{◌≡◌, ℕ, ◌+◌, Bool, true, false, ◌||◌, List, [], ◌∷◌, ◌++◌, Option, refl, ap}
 use Rattle.std.proofs.Common.{◌∙◌}
 use Rattle.std.specs.List.{list_any}
 use Rattle.std.specs.Float.{Float}
@@ -7,7 +7,8 @@ use Rattle.gltf_inspect_values.specs.declared.extent.Four.{Four}
 use Rattle.gltf_inspect_values.specs.declared.extent.Columns.{Columns}
 use Rattle.gltf_inspect_values.specs.declared.summary.Summary.{Summary}
 use Rattle.gltf_inspect_values.specs.Extents.{widened_over}
-use Rattle.gltf_inspect_values.specs.Summaries.{summary, no_items}
+use Rattle.gltf_inspect_values.specs.Summaries.{summary, no_items, first, with_item}
+use Rattle.gltf_inspect_items.specs.Members.{one}
 
 or_more : (a b c : Bool) → ((a || b) || c) ≡ (a || (b || c))
 or_more true b c = refl
@@ -74,3 +75,21 @@ after_all number is_infinite items =
       infinite = b;
       columns = columns_over number no_items.columns items;
     }) (any_over_is is_infinite false items)
+
+-- after an item in front, where there is one, and all items behind it
+pub started : (number : ℕ → List ℕ → Option Float) (is_infinite : List ℕ → Bool) (item : List ℕ)
+    (some : Bool) (items : List (List ℕ))
+    → after number is_infinite (first number is_infinite item some) items
+    ≡ summary number is_infinite (one item some ++ items)
+started number is_infinite item true items = after_all number is_infinite (item ∷ items)
+started number is_infinite item false items = after_all number is_infinite items
+
+-- such an item in front, or none
+pub first_some : (number : ℕ → List ℕ → Option Float) (is_infinite : List ℕ → Bool)
+    (item : List ℕ) (some : Bool) → some ≡ true
+    → first number is_infinite item some ≡ with_item number is_infinite no_items item
+first_some number is_infinite item some is = ap (first number is_infinite item) is
+
+pub first_none : (number : ℕ → List ℕ → Option Float) (is_infinite : List ℕ → Bool)
+    (item : List ℕ) (some : Bool) → some ≡ false → first number is_infinite item some ≡ no_items
+first_none number is_infinite item some is = ap (first number is_infinite item) is

@@ -7,4 +7,7 @@ pub mod Within
 pub mod Floats
 pub mod Extremes
 pub mod Columns
+pub mod Same
 pub mod Asked
+pub mod Once
+pub mod Keeping

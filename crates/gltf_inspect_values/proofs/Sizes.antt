@@ -1,10 +1,15 @@
 -- The bytes of an item, by the codes of its components and its shape.
-use Rattle.std.proofs.Common.{◌≡◌, ℕ, ◌*◌, ap, sym, ◌∙◌, arith}
+use Rattle.std.proofs.Common.{◌≡◌, ◌≤◌, ℕ, zero, suc, ◌*◌, ap, sym, ◌∙◌, arith}
 use Rattle.gltf_json_record.specs.declared.validation.Checked.{Checked}
 use Rattle.gltf_json_record.specs.declared.validation.Checked.TheVariants.{Invalid, Valid}
 use Rattle.gltf_json_geometry.specs.declared.accessor.ComponentType.{ComponentType}
 use Rattle.gltf_json_geometry.specs.declared.accessor.«Type» as shape
 use Rattle.gltf_handles.specs.Sizes.{code_of, component_size, data_type, dimensions, multiplicity}
+use Rattle.gltf_inspect_values.specs.Items.{front}
+
+pub front_few : (n : ℕ) → n ≤ 64 → front n ≤ 64
+front_few zero h = omega arith
+front_few (suc n) h = h
 
 -- components of n bytes in a shape
 pub in_shape : (n : ℕ) (s : Checked shape.«Type») (kind t : shape.«Type») → s ≡ Valid kind

@@ -27,6 +27,6 @@ abbrev pub as_bytes : (n : ℕ) → Ghosts (List ℕ)
 as_bytes n = record { size = front n; value = take n; zero_item = replicate n 0 }
 
 -- the bytes of each item of accessor i, which is a: those that readers read, with the sparse values
--- in their places; none where it has no view or cannot be read
+-- in their places; none where it cannot be read
 abbrev pub item_bytes : Root → Bytes → ℕ → Accessor → List (List ℕ)
 item_bytes r bytes i a = items_at (as_bytes (item_size a)) r bytes i

@@ -8,3 +8,4 @@ pub mod Stored
 pub mod Times
 pub mod Accessors
 pub mod Documents
+pub mod Plans

@@ -1,7 +1,7 @@
 -- The indices that a sparse accessor stores (glTF 2.0, sections 3.6.2.3, "Sparse Accessors", 5.2
 -- and 5.3).
-use Rattle.std.specs.Prelude.{ℕ, ◌+◌, ◌&&◌, not, nat_lt, nat_le, if◌then◌else◌, Bool, List, []}
-use Rattle.std.specs.Prelude.{length, map, codes, Option, Some, None, option_map}
+use Rattle.std.specs.Prelude.{ℕ, not, nat_le, Bool, List, [], map, codes, Option, Some, None}
+use Rattle.std.specs.Prelude.{unwrap_or}
 use Rattle.std.specs.List.{list_any}
 use Rattle.byteorder.specs.Endian.{little_number}
 use Rattle.gltf_json.specs.declared.root.Root.{Root}
@@ -11,51 +11,22 @@ use Rattle.gltf_json_geometry.specs.declared.accessor.Accessor.{Accessor}
 use Rattle.gltf_json_geometry.specs.declared.accessor.ComponentType.{ComponentType}
 use Rattle.gltf_json_geometry.specs.declared.accessor.ComponentType.TheVariants.{U8, U16, U32}
 use Rattle.gltf_json_geometry.specs.declared.accessor.sparse.Sparse.{Sparse}
-use Rattle.gltf_items.specs.Plain.{plain}
 use Rattle.gltf_items.specs.ItemIter.{items_left}
 use Rattle.gltf_items.specs.declared.item.Item.{Ghosts}
 use Rattle.gltf_items.specs.declared.item_iter.ItemIter.{ItemIter}
-use Rattle.gltf_data.specs.Parts.{Part, part_of, stride, view_at, view_offset}
-use Rattle.gltf_data.specs.Unreadable.{bytes_in, items_end}
 use Rattle.gltf_findings.specs.declared.code.Code.TheVariants.{SparseIndicesNonIncreasing}
 use Rattle.gltf_findings.specs.declared.code.Code.TheVariants.{SparseIndexOob}
 use Rattle.gltf_findings.specs.Checks.{Checks, Nothing, Condition, ◌&◌, member, optional_checks}
+use Rattle.gltf_inspect_items.specs.Parts.{part_in, part_given}
 use Rattle.gltf_inspect_items.specs.Reading.{Bytes}
 use Rattle.gltf_inspect_values.specs.Falls.{falls}
 
--- there are some items, they do not overlap, the view is within as many bytes, and the last item
--- ends within the view: the conditions under which a part of an accessor can be read
-abbrev pub fits : Part → ℕ → Bool
-fits p len =
-    nat_lt 0 p.count && nat_le p.size (stride p.view p.size)
-    && nat_le (view_offset p.view + p.view.byte_length) len
-    && nat_le (items_end p) p.view.byte_length
-
--- the bytes from the first item to the end of the last one
-abbrev pub cut : Part → List ℕ → Option (List ℕ)
-cut p bytes = if fits p (length bytes) then Some (bytes_in p (Some bytes)) else None
-
-abbrev pub cut_in : Part → Option (List ℕ) → Option (List ℕ)
-cut_in p None = None
-cut_in p (Some bytes) = cut p bytes
-
--- what these spell at each multiple of the stride
-abbrev pub spelled : {X : Type 0} → (List ℕ → X) → Part → Option (List ℕ) → List X
-spelled value p None = []
-spelled value p (Some bytes) = plain p.size value bytes (stride p.view p.size)
-
-abbrev pub spelled_in : {X : Type 0} → (List ℕ → X) → Option Part → Bytes → List X
-spelled_in value None bytes = []
-spelled_in value (Some p) bytes = spelled value p (cut_in p (bytes p.view.buffer))
-
--- where the indices of a sparse accessor stand, each of n bytes
-abbrev pub indices_part : ℕ → Root → Sparse → Option Part
-indices_part n r s =
-    option_map (λ v. part_of v s.indices.byte_offset s.count n) (view_at r s.indices.buffer_view)
-
--- these indices, none where they cannot be read
+-- the indices of a sparse accessor, each of n bytes, at their addresses; none where they cannot be
+-- read
 abbrev pub stored : {X : Type 0} → ℕ → (List ℕ → X) → Root → Bytes → Sparse → List X
-stored n value r bytes s = spelled_in value (indices_part n r s) bytes
+stored n value r bytes s =
+    unwrap_or (part_given value
+    (part_in n r s.indices.buffer_view s.indices.byte_offset s.count) bytes) []
 
 -- the items that are left, where some were read
 abbrev pub left : {X : Type 0} → {t : Ghosts X} → Option (ItemIter X t) → List X

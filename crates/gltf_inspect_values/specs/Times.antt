@@ -1,5 +1,5 @@
 -- The times of animations (glTF 2.0, section 3.11, "Animations").
-use Rattle.std.specs.Prelude.{ℕ, not, if◌then◌else◌, Bool, true, false, List, [], map, codes}
+use Rattle.std.specs.Prelude.{◌≡◌, ℕ, not, if◌then◌else◌, Bool, true, false, List, [], map, codes}
 use Rattle.std.specs.Prelude.{Option, Some, None, slice_get}
 use Rattle.std.specs.List.{list_any}
 use Rattle.std.specs.Float.{Float, float_zero}
@@ -20,6 +20,7 @@ use Rattle.gltf_findings.specs.declared.code.Code.TheVariants.{AnimationInputNon
 use Rattle.gltf_findings.specs.Checks.{Checks, Condition, ◌&◌, member, list_checks}
 use Rattle.gltf_inspect_items.specs.Reading.{Bytes, items_at}
 use Rattle.gltf_inspect_values.specs.Falls.{falls}
+use Rattle.gltf_inspect_values.specs.declared.times.Found.{Found}
 
 -- times are single floats, one an item
 abbrev pub are_times : Checked ComponentType → Checked shape.«Type» → Bool
@@ -32,7 +33,7 @@ times_of r bytes i (Some a) =
     if are_times a.component_type a.type_ then map float_of (items_at (as_bytes 4) r bytes i)
     else []
 
--- those of the accessor at an index, where it is one of times, has a view and can be read
+-- those of the accessor at an index, where it is one of times and can be read
 abbrev pub times : Root → Bytes → ℕ → List Float
 times r bytes i = times_of r bytes i (slice_get r.accessors.items i)
 
@@ -48,6 +49,22 @@ abbrev pub times_checks : List Float → Checks
 times_checks times =
     Condition (not (list_any is_negative times)) AnimationInputNegative
     & Condition (not (falls is_not_later None times)) AnimationInputNonIncreasing
+
+-- both
+abbrev pub found_in_times : List Float → Found
+found_in_times times =
+    record { negative = list_any is_negative times; not_later = falls is_not_later None times }
+
+-- the checks of times in which that was found
+abbrev pub found_checks : Found → Checks
+found_checks found =
+    Condition (not found.negative) AnimationInputNegative
+    & Condition (not found.not_later) AnimationInputNonIncreasing
+
+-- what was found so far, at the index of each accessor
+abbrev pub AreFound : Root → Bytes → List (Option Found) → Type 0
+AreFound r bytes table = (i : ℕ) (found : Found) → slice_get table i ≡ Some (Some found)
+    → found ≡ found_in_times (times r bytes i)
 
 abbrev pub sampler_checks : Root → Bytes → Sampler → Checks
 sampler_checks r bytes s = member (codes "input") (times_checks (times r bytes s.input))

@@ -8,6 +8,7 @@ mod component;
 mod extent;
 pub mod inspect;
 mod item;
+mod kept;
 pub mod laws;
 mod stored;
 mod summary;

@@ -9,6 +9,7 @@ use gltf_findings::report::Report;
 use gltf_html::escape::{add_data, add_text};
 use gltf_json::root::Root;
 use gltf_messages::told::Told;
+use gltf_shared::lent;
 use serde_json::Value;
 use std::alloc::{AllocError, Global};
 
@@ -25,6 +26,25 @@ pub fn page(
     imported: Option<(&Document, &[Data])>,
     value: Option<&Value>,
 ) -> Result<Vec<u8>, AllocError> {
+    match imported {
+        Some((document, buffers)) => {
+            let lent = lent(alloc, buffers)?;
+            let imported = Some((document, lent.as_slice()));
+            lent_page(alloc, name, report, cause, imported, value)
+        }
+        None => lent_page(alloc, name, report, cause, None, value),
+    }
+}
+
+/// The same page, over bytes of buffers that are lent.
+pub fn lent_page(
+    alloc: Global,
+    name: &str,
+    report: &Report,
+    cause: Option<&Error>,
+    imported: Option<(&Document, &[&[u8]])>,
+    value: Option<&Value>,
+) -> Result<Vec<u8>, AllocError> {
     let mut html = Vec::new(alloc);
     add_page(alloc, name, report, cause, imported, value, &mut html)?;
     Ok(html)
@@ -35,7 +55,7 @@ fn add_page(
     name: &str,
     report: &Report,
     cause: Option<&Error>,
-    imported: Option<(&Document, &[Data])>,
+    imported: Option<(&Document, &[&[u8]])>,
     value: Option<&Value>,
     html: &mut Vec<u8>,
 ) -> Result<(), AllocError> {

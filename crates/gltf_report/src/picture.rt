@@ -1,6 +1,7 @@
 //! The data of the picture of a page: what the script draws, as JSON.
-use gltf::buffer::Data;
-use gltf::{Document, imported_indices, imported_positions};
+use gltf::mesh::util::{ReadIndices, ReadPositions};
+use gltf::mesh::{Primitive, Reader};
+use gltf::{Buffer, Document};
 use gltf_items::F32;
 use gltf_json::root::Root;
 use gltf_json_record::validation::Checked;
@@ -18,7 +19,7 @@ const MOST: usize = 400_000;
 pub(crate) fn picture(
     alloc: Global,
     document: &Document,
-    buffers: &[Data],
+    buffers: &[&[u8]],
 ) -> Result<Vec<u8>, AllocError> {
     let mut data = Vec::new(alloc);
     add_picture(alloc, document, buffers, &mut data)?;
@@ -28,7 +29,7 @@ pub(crate) fn picture(
 fn add_picture(
     alloc: Global,
     document: &Document,
-    buffers: &[Data],
+    buffers: &[&[u8]],
     data: &mut Vec<u8>,
 ) -> Result<(), AllocError> {
     let root = document.as_json();
@@ -160,7 +161,7 @@ fn add_value(
 
 fn add_mesh(
     document: &Document,
-    buffers: &[Data],
+    buffers: &[&[u8]],
     mesh: usize,
     room: &mut Room,
     data: &mut Vec<u8>,
@@ -187,13 +188,13 @@ fn add_mesh(
 
 fn add_positions(
     document: &Document,
-    buffers: &[Data],
+    buffers: &[&[u8]],
     mesh: usize,
     primitive: usize,
     room: &mut Room,
     data: &mut Vec<u8>,
 ) -> Result<(), AllocError> {
-    let Some(mut positions) = imported_positions(document, buffers, mesh, primitive) else {
+    let Some(mut positions) = positions_of(document, buffers, mesh, primitive) else {
         return Ok(());
     };
     let count = positions.len();
@@ -204,6 +205,40 @@ fn add_positions(
         add_position(i, positions.next(), data)?;
     }
     Ok(())
+}
+
+fn primitive_of(document: &Document, mesh: usize, primitive: usize) -> Option<Primitive<'_>> {
+    document.meshes().nth(mesh)?.primitives().nth(primitive)
+}
+
+/// The bytes of a buffer, among those of all.
+fn bytes_of<'s>(buffers: &[&'s [u8]], buffer: Buffer) -> Option<&'s [u8]> {
+    let bytes = buffers.get(buffer.index())?;
+    Some(*bytes)
+}
+
+/// The positions of the vertices of a primitive; None where it has none that can be read.
+fn positions_of<'s>(
+    document: &Document,
+    buffers: &[&'s [u8]],
+    mesh: usize,
+    primitive: usize,
+) -> Option<ReadPositions<'s>> {
+    let bytes = |buffer: Buffer| bytes_of(buffers, buffer);
+    let primitive = primitive_of(document, mesh, primitive)?;
+    Reader::new(&primitive, &bytes).read_positions()
+}
+
+/// The indices of the vertices of a primitive, as [`positions_of`].
+fn indices_of<'s>(
+    document: &Document,
+    buffers: &[&'s [u8]],
+    mesh: usize,
+    primitive: usize,
+) -> Option<ReadIndices<'s>> {
+    let bytes = |buffer: Buffer| bytes_of(buffers, buffer);
+    let primitive = primitive_of(document, mesh, primitive)?;
+    Reader::new(&primitive, &bytes).read_indices()
 }
 
 fn add_position(
@@ -228,13 +263,13 @@ fn add_bits(number: F32, data: &mut Vec<u8>) -> Result<(), AllocError> {
 
 fn add_indices(
     document: &Document,
-    buffers: &[Data],
+    buffers: &[&[u8]],
     mesh: usize,
     primitive: usize,
     room: &mut Room,
     data: &mut Vec<u8>,
 ) -> Result<(), AllocError> {
-    let Some(indices) = imported_indices(document, buffers, mesh, primitive) else {
+    let Some(indices) = indices_of(document, buffers, mesh, primitive) else {
         return Ok(());
     };
     let mut indices = indices.into_u32();

@@ -1,11 +1,12 @@
 //! What is found in files.
 use crate::looked::{Looked, look_at, look_at_alone};
-use gltf::{Error, Folder};
+use gltf::Error;
 use gltf_findings::report::Report;
 use gltf_json::root::Root;
 use gltf_report::json::json_text;
-use gltf_report::page::page;
+use gltf_report::page::lent_page;
 use gltf_report::text::write_text;
+use gltf_shared::{RegularFolder, slices};
 use serde_json::Value;
 use std::alloc::{AllocError, Global};
 use std::io::Write;
@@ -142,7 +143,7 @@ fn inspect_file<O: Write, E: Write>(
 
 /// Files that buffers name are looked for in the folder of the file.
 fn file_at(rt: &HostRuntime, alloc: Global, path: &str, asked: Asked) -> Result<Looked, Error> {
-    let mut folder = Folder::new(rt, gltf::base_of(path));
+    let mut folder = RegularFolder::new(rt, alloc, gltf::base_of(path));
     if asked.no_files {
         look_at_alone(alloc, &mut folder, path)
     } else {
@@ -184,11 +185,14 @@ fn report_text(
     let cause = file.cause.as_ref();
     let value = value.as_ref();
     if asked.html {
-        let imported = match &file.imported {
-            Some((document, buffers)) => Some((document, buffers.as_slice())),
-            None => None,
+        return match &file.imported {
+            Some((document, buffers)) => {
+                let lent = slices(alloc, buffers)?;
+                let imported = Some((document, lent.as_slice()));
+                lent_page(alloc, path, report, cause, imported, value)
+            }
+            None => lent_page(alloc, path, report, cause, None, value),
         };
-        return page(alloc, path, report, cause, imported, value);
     }
     let root = match &file.imported {
         Some((document, _buffers)) => Some(document.as_json()),

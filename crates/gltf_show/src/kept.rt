@@ -1,6 +1,7 @@
 //! What is kept of the first file that is read, so that no file is opened twice.
 use crate::old::says_first_version;
-use gltf::{Name, NamedBytes, NamedFault, text_and_blob};
+use gltf::{Name, Result, text_and_blob};
+use gltf_shared::AskUpTo;
 use std::alloc::{AllocError, Global};
 use std::borrow::CowSlice;
 
@@ -25,7 +26,7 @@ pub(crate) struct Kept<S: Drop> {
     copy: Result<Option<Vec<u8>>, AllocError>,
 }
 
-impl<S: NamedBytes + Drop> Kept<S> {
+impl<S: AskUpTo + Drop> Kept<S> {
     /// The source, of which nothing is read yet.
     pub(crate) fn new(source: S, part: Part) -> Kept<S> {
         Kept {
@@ -55,11 +56,15 @@ impl<S: NamedBytes + Drop> Kept<S> {
     }
 }
 
-impl<S: NamedBytes + Drop> NamedBytes for Kept<S> {
+impl<S: AskUpTo + Drop> AskUpTo for Kept<S> {
+    ghost names = { λ kept. S.names kept.source };
+
     ghost failures = { λ kept. S.failures kept.source };
 
-    fn read(&mut self, alloc: Global, name: Name<'_>) -> Result<Vec<u8>, NamedFault> {
-        let bytes = self.source.read(alloc, name)?;
+    ghost asks = { λ before name after. S.asks before.source name after.source };
+
+    fn ask_up_to(&mut self, alloc: Global, name: Name<'_>, most: Option<u64>) -> Result<Vec<u8>> {
+        let bytes = self.source.ask_up_to(alloc, name, most)?;
         if !self.is_read {
             self.is_read = true;
             self.copy = copy_of(alloc, &bytes, self.part);

@@ -1,45 +1,46 @@
 //! Files that are looked at, and what the messages about them need.
 use crate::kept::{Kept, Part, text_of};
-use gltf::{Error, Name, NamedBytes, NamedFault};
+use gltf::{Error, Name};
 use gltf_findings::code::Code;
 use gltf_findings::report::Report;
-use gltf_inspect_files::inspect::{Inspected, inspect_from, inspect_slice};
+use gltf_inspect_files::lent::{Lent, inspect_lent_from, inspect_lent_slice};
+use gltf_shared::AskUpTo;
 use serde_json::Value;
 use std::alloc::{AllocError, Global};
+
+/// How many bytes of items are looked at for each byte of a file and of its buffers, so that the time
+/// is in proportion to these: the accessors of a file seldom have the same bytes twice.
+const SHARE: u32 = 8;
 
 /// A file that was looked at.
 #[derive(Drop)]
 pub(crate) struct Looked {
     /// What is found in it.
-    pub(crate) file: Inspected,
+    pub(crate) file: Lent,
     /// Its JSON value, where a part of that is of the wrong kind and the text is not too long.
     pub(crate) value: Option<Value>,
 }
 
 /// Looks at a file, and at those that its buffers name.
-pub(crate) fn look_at<S: NamedBytes + Drop>(
+pub(crate) fn look_at<S: AskUpTo + Drop>(
     alloc: Global,
     source: S,
     path: &str,
 ) -> Result<Looked, Error> {
     let mut source = Kept::new(source, Part::Text);
-    let file = inspect_from(alloc, &mut source, path)?;
+    let file = inspect_lent_from(alloc, &mut source, path, Some(SHARE))?;
     let value = value_for(alloc, &file.report, source.part())?;
     Ok(Looked { file, value })
 }
 
 /// Looks at a file alone.
-pub(crate) fn look_at_alone<S: NamedBytes>(
+pub(crate) fn look_at_alone<S: AskUpTo>(
     alloc: Global,
     source: &mut S,
     path: &str,
 ) -> Result<Looked, Error> {
-    let bytes = match source.read(alloc, Name::File(path)) {
-        Ok(bytes) => bytes,
-        Err(NamedFault::Io(cause)) => return Err(Error::Io(cause)),
-        Err(NamedFault::Memory) => return Err(Error::Memory),
-    };
-    let file = inspect_slice(alloc, &bytes)?;
+    let bytes = source.ask_up_to(alloc, Name::File(path), None)?;
+    let file = inspect_lent_slice(alloc, &bytes, Some(SHARE))?;
     let value = value_for(alloc, &file.report, Ok(text_of(&bytes)))?;
     Ok(Looked { file, value })
 }

@@ -13,7 +13,7 @@ mod run;
 mod summary;
 
 use findings::inspect_files;
-use gltf::Folder;
+use gltf_shared::RegularFolder;
 pub use run::run;
 use std::env;
 use std::io::{ErrorKind, Write};
@@ -41,7 +41,7 @@ fn main(rt: HostRuntime) -> std::io::Result<ExitCode> {
     if let [_, "--", ..] = words.as_slice() {
         let _dashes = words.remove(1);
     }
-    let folder = Folder::new(&rt, base_of(words.as_slice()));
+    let folder = RegularFolder::new(&rt, alloc, base_of(words.as_slice()));
     let status = run(
         alloc,
         folder,

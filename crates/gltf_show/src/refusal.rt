@@ -1,5 +1,5 @@
 //! Why a call is not answered.
-use gltf::{Error, NamedFault};
+use gltf::Error;
 use std::alloc::AllocError;
 use std::{fmt, io};
 
@@ -44,15 +44,6 @@ impl Refusal {
     /// Whether a file could not be read.
     pub(crate) fn is_failed_read(&self) -> bool {
         matches!(self, Refusal::File(Error::Io(_)))
-    }
-}
-
-impl From<NamedFault> for Refusal {
-    fn from(fault: NamedFault) -> Refusal {
-        Refusal::File(match fault {
-            NamedFault::Io(cause) => Error::Io(cause),
-            NamedFault::Memory => Error::Memory,
-        })
     }
 }
 

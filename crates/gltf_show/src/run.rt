@@ -5,7 +5,9 @@ use crate::indices::write_indices;
 use crate::kept::{Kept, Part};
 use crate::refusal::Refusal;
 use crate::summary::Summary;
-use gltf::{Glb, Name, NamedBytes, import_from};
+use gltf::{Glb, Name};
+use gltf_shared::AskUpTo;
+use gltf_shared_files::import_shared;
 use std::alloc::Global;
 use std::io::{self, Write};
 
@@ -16,7 +18,7 @@ use std::io::{self, Write};
 /// - 1: the file is refused, or has not what is asked for, or a read or a write failed; the reason
 ///   stands on `err`, with the name of the file that could not be read.
 /// - 2: the words make no call; the usage stands on `err`.
-pub fn run<S: NamedBytes + Drop, O: Write, E: Write>(
+pub fn run<S: AskUpTo + Drop, O: Write, E: Write>(
     alloc: Global,
     source: S,
     words: &[&str],
@@ -46,7 +48,7 @@ fn tell<E: Write>(refusal: &Refusal, failed: Option<&str>, err: &mut E) -> io::R
     }
 }
 
-fn answer<S: NamedBytes, O: Write>(
+fn answer<S: AskUpTo, O: Write>(
     alloc: Global,
     source: &mut S,
     words: &[&str],
@@ -54,16 +56,16 @@ fn answer<S: NamedBytes, O: Write>(
 ) -> Result<(), Refusal> {
     match Call::of(words) {
         Some(Call::Chunks(path)) => {
-            let bytes = source.read(alloc, Name::File(path))?;
+            let bytes = source.ask_up_to(alloc, Name::File(path), None)?;
             let glb = Glb::from_slice(&bytes)?;
             write!(out, "{}", Chunks(&glb)).map_err(Refusal::Write)
         }
         Some(Call::Check(path)) => {
-            let (document, _buffers) = import_from(alloc, source, path)?;
+            let (document, _buffers) = import_shared(alloc, source, path)?;
             write!(out, "{}", Summary(&document)).map_err(Refusal::Write)
         }
         Some(Call::Indices(path, place)) => {
-            let (document, buffers) = import_from(alloc, source, path)?;
+            let (document, buffers) = import_shared(alloc, source, path)?;
             write_indices(&document, &buffers, place, out)
         }
         None => Err(Refusal::Usage),

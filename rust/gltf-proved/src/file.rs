@@ -231,8 +231,9 @@ impl File {
         found(status, index)
     }
 
-    /// The material of a primitive in a variant.
-    pub(crate) fn variant_material(
+    /// The index that a primitive has in a variant for its material, whether there is such a
+    /// material or not.
+    pub(crate) fn variant_index(
         &self,
         mesh: usize,
         primitive: usize,
@@ -244,6 +245,27 @@ impl File {
             sys::gltf_variant_material(self.at.as_ptr(), mesh, primitive, variant, &mut index)
         };
         found(status, index)
+    }
+
+    /// The material of a primitive in a variant; an error where the document has none with that
+    /// index.
+    pub(crate) fn variant_material(
+        &self,
+        mesh: usize,
+        primitive: usize,
+        variant: usize,
+    ) -> Result<Option<usize>> {
+        let mut fault = MaybeUninit::<sys::gltf_fault>::zeroed();
+        // SAFETY: the file is open, and `fault` is room for the struct.
+        let status = unsafe {
+            let (at, fault) = (self.at.as_ptr(), fault.as_mut_ptr());
+            sys::gltf_variant_fault(at, mesh, primitive, variant, fault)
+        };
+        // SAFETY: all of it is numbers, which were 0 before the call filled it in.
+        match found(status, unsafe { fault.assume_init() }) {
+            Some(fault) => Err(Error::of_library(&fault)),
+            None => Ok(self.variant_index(mesh, primitive, variant)),
+        }
     }
 
     /// The scene to show at first.

@@ -1,7 +1,7 @@
 //! Variants of materials (`KHR_materials_variants`).
 use std::fmt;
 
-use crate::{sys, Document, Material};
+use crate::{sys, Document, Material, Result};
 
 /// A variant.
 #[derive(Clone)]
@@ -38,15 +38,17 @@ impl fmt::Debug for Variant<'_> {
 }
 
 /// The material that a primitive has in a variant.
-#[derive(Clone, Debug)]
+#[derive(Clone)]
 pub struct Mapping<'a> {
+    document: &'a Document,
+    /// The indices of the mesh and of the primitive in it.
+    place: [usize; 2],
     variants: [u32; 1],
-    material: Material<'a>,
 }
 
 impl<'a> Mapping<'a> {
-    pub(crate) fn new(variant: usize, material: Material<'a>) -> Self {
-        Mapping { variants: [variant as u32], material }
+    pub(crate) fn new(document: &'a Document, place: [usize; 2], variant: usize) -> Self {
+        Mapping { document, place, variants: [variant as u32] }
     }
 
     /// The indices of the variants: one.
@@ -54,8 +56,21 @@ impl<'a> Mapping<'a> {
         &self.variants
     }
 
-    /// The material.
-    pub fn material(&self) -> Material<'a> {
-        self.material.clone()
+    /// The material. Fails with [`Error::BadExtension`](crate::Error::BadExtension) where the
+    /// document has no material with the index of the mapping, which no rule looks at; the error
+    /// has the place of the index.
+    pub fn material(&self) -> Result<Material<'a>> {
+        let ([mesh, primitive], [variant]) = (self.place, self.variants);
+        let named = self.document.file().variant_material(mesh, primitive, variant as usize)?;
+        Ok(Material::new(self.document, named))
+    }
+}
+
+impl fmt::Debug for Mapping<'_> {
+    fn fmt(&self, f: &mut fmt::Formatter<'_>) -> fmt::Result {
+        f.debug_struct("Mapping")
+            .field("variants", &self.variants)
+            .field("material", &self.material())
+            .finish()
     }
 }

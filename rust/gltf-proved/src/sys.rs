@@ -614,6 +614,13 @@ extern "C" {
         variant: usize,
         material: *mut usize,
     ) -> gltf_status;
+    pub fn gltf_variant_fault(
+        file: *const gltf_file,
+        mesh: usize,
+        primitive: usize,
+        variant: usize,
+        fault: *mut gltf_fault,
+    ) -> gltf_status;
     pub fn gltf_material_info(
         file: *const gltf_file,
         index: usize,

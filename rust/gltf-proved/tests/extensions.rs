@@ -268,3 +268,27 @@ fn a_file_that_requires_one_opens_by_its_name() {
     let document = Options::new().extension(name).from_slice(text.as_bytes()).unwrap();
     assert!(!document.nodes().next().unwrap().visible().unwrap());
 }
+
+#[test]
+fn a_material_of_a_variant_that_is_not_there_is_a_fault() {
+    let members = r#","materials":[{"name":"Red"},{"name":"Blue"}],"meshes":[{"primitives":[]},
+        {"primitives":[{"attributes":{}},{"attributes":{},"material":1,"extensions":
+        {"KHR_materials_variants":{"mappings":[{"material":0,"variants":[1]},
+        {"material":2,"variants":[0,1]}]}}}]}],"extensionsUsed":["KHR_materials_variants"],
+        "extensions":{"KHR_materials_variants":{"variants":
+        [{"name":"Lost"},{"name":"Day"},{"name":"Night"}]}}"#;
+    let document = document_of(members, &[0; 4]).unwrap();
+    let primitive = document.meshes().nth(1).unwrap().primitives().nth(1).unwrap();
+    let place = "/meshes/1/primitives/1/extensions/KHR_materials_variants/mappings/1/material";
+    for found in [primitive.material_in(0), primitive.mappings().next().unwrap().material()] {
+        let why = found.unwrap_err();
+        assert!(matches!(why, Error::BadExtension(_)), "{why:?}");
+        assert_eq!((why.status(), why.pointer().as_ref()), (Status::BadExtension, place));
+        assert_eq!(why.to_string(), "the document has no material with this index");
+    }
+    // The first mapping with the variant counts, and without one the primitive's own material.
+    assert_eq!(primitive.material_in(1).unwrap().name(), Some("Red"));
+    assert_eq!(primitive.material_in(2).unwrap().name(), Some("Blue"));
+    assert_eq!(primitive.mappings().count(), 2);
+    assert!(primitive.mappings().nth(1).unwrap().material().is_ok());
+}

@@ -155,9 +155,11 @@ fn cameras_lights_and_variants_are_read() {
     let names: Vec<_> = document.variants().unwrap().map(|it| it.name()).collect();
     assert_eq!(names, ["Day", "Night"]);
     let primitive = document.meshes().next().unwrap().primitives().next().unwrap();
-    assert_eq!(primitive.material_in(0).name(), Some("Red"));
-    assert_eq!(primitive.material_in(1).name(), Some("Blue"));
+    assert_eq!(primitive.material_in(0).unwrap().name(), Some("Red"));
+    assert_eq!(primitive.material_in(1).unwrap().name(), Some("Blue"));
+    assert_eq!(primitive.material_in(2).unwrap().name(), Some("Red"));
     assert_eq!(primitive.mappings().count(), 1);
+    assert_eq!(primitive.mappings().next().unwrap().material().unwrap().name(), Some("Blue"));
     let document = Document::open(example("box.glb")).unwrap();
     assert!(document.lights().is_none() && document.variants().is_none());
 }

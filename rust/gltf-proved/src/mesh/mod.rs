@@ -161,18 +161,22 @@ impl<'a> Primitive<'a> {
         let (document, mesh, index) = (self.document, self.mesh, self.index);
         let variants = document.file().count(sys::GLTF_VARIANTS);
         (0..variants).filter_map(move |variant| {
-            let material = document.file().variant_material(mesh, index, variant)?;
-            // No rule checks this index.
-            let is_there = material < document.file().count(sys::GLTF_MATERIALS);
-            Some(Mapping::new(variant, Material::new(document, is_there.then_some(material))))
+            document.file().variant_index(mesh, index, variant)?;
+            Some(Mapping::new(document, [mesh, index], variant))
         })
     }
 
     /// The material that it has in a variant, by the index of that: what the variant names here, or
-    /// its own material.
-    pub fn material_in(&self, variant: usize) -> Material<'a> {
-        let mapping = self.mappings().find(|it| it.variants() == [variant as u32]);
-        mapping.map_or_else(|| self.material(), |it| it.material())
+    /// its own material. Fails with [`Error::BadExtension`](crate::Error::BadExtension) where the
+    /// document has no material with the index that the variant names, which no rule looks at; the
+    /// error has the place of the index.
+    pub fn material_in(&self, variant: usize) -> Result<Material<'a>> {
+        let file = self.document.file();
+        if variant >= file.count(sys::GLTF_VARIANTS) {
+            return Ok(self.material());
+        }
+        let named = file.variant_material(self.mesh, self.index, variant)?;
+        Ok(named.map_or_else(|| self.material(), |it| Material::new(self.document, Some(it))))
     }
 
     /// The extras, as JSON text.

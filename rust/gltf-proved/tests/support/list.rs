@@ -184,7 +184,13 @@ fn list_primitive(document: &Document, about: &str, it: &Primitive) {
     put(about, "targets", it.morph_targets().len());
     for mapping in it.mappings() {
         put(about, "variant", mapping.variants()[0]);
-        put_or_none(about, "of material", mapping.material().index());
+        match mapping.material() {
+            Ok(material) => put_or_none(about, "of material", material.index()),
+            Err(why) => {
+                put(about, "of no material", why.pointer());
+                put(about, "reason", why);
+            }
+        }
     }
     put_json(about, it.extras(), |name| it.extension_value(name));
     put_packet(about, it.xmp_packet());

@@ -1,5 +1,5 @@
 use Rattle.std.proofs.Common.{◌≡◌}
-use Rattle.gltf_buffers.specs.Shown.{answer_of_each, bytes_of_each}
+use Rattle.gltf_shared.specs.Shown.{answer_of_each, bytes_of_each}
 use Rattle.gltf_inspect_files.specs.Buffers.{had}
 use Rattle.gltf_inspect_files.proofs.buffer.had.Given as goal
 

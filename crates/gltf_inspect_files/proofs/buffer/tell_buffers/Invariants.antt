@@ -1,6 +1,6 @@
 use Rattle.std.proofs.Common.{◌≡◌, ◌++◌, drop, take}
 use Rattle.std.specs.List.{AllByRecursion}
-use Rattle.gltf_buffers.specs.Shown.{answer_of_each}
+use Rattle.gltf_shared.specs.Shown.{answer_of_each}
 use Rattle.gltf_inspect_files.specs.Buffers.{buffers_findings, SaysSomething}
 use Rattle.gltf_inspect_files.proofs.buffer.tell_buffers.Given as goal
 

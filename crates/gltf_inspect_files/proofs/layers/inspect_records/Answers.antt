@@ -3,10 +3,11 @@ use Rattle.std.specs.Prelude.{IfNone, IfSome}
 use Rattle.gltf_buffers.specs.Shown.{blob_bytes}
 use Rattle.gltf_validation.specs.Documents.{Faults}
 use Rattle.gltf_inspect_files.specs.Reports.{records_findings}
+use Rattle.gltf_inspect_files.proofs.Asking.{none_asked}
 use Rattle.gltf_inspect_files.proofs.layers.inspect_records.Goals as goal
 
-pub returns-in-None : goal.returns-in-None
-returns-in-None g c = λ bytes document only.
+pub returns-in-None-clause-records : goal.returns-in-None-clause-records
+returns-in-None-clause-records g c = λ bytes document only.
     let root = c.into_json-root.result in
     let broken : Faults root ≢ [] =
     subst (λ o. IfNone o (Faults root ≢ [])) c.in-None.is c.in_ok-document.ensures.broken in
@@ -26,3 +27,7 @@ inspect_valid-requires-clause-records g c =
     let valid = subst (λ o. IfSome o (λ d. (d ≡ root) × (Faults root ≡ []))) c.in-Some.is
     c.in_ok-document.ensures.valid in
     c.in_ok-records.ensures ∙ ap records_findings (sym valid.0)
+
+pub returns-in-None-clause-asked : goal.returns-in-None-clause-asked
+returns-in-None-clause-asked g c = λ can.
+    none_asked g.N.AskUpTo.asks c.args.file.document c.args.names.now

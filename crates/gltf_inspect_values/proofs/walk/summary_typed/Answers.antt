@@ -1,7 +1,7 @@
-use Rattle.std.proofs.Common.{ap, sym, ◌∙◌, ℕ, ◌*◌, true}
+use Rattle.std.proofs.Common.{ap, sym, ◌∙◌, refl, ℕ, ◌*◌, true}
 use Rattle.std.specs.Prelude.{slice_get}
 use Rattle.std.specs.List.{list_any}
-use Rattle.gltf.specs.Shown.{bytes_of_each}
+use Rattle.gltf_shared.specs.Shown.{lent_bytes}
 use Rattle.gltf_json_record.specs.declared.validation.Checked.TheVariants.{Invalid}
 use Rattle.gltf_handles.specs.Sizes.{code_of, component_size, data_type, dimensions, multiplicity}
 use Rattle.gltf_inspect_items.specs.Reading.{items_at}
@@ -13,18 +13,23 @@ use Rattle.gltf_inspect_values.proofs.walk.summary_typed.Goals as goal
 
 pub returns-in-Invalid : goal.returns-in-Invalid
 returns-in-Invalid c =
-    let bytes = slice_get (bytes_of_each c.args.place.buffers.now) in
+    let bytes = slice_get (lent_bytes c.args.place.buffers.now) in
     let of_size = λ (n : ℕ).
     items_at (as_bytes n) c.args.place.document.now bytes c.args.place.index in
     let many = code_of (λ d. multiplicity (dimensions d)) c.args.shape in
     let size = code_of (λ d. component_size (data_type d)) c.args.component * many in
-    c.without_numbers.ensures
-    ∙ ap (λ some. record no_items { exist = some })
-    (c.exist.ensures ∙ ap (λ items. list_any (λ item. true) items) c.items_at.ensures)
-    ∙ no_numbers (of_size 0)
-    ∙ ap (λ n. summary_of Invalid (of_size n))
-    (of_no_type many c.args.component c.in-Invalid.is)
-    ∙ ap (λ t. summary_of t (of_size size)) (sym c.in-Invalid.is)
+    record {
+      members = of_size size;
+      same = record { any = λ test. refl };
+      is =
+          c.without_numbers.ensures
+          ∙ ap (λ some. record no_items { exist = some })
+          (c.exist.ensures ∙ ap (λ items. list_any (λ item. true) items) c.items_at.ensures)
+          ∙ no_numbers (of_size 0)
+          ∙ ap (λ n. summary_of Invalid (of_size n))
+          (of_no_type many c.args.component c.in-Invalid.is)
+          ∙ ap (λ t. summary_of t (of_size size)) (sym c.in-Invalid.is);
+    }
 
 pub returns-in-I8 : goal.returns-in-I8
 returns-in-I8 c = rw (c.in-Valid.is, c.in-I8.is) c.summary_of_bytes.ensures

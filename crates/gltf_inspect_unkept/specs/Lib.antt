@@ -1,0 +1,3 @@
+pub mod Parts
+pub mod Documents
+pub mod Laws

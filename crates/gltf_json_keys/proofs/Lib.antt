@@ -1,0 +1,5 @@
+mod Texts
+mod Tokens
+mod Values
+mod Found
+mod Runs

@@ -1,0 +1,11 @@
+pub mod Blobs
+pub mod Put
+pub mod Given
+pub mod Asked
+pub mod Walked
+pub mod Answers
+pub mod Unless
+pub mod Data
+pub mod Refused
+pub mod Counted
+pub mod Noted

@@ -1,0 +1,6 @@
+//! Documents of files by their paths, whose buffers share the bytes of the files that they name.
+#![tactic(auto)]
+
+mod import;
+
+pub use import::import_shared;
