@@ -46,7 +46,8 @@ static void print(const gltf::file &file)
     }
     for (std::size_t v = 0; v < file.count(GLTF_VARIANTS); v++)
         try {
-            std::cout << "variant: " << static_cast<long>(file.variant_material(0, 0, v)) << "\n";
+            const std::size_t material = file.variant_material(0, 0, v);
+            std::cout << "variant: " << static_cast<long>(material) << "\n";
         } catch (const gltf::error &why) {
             std::cout << why.fault.status << " " << why.fault.path << ": " << why.what() << "\n";
         }
