@@ -164,7 +164,8 @@ pub(crate) fn with_contents(
     share: Option<u32>,
     len: usize,
 ) -> Result<Lent, AllocError>
-    ensures whole { IfOk result (λ whole. (names : Names) (bytes : List ℕ) → length bytes ≡ len
+    ensures whole { IfOk result (λ whole. (names : Names) (bytes : List ℕ)
+        → length bytes ≡ len
         → IsOfLayers names bytes file
         → IsFound (said_by share) names bytes whole.cause (lent_of whole.imported) whole.report) }
     ensures imported { IfOk result (λ whole. whole.imported ≡ file.imported) }

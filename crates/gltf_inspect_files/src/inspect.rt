@@ -73,8 +73,8 @@ pub fn inspect_slice(alloc: Global, bytes: &[u8]) -> Result<Inspected, AllocErro
 }
 
 /// All that is found in the file at a path of a source, and in those that its buffers name, and
-/// what is imported where it is accepted, as [`gltf::import_from`] accepts it. Each buffer has bytes
-/// of its own.
+/// what is imported where it is accepted, as [`gltf::import_from`] accepts it. Each buffer has
+/// bytes of its own.
 ///
 /// The error is that the file itself cannot be read, or [`Error::Memory`].
 pub fn inspect_from<S: NamedBytes>(

@@ -51,10 +51,12 @@ pub fn of_what_is_not_left_out_the_same_is_found()
         → slice_get r.accessors.items i ≡ Some a → out i ≡ true
         → Fails (contents_checks_but out r bytes)
         (named (codes "accessors") ∷ numbered i ∷ []) ItemsNotLookedAt }
-    ensures no_more { (out : ℕ → Bool) (r : Root) (bytes : Bytes) (path : List Place) (code : Code)
+    ensures no_more { (out : ℕ → Bool) (r : Root) (bytes : Bytes) (path : List Place)
+        (code : Code)
         → Fails (contents_checks_but out r bytes) path code
         → Fails (contents_checks r bytes) path code ⊎ SaysLeftOut out path code }
-    ensures no_less { (out : ℕ → Bool) (r : Root) (bytes : Bytes) (path : List Place) (code : Code)
+    ensures no_less { (out : ℕ → Bool) (r : Root) (bytes : Bytes) (path : List Place)
+        (code : Code)
         → Fails (contents_checks r bytes) path code
         → Fails (contents_checks_but out r bytes) path code ⊎ IsOfLeftOut out r path }
 {}

@@ -34,8 +34,9 @@ use gltf_shared::{AskUpTo, read_each_shared};
 use std::alloc::{AllocError, Global};
 use std::rc::Rc;
 
-/// What is found in the layers of these bytes, where names are asked of `names`, none of them twice,
-/// and what is imported where all hold; items are not looked at. Fails where there is no memory.
+/// What is found in the layers of these bytes, where names are asked of `names`, none of them
+/// twice, and what is imported where all hold; items are not looked at. Fails where there is no
+/// memory.
 pub(crate) fn inspect_bytes<N: AskUpTo>(
     alloc: Global,
     names: &mut N,

@@ -39,10 +39,10 @@ pub struct Lent {
 /// All that is found in the bytes of a file, and what is imported where they are accepted, as
 /// [`crate::inspect::inspect_slice`] says. Fails where there is no memory.
 ///
-/// With a share, items are looked at as far as a budget goes: so many bytes of them for each byte of
-/// the file and of its buffers, where those of one name count once. Accessors are taken one after the other. One for whose items what is
-/// left is not enough is left out; one that reads the same as an accessor before it goes with that
-/// one. The report has
+/// With a share, items are looked at as far as a budget goes: so many bytes of them for each byte
+/// of the file and of its buffers, where those of one name count once. Accessors are taken one after
+/// the other. One for whose items what is left is not enough is left out; one that reads the same as
+/// an accessor before it goes with that one. The report has
 /// [`Code::ItemsNotLookedAt`](gltf_findings::code::Code::ItemsNotLookedAt) at each that is left out,
 /// and nothing of its items, of indices of primitives and of times of samplers that it has.
 pub fn inspect_lent_slice(

@@ -33,8 +33,8 @@ const NOWHERE: Option<&mut Shelf> = None;
 
 /// The bytes of all buffers, by index, as [`gltf_buffers::read_buffers`] gives them, but that
 /// buffers which lead to one name share its bytes: the source is asked for no name twice. It is
-/// told how many bytes are wanted at most by the first buffer that leads to the name: its
-/// `byteLength`, and three more.
+/// asked for the `byteLength` of the first buffer that leads to the name, and three bytes more. No
+/// clause says so of these numbers.
 ///
 /// The error is that of the first buffer that has one. Where it says that the source failed, the
 /// source has noted the name of that buffer, and no other one.

@@ -21,11 +21,11 @@ use std::rc::Rc;
 
 /// The document and the bytes of its buffers, by index, of a file by its path, as
 /// [`gltf::import_from`] gives them, but that the source is asked for no name of a buffer twice:
-/// buffers which lead to one name share its bytes. What is asked for a buffer is at most its
-/// `byteLength` and three bytes.
+/// buffers which lead to one name share its bytes. How many bytes are asked for is as
+/// [`read_shared`] says.
 ///
-/// [`gltf_glb::Error::Io`] says that the source failed at the file, or at the name of a buffer, and has
-/// noted which one it was.
+/// [`gltf_glb::Error::Io`] says that the source failed at the file, or at the name of a buffer, and
+/// has noted which one it was.
 pub fn import_shared<N: AskUpTo>(
     alloc: Global,
     source: &mut N,
