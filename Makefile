@@ -34,6 +34,7 @@ help:
 	@echo '  make peers [FILES=2000]                    the same, with other loaders that Debian has'
 	@echo '  make devices                               runs them where the system fails them'
 	@echo '  make packages [WORDS=--long]               tries what is installed and packed'
+	@echo '  make pages [WORDS=--shots]                 tries reports and pages of inspect, in Chromium'
 	@echo '  make many [FILES=1000]                     tries the checking of many files'
 	@echo '  make memory [WORDS=--long]                 runs them with each growth of memory refused'
 	@echo '  make stack [WORDS=--measure]               runs them, and the library for C, with little stack'
@@ -112,6 +113,9 @@ rust:
 packages:
 	@python3 tools/packages.py $(WORDS)
 
+pages:
+	@python3 tools/pages.py $(WORDS)
+
 many:
 	@python3 tools/many.py $(FILES)
 
@@ -143,4 +147,4 @@ cost:
 	@python3 tools/cost.py $(NAME) $(WORDS)
 
 .PHONY: help show prove c install uninstall dist deb reference check case bench test wrong python
-.PHONY: wheel rust packages many fuzz soak peers devices memory stack coverage cost
+.PHONY: wheel rust packages pages many fuzz soak peers devices memory stack coverage cost

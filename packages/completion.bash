@@ -31,9 +31,11 @@ _gltf_words() {
 # The options of `inspect` that fit those that are there.
 _gltf_options() {
     local word given=" ${COMP_WORDS[*]:2} "
-    for word in --no-files --json --pretty --html; do
+    for word in --no-files --outside --json --pretty --html; do
         [[ $given == *" $word "* ]] && continue
         case $word in
+            --no-files) [[ $given == *" --outside "* ]] && continue ;;
+            --outside) [[ $given == *" --no-files "* ]] && continue ;;
             --html) [[ $given == *" --json "* || $given == *" --pretty "* ]] && continue ;;
             --json | --pretty) [[ $given == *" --html "* ]] && continue ;;
         esac
@@ -69,9 +71,13 @@ _gltf_repack() {
 # The flags of `gltf_convert` that fit the second name and are not there yet.
 _gltf_flags() {
     local word given=" ${COMP_WORDS[*]:3} "
-    for word in --keep-images --drop-image-views --pretty; do
+    for word in --keep-images --drop-image-views --pretty --keep-unknown --outside --force; do
         [[ $given == *" $word "* ]] && continue
-        [[ $word != --keep-images && ${COMP_WORDS[2],,} != *.gltf ]] && continue
+        case $word in
+            --drop-image-views | --pretty | --force)
+                [[ ${COMP_WORDS[2],,} != *.gltf ]] && continue
+                ;;
+        esac
         case $word in
             --keep-images) [[ $given == *" --drop-image-views "* ]] && continue ;;
             --drop-image-views) [[ $given == *" --keep-images "* ]] && continue ;;

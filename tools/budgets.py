@@ -1,8 +1,9 @@
 #!/usr/bin/env python3
 """Runs the proved program `gltf_show inspect --json` on documents whose accessors have bytes in
 common: which items are not looked at, by the budget that docs/INSPECT.md has, and how long it takes
-beside `gltf_show check`. `make test` calls it after `rt ci`; arguments are another program to run.
-The last line is `N passed, M failed`."""
+beside `gltf_show check`; and how long on documents with many attributes and targets. `make test`
+calls it after `rt ci`; arguments are another program to run. The last line is
+`N passed, M failed`."""
 import json
 import os
 import pathlib
@@ -114,6 +115,14 @@ def rows():
     yield "small ones", [accessor(256, component=FLOAT, shape="MAT4") for _ in range(20000)], many, {}
     yield "few items", [accessor(16, component=FLOAT, shape="MAT4") for _ in range(20000)], many, {}
     yield "no room", [accessor(2000000) for _ in range(20000)], many, {}
+    # The first has the positions; the application's attributes stand before it in their order.
+    two = [accessor(3, component=FLOAT, shape="VEC3"), accessor(4, component=FLOAT, shape="VEC3")]
+    own = {f"_A{i}": 1 for i in range(16000)}
+    yield "attributes of unequal counts", two, many, {
+        "meshes": [{"primitives": [{"attributes": {"POSITION": 0, **own}}]}]}
+    yield "targets beside attributes", two, many, {
+        "meshes": [{"primitives": [{"attributes": {"POSITION": 0, **own},
+                                    "targets": [{"POSITION": 0}] * 16000}]}]}
 
 
 def one_file(folder):

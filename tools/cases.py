@@ -30,7 +30,8 @@ and in cases and answers
     ∅                   nothing
     Index 3, F32[1, 2, 3, 4]    how a program prints these
 
-A table `tables/NAME.py` has a list ROWS of cases and answers.
+A table `tables/NAME.py` has a list ROWS of cases and answers. It may have FILES, the texts of files
+that stand beside the cases, by their names.
 """
 import collections
 import pathlib
@@ -46,7 +47,8 @@ CRATES = {
     "gltf_cases": (
         """containers imports faults rules documents geometry meshes materials scenes animations
         items walks iterators lists looks surfaces primitives nodes channels reads uris payloads
-        repacked files streams named examples memory growths""".split(),
+        repacked files streams named examples memory growths
+        typed""".split(),
         (
             "box.glb",
             "triangle.gltf",
@@ -60,10 +62,10 @@ CRATES = {
         ("two files/square data.bin",),
     ),
     "gltf_caller_cases": (
-        "users options bytes nothing".split(),
+        "users options bytes nothing types".split(),
         ("two files/square.gltf", "two files/square data.bin"),
     ),
-    "gltf_extension_cases": ("extensions quantized mended instances".split(), ()),
+    "gltf_extension_cases": ("extensions quantized mended lenient instances".split(), ()),
 }
 BYTES = r'"([^"]*)"|(\d+)\.(?!\S)|([0-9A-Fa-f]{2})×(\d+)|([0-9A-Fa-f]+)|\S+'
 # Lines at the margin, and lines below them that are not.
@@ -182,6 +184,12 @@ def rows_of(crate, name):
     return Table(name, file.with_suffix(".txt").read_text("utf-8")).rows
 
 
+def texts_beside(crate, name):
+    """The texts of the files that stand beside the cases of a table, by their names."""
+    file = folder_of(crate) / "tables" / f"{name}.py"
+    return runpy.run_path(str(file)).get("FILES", {}) if file.exists() else {}
+
+
 def files_of(crate):
     """What is to stand in each file of a crate, and the number of its cases."""
     tables, examples = CRATES[crate]
@@ -190,6 +198,7 @@ def files_of(crate):
     for name in tables:
         rows = rows_of(crate, name)
         files[f"data/{name}.txt"] = "".join(f"{case}\n" for case, _ in rows)
+        files.update({f"data/{it}": text for it, text in texts_beside(crate, name).items()})
         stdout += f"{name}.txt\n" + "".join(f"{answer}\n" for _, answer in rows)
         cases += [case for case, _ in rows]
     twice = [case for case, count in collections.Counter(cases).items() if count > 1]

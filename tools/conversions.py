@@ -15,6 +15,7 @@ import zlib
 sys.dont_write_bytecode = True
 
 import crates
+import outside
 import programs
 from programs import DANGLING, Begins, Failed
 
@@ -49,7 +50,7 @@ TWO = {
         {"uri": "p%20q.png", "name": "\u00e9", "extras": {"b": [1, None], "a": 1e3}},
         {"bufferView": 2, "mimeType": "image/x-own"},
         {"uri": data("image/jpeg", PICTURES[1])},
-        {"uri": "own", "mimeType": "image/x-own", "extensions": {"STUDIO": {"uri": "stays"}}},
+        {"uri": "own", "mimeType": "image/x-own", "extensions": {"STUDIO": {"link": "stays"}}},
     ],
     "unknown": {"b": 1e3, "a": []},
 }
@@ -77,7 +78,7 @@ ONE = TWO | {
          "extras": {"b": [1, None], "a": 1e3}},
         {"bufferView": 2, "mimeType": "image/x-own"},
         {"bufferView": 4, "mimeType": "image/jpeg"},
-        {"bufferView": 5, "mimeType": "image/x-own", "extensions": {"STUDIO": {"uri": "stays"}}},
+        {"bufferView": 5, "mimeType": "image/x-own", "extensions": {"STUDIO": {"link": "stays"}}},
     ],
 }
 JOINED = bytes([1, 2, 3, 0, 0, 0, 0, 0, 4, 5, 6, 7, 8, 0, 0, 0])
@@ -102,8 +103,119 @@ OWN_KINDS = {
     "images": [{"bufferView": i, "mimeType": media} for i, media in enumerate(FOUND)],
 }
 ALL_KINDS = [*PICTURES, *[b"1"] * 4, PICTURES[1], PICTURES[1]]
-CONVERT_USAGE = Begins("usage: gltf_convert IN OUT.glb [--keep-images]\n")
+CONVERT_USAGE = Begins("usage: gltf_convert IN OUT.glb [--keep-images] [--keep-unknown] [--outside]\n")
 ENDING = "out.txt: has to end in .glb or .gltf\n"
+# Files that require extensions which the loader refuses: a conversion keeps what these say. A
+# primitive of Draco, with bytes that no one reads; views that are compressed, over two buffers;
+# numbers of fewer bits; textures whose other image is one of WebP or of Basis; and a name that
+# nobody knows, twice.
+BITS = bytes(range(1, 13))
+
+
+def requires(*names, **members):
+    """A document that requires these extensions."""
+    return {"asset": {"version": "2.0"}, "extensionsUsed": list(names),
+            "extensionsRequired": list(names), **members}
+
+
+def in_buffers(*lengths):
+    """As many buffers of these lengths, and their bytes one after the other."""
+    held = [BITS[:n] for n in lengths]
+    return [{"byteLength": n, "uri": data("", one)} for n, one in zip(lengths, held)]
+
+
+DRACO = requires(
+    "KHR_draco_mesh_compression",
+    bufferViews=[{"buffer": 0, "byteLength": 12, "byteOffset": 0}],
+    accessors=[{"componentType": 5126, "count": 3, "type": "VEC3", "min": [0, 0, 0],
+                "max": [1, 1, 1]}],
+    meshes=[{"primitives": [{"attributes": {"POSITION": 0}, "extensions": {
+        "KHR_draco_mesh_compression": {"bufferView": 0, "attributes": {"POSITION": 0}}}}]}])
+COMPRESSED = {"byteLength": 3, "byteStride": 4, "count": 2, "mode": "ATTRIBUTES"}
+PACKED = requires(
+    "EXT_meshopt_compression",
+    bufferViews=[
+        {"buffer": 1, "byteLength": 8, "byteOffset": 0, "extensions": {
+            "EXT_meshopt_compression": COMPRESSED | {"buffer": 0, "byteOffset": 1}}},
+        {"buffer": 0, "byteLength": 4, "byteOffset": 0}],
+    accessors=[{"bufferView": 0, "componentType": 5121, "count": 8, "type": "SCALAR"}])
+QUANTIZED = requires(
+    "KHR_mesh_quantization",
+    bufferViews=[{"buffer": 0, "byteLength": 12, "byteOffset": 0, "byteStride": 4}],
+    accessors=[{"bufferView": 0, "componentType": 5120, "count": 3, "type": "VEC3",
+                "min": [1, 2, 3], "max": [9, 10, 11]}],
+    meshes=[{"primitives": [{"attributes": {"POSITION": 0}}]}])
+IMAGE_VIEWS = [{"buffer": 0, "byteLength": 4, "byteOffset": 0},
+               {"buffer": 0, "byteLength": 5, "byteOffset": 4}]
+
+
+def textured(name, media):
+    """A texture with an image of a further type."""
+    return requires(
+        name, bufferViews=IMAGE_VIEWS,
+        images=[{"bufferView": 0, "mimeType": "image/png"}, {"bufferView": 1, "mimeType": media}],
+        textures=[{"source": 0, "extensions": {name: {"source": 1}}}])
+
+
+def in_text(value, files, *lengths):
+    """The value of the text of such a file, whose buffers have these lengths, and its files."""
+    parts = [("out.bin" if len(lengths) == 1 else f"out{i}.bin") for i in range(len(lengths))]
+    held = {part: BITS[:n] + bytes(-n % 4) for part, n in zip(parts, lengths)}
+    images = [{"uri": name, "mimeType": image["mimeType"]}
+              for name, image in zip(files, value.get("images", []))]
+    return value | {
+        "buffers": [{"byteLength": n, "uri": part} for n, part in zip(lengths, parts)],
+        **({"images": images} if images else {})}, held | files
+
+
+def in_container(value, *lengths):
+    """The value of the container of such a file, and its buffer: views move with their buffers."""
+    starts, whole = [], b""
+    for n in lengths:
+        starts.append(len(whole))
+        whole += BITS[:n] + bytes(-n % 8)
+    moved = json.loads(json.dumps(value))
+    for one in moved.get("bufferViews", []):
+        for named in (one, one.get("extensions", {}).get("EXT_meshopt_compression")):
+            if named:
+                named["byteOffset"] += starts[named["buffer"]]
+                named["buffer"] = 0
+    return moved | {"buffers": [{"byteLength": len(whole)}]}, whole
+
+
+# The value without its buffers, the lengths of these, and the files of its images.
+REQUIRED = {
+    "draco.gltf": (DRACO, (12,), {}),
+    "packed.gltf": (PACKED, (5, 9), {}),
+    "quantized.gltf": (QUANTIZED, (12,), {}),
+    "webp.gltf": (textured("EXT_texture_webp", "image/webp"), (9,),
+                  {"out_image0.png": BITS[:4], "out_image1.webp": BITS[4:9]}),
+    "basis.gltf": (textured("KHR_texture_basisu", "image/ktx2"), (9,),
+                   {"out_image0.png": BITS[:4], "out_image1.ktx2": BITS[4:9]}),
+    "twice.gltf": (requires("STUDIO", "STUDIO", "KHR_materials_unlit"), (4,), {}),
+}
+# Files in which the object of an extension names a buffer or a file itself: an emitter of sound, one
+# deep in an extension that nobody knows, beside a member that is null, and views that are compressed
+# under another name. Each value with the place of what it names, and the extension.
+ELSEWHERE = ("{0}: {1}: {2} names a buffer or a file itself, which is not moved; "
+             "--keep-unknown writes it as it stands\n")
+NAMING = {
+    "audio.gltf": (
+        requires("KHR_audio_emitter", extensions={"KHR_audio_emitter": {
+            "audio": [{"uri": "a.mp3"}]}}),
+        "/extensions/KHR_audio_emitter/audio/0/uri", "KHR_audio_emitter"),
+    "deep.gltf": (
+        requires("STUDIO", nodes=[{"extensions": {"STUDIO": {
+            "none": {"uri": None}, "some": [{"buffer": 1}]}}}]),
+        "/nodes/0/extensions/STUDIO/some/0/buffer", "STUDIO"),
+    "renamed.gltf": (
+        requires("KHR_meshopt_compression", bufferViews=[
+            {"buffer": 1, "byteLength": 8, "extensions": {
+                "KHR_meshopt_compression": COMPRESSED | {"buffer": 0}}}]),
+        "/bufferViews/0/extensions/KHR_meshopt_compression/buffer", "KHR_meshopt_compression"),
+}
+# What a file that requires an extension is refused for is what it is refused for without it.
+BROKEN = DRACO | {"buffers": in_buffers(12), "bufferViews": [{"buffer": 7, "byteLength": 12}]}
 # The words, the status and the error of calls that write nothing.
 NOT_CONVERTED = [
     (["two.gltf", "out.txt"], 2, ENDING),
@@ -125,6 +237,12 @@ NOT_CONVERTED = [
     (["two.gltf", "out.glb", "--pretty"], 2, CONVERT_USAGE),
     (["two.gltf", "out.gltf", "--pretty", "--pretty"], 2, CONVERT_USAGE),
     (["two.gltf", "out.glb", "--drop-image-views"], 2, CONVERT_USAGE),
+    (["two.gltf", "out.glb", "--force"], 2, CONVERT_USAGE),
+    (["two.gltf", "out.gltf", "--force", "--force"], 2, CONVERT_USAGE),
+    (["two.gltf", "out.glb", "--outside", "--outside"], 2, CONVERT_USAGE),
+    *[([name, out], 1, ELSEWHERE.format(name, place, extension))
+      for name, (_, place, extension) in NAMING.items() for out in ("out.glb", "out.gltf")],
+    (["two.gltf", "out.glb", "--keep-unknown", "--keep-unknown"], 2, CONVERT_USAGE),
     (["two.gltf", "out.gltf", "--keep-images", "--drop-image-views"], 2, CONVERT_USAGE),
     (["two.gltf", "out.gltf", "--drop-image-views", "--drop-image-views"], 2, CONVERT_USAGE),
     (["stray.gltf", "out.gltf", "--drop-image-views"], 1,
@@ -136,6 +254,10 @@ NOT_CONVERTED = [
     (["lost.gltf", "out.gltf"], 1, Failed("lost.png")),
     (["scheme.gltf", "out.gltf"], 1, Begins("images[0].uri: ")),
     (["payload.gltf", "out.gltf"], 1, Begins("images[0].uri: ")),
+    (["broken.gltf", "out.glb"], 1,
+     "invalid glTF: bufferViews[0].buffer: Index out of bounds;\n"),
+    (["broken.gltf", "out.gltf"], 1,
+     "invalid glTF: bufferViews[0].buffer: Index out of bounds;\n"),
     (["two.gltf", "taken.gltf"], 1, "taken1.bin: not a regular file\n"),
     (["two.gltf", "away/out.gltf"], 1, Failed("away/out0.bin.part")),
 ]
@@ -154,6 +276,8 @@ CONVERTED = [
     (["kinds.gltf"], ["--keep-images"], KINDS, b""),
     *[([name], ["--keep-images"], {"asset": {"version": "2.0"}, "images": images}, b"")
       for name, images in IMAGES.items()],
+    *[([name], [], *in_container(value, *lengths))
+      for name, (value, lengths, _) in REQUIRED.items()],
 ]
 
 # A file as JSON text: each buffer has a file, filled up to a multiple of four bytes, and each image
@@ -165,7 +289,7 @@ APART = TWO | {
         {"uri": "out_image1.bin", "mimeType": "image/x-own"},
         {"uri": "out_image2.jpg"},
         {"uri": "out_image3.bin", "mimeType": "image/x-own",
-         "extensions": {"STUDIO": {"uri": "stays"}}},
+         "extensions": {"STUDIO": {"link": "stays"}}},
     ],
 }
 HALVES = {"out0.bin": JOINED[:4], "out1.bin": JOINED[8:]}
@@ -345,6 +469,8 @@ SPLIT = [
       for i, (kind, held) in enumerate(zip(ENDS * 2, [*PICTURES, *[b"1"] * 4]))}),
     (["numbers.gltf"], "out", ["--pretty"], {
         "asset": {"version": "2.0", "extras": json.loads(SPELLED)}}, {}),
+    *[([name], "out", [], *in_text(value, files, *lengths))
+      for name, (value, lengths, files) in REQUIRED.items()],
 ]
 
 
@@ -382,8 +508,25 @@ def make_converted(room):
         **{f"eights{i}.gltf": json.dumps(EIGHTS | row[0]).encode()
            for i, row in enumerate(EIGHTS_LEFT)},
         "numbers.gltf": b'{"asset":{"version":"2.0","extras":' + SPELLED + b"}}",
+        **{name: json.dumps(value | {"buffers": in_buffers(*lengths)}).encode()
+           for name, (value, lengths, _) in REQUIRED.items()},
+        **{name: json.dumps(value | {"buffers": in_buffers(5, 9)}).encode()
+           for name, (value, *_) in NAMING.items()},
+        "broken.gltf": json.dumps(BROKEN).encode(),
         "taken1.bin/file": b"",
     })
+
+
+def is_shown(checked, value):
+    """Whether `gltf_show check` accepts a file of this value; where it requires an extension that
+    the loader does not support, whether it is refused for these names alone."""
+    if "extensionsRequired" in value:
+        told = checked.stderr.partition("invalid glTF: ")[2].strip().rstrip(";").split("; ")
+        return checked.returncode == 1 and all(
+            one.startswith("extensionsRequired[") for one in told)
+    counts = [len(value.get(member, [])) for member in ("buffers", "accessors")]
+    line = f"ok buffers={counts[0]} accessors={counts[1]} meshes=0 nodes=0\n"
+    return checked.stdout == line
 
 
 def converts(convert, show, room, source, flags, value, buffer):
@@ -408,10 +551,8 @@ def converts(convert, show, room, source, flags, value, buffer):
         alone.chmod(0o777)
         how["cwd"] = alone
         checked = subprocess.run([show, "check", "out.glb"], **how)
-        counts = [len(value.get(member, [])) for member in ("buffers", "accessors")]
-        line = f"ok buffers={counts[0]} accessors={counts[1]} meshes=0 nodes=0\n"
         again = subprocess.run([convert, "out.glb", "again.glb"], **how)
-        good = checked.stdout == line and again.returncode == 0
+        good = is_shown(checked, value) and again.returncode == 0
         good = good and (alone / "again.glb").read_bytes() == made
     return programs.report(convert.name, words, good, (ran, checked, again))
 
@@ -438,11 +579,9 @@ def splits(convert, show, room, source, name, flags, value, files):
             return programs.report(convert.name, words, good, ran)
         how["cwd"] = alone
         checked = subprocess.run([show, "check", f"{name}.gltf"], **how)
-        counts = [len(value.get(member, [])) for member in ("buffers", "accessors")]
-        line = f"ok buffers={counts[0]} accessors={counts[1]} meshes=0 nodes=0\n"
         again = subprocess.run([convert, f"{name}.gltf", f"{name}.gltf", *flags], **how)
         left = {file.name: file.read_bytes() for file in alone.iterdir()}
-        good = checked.stdout == line and again.returncode == 0
+        good = is_shown(checked, value) and again.returncode == 0
         good = good and left == files | {f"{name}.gltf": json_text}
         back = subprocess.run([convert, f"{name}.gltf", "back.glb"], **how)
         good = good and back.returncode == 0
@@ -528,6 +667,104 @@ def converts_box(convert, show):
     return programs.report(convert.name, ["box"], good, ran)
 
 
+# ---- Files that stand where others are to be written
+
+ONE_BUFFER = programs.document(buffers=[{"byteLength": 4, "uri": "out.bin"}])
+OTHER_BUFFER = programs.document(buffers=[{"byteLength": 4, "uri": "a.bin"}])
+WITH_IMAGE = programs.document(
+    buffers=[{"byteLength": 4, "uri": data("", b"1234")}], images=[{"uri": "out.bin"}])
+NEEDED = "out.bin: not written, in.gltf needs it; give the text another name\n"
+IS_THERE = "out.bin: is there, and no earlier out.gltf names it; --force replaces it\n"
+FORCE = ["--force"]
+# The files of a folder, and links there; the words behind the names of the file and of the text;
+# and why nothing is written, or the bytes of `out.bin` then.
+STANDING = [
+    ({"in.gltf": OTHER_BUFFER, "a.bin": b"abcd"}, {}, [], b"abcd"),
+    ({"in.gltf": OTHER_BUFFER, "a.bin": b"abcd", "out.bin": b"mine"}, {}, [], IS_THERE),
+    ({"in.gltf": OTHER_BUFFER, "a.bin": b"abcd", "out.bin": b"mine"}, {}, FORCE, b"abcd"),
+    # A text of that name stands there, which names it, or does not, or is no text.
+    ({"in.gltf": OTHER_BUFFER, "a.bin": b"abcd", "out.bin": b"mine", "out.gltf": ONE_BUFFER}, {},
+     [], b"abcd"),
+    ({"in.gltf": OTHER_BUFFER, "a.bin": b"abcd", "out.bin": b"mine", "out.gltf": OTHER_BUFFER}, {},
+     [], IS_THERE),
+    ({"in.gltf": OTHER_BUFFER, "a.bin": b"abcd", "out.bin": b"mine", "out.gltf": b"mine"}, {},
+     [], IS_THERE),
+    ({"in.gltf": OTHER_BUFFER, "a.bin": b"abcd", "out.bin": b"mine", "out.gltf": b"mine"}, {},
+     FORCE, b"abcd"),
+    # It is a file of the first one: by its name, by a link of either kind, and as an image.
+    ({"in.gltf": ONE_BUFFER, "out.bin": b"mine"}, {}, [], NEEDED),
+    ({"in.gltf": ONE_BUFFER, "out.bin": b"mine"}, {}, FORCE, NEEDED),
+    ({"in.gltf": ONE_BUFFER, "out.bin": b"mine", "out.gltf": ONE_BUFFER}, {}, FORCE, NEEDED),
+    ({"in.gltf": OTHER_BUFFER, "a.bin": b"mine"}, {"out.bin": "a.bin"}, FORCE, NEEDED),
+    ({"in.gltf": OTHER_BUFFER, "out.bin": b"mine"}, {"a.bin": "out.bin"}, FORCE, NEEDED),
+    ({"in.gltf": WITH_IMAGE, "out.bin": b"mine"}, {}, FORCE, NEEDED),
+    ({"in.gltf": WITH_IMAGE, "out.bin": b"mine"}, {}, [*FORCE, "--keep-images"], NEEDED),
+    # A link to another file is followed, as that of a text's earlier file.
+    ({"in.gltf": OTHER_BUFFER, "a.bin": b"abcd", "other": b"mine"}, {"out.bin": "other"}, [],
+     IS_THERE),
+    ({"in.gltf": OTHER_BUFFER, "a.bin": b"abcd", "other": b"mine"}, {"out.bin": "other"}, FORCE,
+     b"abcd"),
+]
+
+
+def spares(convert, files, links, flags, expected):
+    """Whether a text is written beside these files, and `out.bin` has these bytes then; or it is
+    refused so, and all is as it was."""
+    with tempfile.TemporaryDirectory() as name:
+        room = pathlib.Path(name)
+        room.chmod(0o777)
+        for file, held in files.items():
+            (room / file).write_bytes(held)
+            (room / file).chmod(0o666)
+        for link, target in links.items():
+            (room / link).symlink_to(target)
+        before = programs.state(room)
+        words = ["in.gltf", "out.gltf", *flags]
+        ran = subprocess.run([convert, *words], cwd=room, capture_output=True, text=True,
+                             preexec_fn=programs.started())
+        if isinstance(expected, str):
+            good = (ran.returncode, ran.stdout, ran.stderr) == (1, "", expected)
+            good = good and programs.state(room) == before
+        else:
+            good = (ran.returncode, ran.stderr) == (0, "")
+            good = good and (room / "out.bin").read_bytes() == expected
+    return programs.report(convert.name, words, good, (ran, files.keys()))
+
+
+def replaces_itself(convert):
+    """Whether a text may take its own place, with the files that it names, which stay what they
+    are; and whether another text takes the place of the first with its files."""
+    with tempfile.TemporaryDirectory() as name:
+        room = pathlib.Path(name)
+        room.chmod(0o777)
+        how = {"cwd": room, "capture_output": True, "text": True, "preexec_fn": programs.started()}
+        for file, held in {"out.gltf": ONE_BUFFER, "out.bin": b"mine", "a.bin": b"abcd",
+                           "in.gltf": OTHER_BUFFER}.items():
+            (room / file).write_bytes(held)
+            (room / file).chmod(0o666)
+        ran = [subprocess.run([convert, "out.gltf", "./out.gltf"], **how)]
+        good = ran[0].returncode == 0 and (room / "out.bin").read_bytes() == b"mine"
+        ran.append(subprocess.run([convert, "in.gltf", "out.gltf"], **how))
+        good = good and ran[1].returncode == 0 and (room / "out.bin").read_bytes() == b"abcd"
+    return programs.report(convert.name, ["out.gltf", "./out.gltf"], good, ran)
+
+
+def keeps_unknown(convert, room, name):
+    """Whether --keep-unknown writes what an extension names as it stands, and says where."""
+    value, place, _ = NAMING[name]
+    words = [name, "unknown.gltf", "--keep-unknown"]
+    how = {"cwd": room, "capture_output": True, "text": True, "preexec_fn": programs.started()}
+    ran = subprocess.run([convert, *words], **how)
+    text = room / "unknown.gltf"
+    written = json.loads(text.read_text("utf-8")) if text.exists() else {}
+    good = (ran.returncode == 0
+            and ran.stderr == f"{name}: {place}: written as it stands\n"
+            and {key: written.get(key) for key in value} == value)
+    for made in room.glob("unknown*"):
+        made.unlink()
+    return programs.report(convert.name, words, good, [ran])
+
+
 def main():
     with tempfile.TemporaryDirectory() as name:
         place = pathlib.Path(name)
@@ -538,8 +775,12 @@ def main():
         good = [programs.refuses(convert, room, *row) for row in NOT_CONVERTED]
         good += [converts(convert, show, room, *row) for row in CONVERTED]
         good += [splits(convert, show, room, *row) for row in SPLIT]
+        good += [keeps_unknown(convert, room, name) for name in NAMING]
         good += [converts_square(convert, show), converts_box(convert, show)]
         good.append(programs.takes_text_alone(convert, room))
+        good += outside.converts(convert, place / "outside")
+        good += [spares(convert, *row) for row in STANDING]
+        good.append(replaces_itself(convert))
     print(f"{sum(good)} passed, {len(good) - sum(good)} failed")
     return 0 if all(good) else 1
 

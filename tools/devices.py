@@ -238,10 +238,18 @@ def is_looked_at(call, got, fails, buffers):
 
 
 def from_device(call, room):
-    """A buffer of four bytes in a device without end is a failed read, in little memory."""
-    got = ran(call, call.on("endless.gltf"), room, {"memory": SOME_MEMORY})
+    """A buffer of four bytes in a device without end is a failed read, in little memory. `inspect`
+    does not open it but where it is told to."""
+    outside = [] if "check" in call.words else ["--outside"]
+    got = ran(call, [*call.on("endless.gltf"), *outside], room, {"memory": SOME_MEMORY})
     good = is_looked_at(call, got, "/dev/zero", 1)
     RESULTS.row(f"{call.shown} of a buffer in /dev/zero", good, got)
+    if outside:
+        got = ran(call, call.on("endless.gltf"), room, {"memory": SOME_MEMORY})
+        good = got.stderr.startswith(b"endless.gltf: /dev/zero: ") and got.stderr.count(b"\n") == 1
+        got.stderr = b""
+        good = good and is_looked_at(call, got, "/dev/zero", 1)
+        RESULTS.row(f"{call.shown} of a buffer in /dev/zero, which is outside", good, got)
 
 
 def from_named_pipe(call, room):

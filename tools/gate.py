@@ -41,6 +41,7 @@ PARTS = (
     ["python3", "tools/conversions.py"],
     ["python3", "tools/findings.py"],
     ["python3", "tools/budgets.py"],
+    ["python3", "tools/pages.py"],
     ["python3", "tools/devices.py"],
     ["python3", "tools/memory.py"],
     LIBRARY,

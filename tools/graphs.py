@@ -63,6 +63,18 @@ ROWS += [
      apart(0, 1) + [("DUPLICATE_ELEMENTS", "/skins/1/joints/1")]),
 ]
 
+# Joints on loops, and below them: where one leads to a loop, nothing is found of the common root.
+ROWS += [
+    *((nodes(*RING, ROOTED, {"children": [5]}, ROOTED, **skins(joints)), loops(0, 1, 2))
+      for joints in ([0, 1], [0, 1, 2], [0, 3], [3, 0], [0, 3, 5], [3, 5, 0])),
+    (nodes(*RING, ROOTED, {"children": [5]}, ROOTED, **skins([3, 5], [4, 5], [5, 3])),
+     loops(0, 1, 2) + apart(0, 2)),
+    (nodes({"children": [1]}, {"children": [2, 3]}, {"children": [1]}, ROOTED, ROOTED,
+           **skins([3, 4], [4, 3])),
+     loops(1, 2) + [("NODE_PARENT_OVERRIDE", "/nodes/2/children/0")]),
+    (nodes({"children": [0, 1]}, ROOTED, ROOTED, **skins([1, 2], [0, 2], [0, 1])), loops(0)),
+]
+
 FORK = [{"children": [1, 2]}, {"children": [3]}, ROOTED, {"children": [4]}, ROOTED]
 # The skeleton is each joint or above it.
 ROWS += [
@@ -95,24 +107,21 @@ def is_on_loop(parents, node):
     return any(parents[above] == node for above in way(parents, node))
 
 
-def end(parents, node):
-    """Where 2 ** 64 steps to the parent lead: to the root, or to a node of the loop."""
-    met = way(parents, node)
-    back = parents[list(met)[-1]]
-    if back is None:
-        return list(met)[-1]
-    loop = list(met)[met[back]:]
-    return loop[(2 ** 64 - met[back]) % len(loop)]
+def root(parents, node):
+    """The root above a node, or the node itself; None where the steps lead to a loop."""
+    last = list(way(parents, node))[-1]
+    return last if parents[last] is None else None
 
 
 def found(parents, *skins):
-    """What is found. Skeletons are judged where no node is on a loop, but one that is its own
-    child."""
+    """What is found. Joints are judged where none of them leads to a loop, skeletons where no node is
+    on a loop, but one that is its own child."""
     on_loop = [node for node in range(len(parents)) if is_on_loop(parents, node)]
     judged = all(parents[node] == node for node in on_loop)
     them = loops(*on_loop)
     for i, (joints, above) in enumerate(skins):
-        if len({end(parents, joint) for joint in joints}) > 1:
+        roots = {root(parents, joint) for joint in joints}
+        if None not in roots and len(roots) > 1:
             them += apart(i)
         if above >= len(parents):
             them += past(i)
@@ -187,7 +196,7 @@ ROWS += [
     *in_three_orders(joined(*(ring_with_tails(n) for n in (3, 2, 5, 9, 16)), [None, 0, 1]),
                      ([0, 8], 0), ([90, 89], 88), ([88], 90), ([20], 5), ([5], 20), ([0], 91)),
     *in_three_orders(joined(ring(3), ring(3), ring(6)), ([0, 3], 6), ([0, 6], 0), ([6, 9], 9)),
-    # A node that is its own child is a root.
+    # A node that is its own child.
     *in_three_orders(joined([0, 0, 1], [None, 0]), ([2, 1], 0), ([2], 3), ([0], 1), ([4], 3)),
     *in_three_orders(joined([0, 0, 1], ring(3)), ([2, 1], 0), ([2], 3), ([0], 1)),
     # Trees.

@@ -65,7 +65,7 @@ def ran(*words, **how):
 def help_of(program):
     """The text that a program prints where its words make no call, as its source has it."""
     source = (TOP / "crates" / program / "src" / "refusal.rt").read_text("utf-8")
-    more = r'(?:\)\?;\s+write!\(f, "[^"]*")*'
+    more = r'(?:\s*\)\?;\s+write!\(\s*f,\s*"[^"]*")*'
     found = re.search(rf'"(usage: .*?)"({more})', source, re.DOTALL)
     return found[1] + "".join(re.findall(r'"([^"]*)"', found[2]))
 
@@ -143,23 +143,32 @@ COMPLETED = [
     (["gltf_show", "indices", "box.glb", ""], []),
     (["gltf_show", "inspect", ""], FILES),
     (["gltf_show", "inspect", "box.glb", "s"], ["scene.gltf"]),
-    (["gltf_show", "inspect", "-"], ["--html", "--json", "--no-files", "--pretty"]),
-    (["gltf_show", "inspect", "--json", "--"], ["--no-files", "--pretty"]),
-    (["gltf_show", "inspect", "box.glb", "--html", "--"], ["--no-files"]),
+    (["gltf_show", "inspect", "-"], ["--html", "--json", "--no-files", "--outside", "--pretty"]),
+    (["gltf_show", "inspect", "--json", "--"], ["--no-files", "--outside", "--pretty"]),
+    (["gltf_show", "inspect", "box.glb", "--html", "--"], ["--no-files", "--outside"]),
+    (["gltf_show", "inspect", "box.glb", "--html", "--outside", "--"], []),
     (["gltf_show", "nothing", ""], []),
     (["gltf_repack", ""], FILES),
     (["gltf_repack", "scene.gltf", "b"], ["box.glb"]),
     (["gltf_repack", "scene.gltf", "box.glb", ""], []),
     (["gltf_convert", ""], FILES),
     (["gltf_convert", "scene.gltf", ""], FILES),
-    (["gltf_convert", "scene.gltf", "box.glb", ""], ["--keep-images"]),
-    (["gltf_convert", "scene.gltf", "box.glb", "--keep-images", ""], []),
+    (["gltf_convert", "scene.gltf", "box.glb", ""],
+     ["--keep-images", "--keep-unknown", "--outside"]),
+    (["gltf_convert", "scene.gltf", "box.glb", "--keep-images", ""],
+     ["--keep-unknown", "--outside"]),
+    (["gltf_convert", "scene.gltf", "box.glb", "--keep-images", "--outside", "--keep-unknown", ""],
+     []),
     (["gltf_convert", "box.glb", "scene.gltf", ""],
-     ["--drop-image-views", "--keep-images", "--pretty"]),
+     ["--drop-image-views", "--force", "--keep-images", "--keep-unknown", "--outside", "--pretty"]),
     (["gltf_convert", "box.glb", "scene.gltf", "--pretty", ""],
-     ["--drop-image-views", "--keep-images"]),
-    (["gltf_convert", "box.glb", "scene.gltf", "--drop-image-views", ""], ["--pretty"]),
-    (["gltf_convert", "box.glb", "scene.gltf", "--keep-images", "--pretty", ""], []),
+     ["--drop-image-views", "--force", "--keep-images", "--keep-unknown", "--outside"]),
+    (["gltf_convert", "box.glb", "scene.gltf", "--drop-image-views", ""],
+     ["--force", "--keep-unknown", "--outside", "--pretty"]),
+    (["gltf_convert", "box.glb", "scene.gltf", "--keep-images", "--pretty", ""],
+     ["--force", "--keep-unknown", "--outside"]),
+    (["gltf_convert", "box.glb", "scene.gltf", "--keep-images", "--pretty", "--force", "--"],
+     ["--keep-unknown", "--outside"]),
 ]
 # Calls the function that `complete` names for the first word, as bash calls it.
 COMPLETE = r"""

@@ -141,6 +141,8 @@ A_SIZE = "wanted a whole number from 0 to 18446744073709551615"
 AN_INDEX = "wanted a whole number from 0 to 4294967295"
 PRIMITIVE = "/meshes/0/primitives/0"
 VARIANTS = "extensions/KHR_materials_variants"
+# Control characters and a separator of lines in a text, as reports show them.
+FORGED = r"\u000aerror\u007f\u0085\u2028B"
 # Files with a value of the wrong kind: the code and its pointer, the loader's name of the place,
 # and what was found and wanted.
 KINDS = {
@@ -165,6 +167,9 @@ KINDS = {
     "slash.gltf": (primitive(attributes={"_A/B~": "x"}), MEMBER,
                    f"{PRIMITIVE}/attributes/_A~1B~0",
                    'meshes[0].primitives[0].attributes["_A/B~"]', f"a string, {AN_INDEX}"),
+    "forged.gltf": (primitive(attributes={"_A\nerror\x7f\x85\u2028B": "x"}), MEMBER,
+                    f"{PRIMITIVE}/attributes/_A{FORGED}",
+                    f'meshes[0].primitives[0].attributes["_A{FORGED}"]', f"a string, {AN_INDEX}"),
     "drawn.gltf": (primitive(indices={}), MEMBER, f"{PRIMITIVE}/indices",
                    "meshes[0].primitives[0].indices", f"an object, {AN_INDEX}"),
     "version.gltf": (b'{"asset":{"version":2}}', MEMBER, "/asset/version", "asset.version",
@@ -272,6 +277,8 @@ def shown(room):
         "--dashed.gltf": document(),
         "extended.gltf": document(**USED),
         "named.gltf": document(materials=[{"name": "a\tb</script>"}]),
+        "of\ntwo lines.gltf": document(),
+        "unsourced.gltf": document(textures=[{}]),
     }
     files |= {name: contents for name, (contents, *_) in KINDS.items()}
     for name in ("missing", "folder", "locked", LONG):
@@ -280,7 +287,8 @@ def shown(room):
 
 
 USAGE = ("usage: gltf_show chunks PATH | check PATH | indices PATH MESH PRIMITIVE | "
-         "inspect PATH.. [--json [--pretty]] [--no-files] | inspect PATH --html [--no-files]\n")
+         "inspect PATH.. [--json [--pretty]] [--no-files|--outside] | "
+         "inspect PATH --html [--no-files|--outside]\n")
 FIRST = "this is a glTF 1.0 file; glTF 2.0 is supported\n"
 DANGLING = ("invalid glTF: nodes[0].mesh: Index out of bounds; "
             "nodes[0].skin: Index out of bounds;\n")
@@ -474,10 +482,16 @@ def of_indices(name, *found, infos=0, mode="TRIANGLES"):
     return (["inspect", name], 1 if len(found) > infos else 0, text, "")
 
 
+# A file that breaks no rule, and that is not loaded.
+UNSOURCED = ("unsourced.gltf\nFINDINGS  errors: 0, warnings: 1, infos: 0, hints: 0\n"
+             "warning MEMBER_NEEDED_BY_READER /textures/0/source The standard lets this member be "
+             "absent, and this reader does not load a file without it.\n"
+             "refused: textures[0].source: missing member\n")
+
 # Extensions that a file uses, one of which is required.
 USED = {"extensionsUsed": ["KHR_materials_unlit", "KHR_materials_sheen", "STUDIO"],
         "extensionsRequired": ["KHR_materials_unlit"]}
-UNREAD = [("UNSUPPORTED_EXTENSION", f"/extensionsUsed/{i}") for i in (1, 2)]
+UNREAD = [("UNSUPPORTED_EXTENSION", "/extensionsUsed/2")]
 EXTENDED = "EXTENSIONS\n# name                required read\n" \
     "0 KHR_materials_unlit true     document\n" \
     "1 KHR_materials_sheen false    handles\n" \
@@ -519,6 +533,8 @@ SHOWS += [
     *(single(name, code, pointer, f"{place}: wrong kind", kinds)
       for name, (_, code, pointer, place, kinds) in KINDS.items()),
     single("long.gltf", MEMBER, "", ": wrong kind"),
+    (["inspect", "unsourced.gltf"], 0, UNSOURCED, ""),
+    (["check", "unsourced.gltf"], 1, "", "textures[0].source: missing member\n"),
     (["inspect", "--no-files", "list.gltf"], 1,
      told("list.gltf", (MEMBER, "/nodes", "an object, wanted a list"), refused="nodes: wrong kind"),
      ""),
@@ -527,7 +543,7 @@ SHOWS += [
      + told_json("kind.glb", (MEMBER, "/scene", f"a string, {AN_INDEX}")), ""),
     (["inspect", "--html", "null.gltf"], 1,
      Holds(f"<td>/nodes/0<td>{says(ELEMENT, 'null, wanted an object')}"), ""),
-    (["inspect", "short.gltf"], 1,
+    (["inspect", "--outside", "short.gltf"], 1,
      told("short.gltf", ("BUFFER_BYTE_LENGTH_MISMATCH", "/buffers/0"), *unused("/buffers/0"),
           infos=1), ""),
     (["inspect", "blobless.gltf"], 1,
@@ -552,10 +568,11 @@ SHOWS += [
     of_indices("thin.gltf", ("ACCESSOR_INDEX_TRIANGLE_DEGENERATE", INDICES), infos=1),
     of_indices("strip.gltf", mode="TRIANGLE_STRIP"),
     (["inspect", "extended.gltf"], 0,
-     told("extended.gltf", *UNREAD, infos=2, holds=tables(EXTENSIONS=EXTENDED)), ""),
+     told("extended.gltf", *UNREAD, infos=1, holds=tables(EXTENSIONS=EXTENDED)), ""),
     (["inspect", "--json", "extended.gltf"], 0,
-     told_json("extended.gltf", *UNREAD, infos=2, info=EXTENDED_INFO), ""),
+     told_json("extended.gltf", *UNREAD, infos=1, info=EXTENDED_INFO), ""),
     (["inspect", "--", "--dashed.gltf"], 0, told("--dashed.gltf", holds=tables()), ""),
+    (["inspect", "of\ntwo lines.gltf"], 0, told(r"of\u000atwo lines.gltf", holds=tables()), ""),
     (["inspect", "--json", "--", "empty.gltf", "--dashed.gltf"], 0,
      told_json("empty.gltf", info=INFO) + told_json("--dashed.gltf", info=INFO), ""),
     (["check", "--", "--dashed.gltf"], 0, "ok buffers=0 accessors=0 meshes=0 nodes=0\n", ""),
@@ -565,6 +582,8 @@ SHOWS += [
     (["inspect", "--jason", "empty.gltf"], 2, "", f"--jason: no such option\n{USAGE}"),
     (["inspect", "--html", "a", "b"], 2, "", f"--html: one file at a time\n{USAGE}"),
     (["inspect", "--html", "--json", "a"], 2, "", f"--html: not with --json or --pretty\n{USAGE}"),
+    (["inspect", "--no-files", "--outside", "a"], 2, "",
+     f"--outside: not with --no-files\n{USAGE}"),
     (["inspect", "--pretty", "a"], 2, "", f"--pretty: only with --json\n{USAGE}"),
 ]
 

@@ -7,7 +7,10 @@ usage: cases.py            writes data/texts.txt, args and stdout
 
 For each record of the tables there is a text with all its members, in their order and in the other
 one, and one for each member: twice, null, absent, of a wrong kind, with an escape in its name, and
-with the numbers at the bounds of its kind. A last part has texts that are no JSON text, and depths.
+with the numbers at the bounds of its kind. Each pair of its members has two faults, in both orders of
+the text: that of the upper row is told, as of two items of a list that of the first, and what is
+wrong inside a member before what is wrong in the next row. A last part has texts that are no JSON
+text, depths, and texts that are long.
 What is printed is what the tables say of the text, and no answer of the program."""
 import json
 import pathlib
@@ -102,11 +105,10 @@ def rows(members):
     short = {"N": "name text?", "X": "extensions object?", "E": "extras any?"}
     parts = []
     for part in members.split(";"):
-        words = part.split()
+        words, shared = part.split(), []
         while words and words[-1] in short:
-            parts.append(short[words.pop()])
-        if words:
-            parts.append(" ".join(words))
+            shared.insert(0, short[words.pop()])
+        parts += [" ".join(words)] * bool(words) + shared
     found = []
     for part in parts:
         names, _, kind = part.partition(" ") if "," not in part else part.rpartition(" ")
@@ -228,8 +230,48 @@ class Texts:
                 for value in ("0", str(most)):
                     self.add(text([*others, (member, value)]), SAME)
 
+    def pairs(self, record):
+        """Texts of a record with two faults each: of the rows of its table the upper one is told."""
+        around, path = self.place(record)
+        table = self.tables[record]
+        needed = [(m, self.value(record, m, k)) for m, k, is_needed in table if is_needed]
+
+        def told(members, member, fault):
+            text = around.replace("%s", "{%s}" % ",".join(f'"{m}":{v}' for m, v in members))
+            self.add(text, f"tree: {'.'.join(filter(None, [path, member]))}: {fault}")
+
+        for place, (upper, kind, is_needed) in enumerate(table):
+            for lower, lower_kind, is_lower_needed in table[place + 1 :]:
+                others = [row for row in needed if row[0] not in (upper, lower)]
+                below = self.wrong(lower_kind)[-1:]
+                for value, step in self.wrong(kind)[-1:]:
+                    for wrong, _ in below:
+                        two = [(upper, value), (lower, wrong)]
+                        told([*others, *two], upper + step, "wrong kind")
+                        told([*two[::-1], *others], upper + step, "wrong kind")
+                    if is_lower_needed:
+                        told([*others, (upper, value)], upper + step, "wrong kind")
+                for wrong, _ in below:
+                    if is_needed:
+                        told([(lower, wrong), *others], upper, "missing member")
+            if kind == "list(rec)":
+                self.items(record, upper, [row for row in needed if row[0] != upper], told)
+
+    def items(self, record, member, others, told):
+        """Lists of records with two faults: the first item is told, and inside it its first fault."""
+        good = self.whole(held(record, member))
+        inner = [(m, *self.wrong(k)[-1]) for m, k, _ in self.tables[held(record, member)]
+                 if self.wrong(k)]
+        for name, value, step in inner[:1]:
+            bad = "{%s}" % f'"{name}":{value}'
+            told([*others, (member, f"[{bad},1]")], f"{member}[0].{name}{step}", "wrong kind")
+            told([*others, (member, f"[1,{bad}]")], f"{member}[0]", "wrong kind")
+            told([*others, (member, f"[{good},{bad},1]")], f"{member}[1].{name}{step}",
+                 "wrong kind")
+        told([*others, (member, f"[{good},1,[]]")], f"{member}[1]", "wrong kind")
+
     def broken(self):
-        """Texts that are no JSON text, and depths."""
+        """Texts that are no JSON text, depths, and long texts."""
         good = '{"asset":{"version":"2.0"}}'
         for text in ("", "{", good[:-1], good + "}", good + " x", good + ",", "[" + good,
                      '{"asset":{"version":"2.0"},}', '{"asset":{"version":"2.0",}}',
@@ -248,14 +290,26 @@ class Texts:
         for text in ("1", '"a"', "[]", "null", "true"):
             self.add(text, "tree: : wrong kind")
         # 127 arrays and objects may stand in one another (the default of serde_json).
-        for levels in (125, 126, 127, 128):
-            inside = "[" * (levels - 1) + "]" * (levels - 1)
-            text = '{"asset":{"version":"2.0"},"extras":%s}' % inside
-            self.add(text, SAME if levels <= 127 else NO_TEXT)
+        for levels in (125, 126, 127, 128, 129):
+            for opening, closing in (("[", "]"), ('{"a":', "}")):
+                inside = opening * (levels - 2) + "[]" + closing * (levels - 2)
+                for text in ('{"asset":{"version":"2.0"},"extras":%s}' % inside,
+                             '{"asset":{"version":"2.0"},"unknown":%s}' % inside):
+                    self.add(text, SAME if levels <= 127 else NO_TEXT)
+        # A fault of a record behind much text, before it, and a text that is cut off there.
+        for size in (100, 5_000, 70_000, 140_000):
+            long = '"unknown":[%s"a"]' % ('"\\u00e9 b",' * (size // 10))
+            self.add('{"asset":{"version":"2.0"},%s}' % long, SAME)
+            self.add('{"asset":{"version":"2.0"},%s,"scene":"a"}' % long, "tree: scene: wrong kind")
+            self.add('{"scene":"a",%s,"asset":{"version":"2.0"}}' % long, "tree: scene: wrong kind")
+            self.add('{"scene":"a",%s,"asset":{}}' % long, "tree: asset.version: missing member")
+            self.add('{"asset":{"version":"2.0"},%s,"scene":0' % long, NO_TEXT)
 
     def all(self):
         for record in PLACES:
             self.record(record)
+        for record in PLACES:
+            self.pairs(record)
         self.broken()
         return self.lines
 

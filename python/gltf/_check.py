@@ -27,7 +27,8 @@ def check(source: Source) -> Dict[str, Any]:
 
     It is in the layout of the Khronos validator: `issues` with `numErrors`, `numWarnings`,
     `numInfos`, `numHints` and `messages`, each with `code`, `severity` (0 is an error), `pointer`
-    and `message`. Without an error the file opens. Raises OSError where the file cannot be read.
+    and `message`. Without an error the file opens. A buffer outside the folder of the file is not
+    read, which is an error. Raises OSError where the file cannot be read.
     """
     if isinstance(source, (str, os.PathLike)):
         return _report(os.fspath(source))

@@ -5,6 +5,7 @@ pub mod Once
 pub mod WithBuffers
 pub mod Files
 pub mod Readers
+pub mod Room
 mod Imported
 mod OfBytes
 mod Vertices

@@ -1,4 +1,5 @@
 pub mod Errors
+pub mod Room
 pub mod Shown
 pub mod Import
 pub mod Laws

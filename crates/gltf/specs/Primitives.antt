@@ -12,6 +12,7 @@ use Rattle.gltf_data.specs.declared.accessor_iter.Iter.{Iter}
 use Rattle.gltf_casting.specs.Indices.{cast_indices}
 use Rattle.gltf_casting.specs.declared.indices.ReadIndices.{ReadIndices}
 use Rattle.gltf_read.specs.Indices.{AreIndices}
+use Rattle.gltf_read.specs.Kinds.{OfKind, three_floats, indices}
 use Rattle.gltf_read.specs.Members.{attribute_at, indices_at}
 use Rattle.gltf_read.specs.Reading.{AreItems, ComesAs, IsMember}
 
@@ -25,15 +26,18 @@ abbrev pub counted_indices : ReadIndices → CountedItems ℕ
 counted_indices indices = cast_indices (λ i. i) (λ i. i) (λ i. i) indices
 
 -- the positions of primitive p of mesh m, by what is answered for each buffer: the items of the
--- accessor that it names for them; none where there is no such primitive, or it names none
+-- accessor that it names for them, which are three floats each; none where there is no such
+-- primitive, where it names none, or where they are of another type
 abbrev pub PositionsAt : {X : Type 0} → {t : Ghosts X} → ℕ → ℕ → Root → (ℕ → Option (List ℕ))
     → Option (Iter X t) → Type 0
 PositionsAt m p r answer result =
-    IsMember AreItems r answer (attribute_at r m p attributes.Positions) result
+    IsMember (OfKind three_floats AreItems) r answer (attribute_at r m p attributes.Positions) result
 
--- its indices: the items of the accessor that it names for them, by the type of components
+-- its indices: the items of the accessor that it names for them, which are one unsigned integer
+-- each, by the type of components
 abbrev pub IndicesAt : ℕ → ℕ → Root → (ℕ → Option (List ℕ)) → Option ReadIndices → Type 0
-IndicesAt m p r answer result = IsMember AreIndices r answer (indices_at r m p) result
+IndicesAt m p r answer result =
+    IsMember (OfKind indices AreIndices) r answer (indices_at r m p) result
 
 -- the same in lists
 abbrev pub PositionListAt : {X : Type 0} → Ghosts X → ℕ → ℕ → Root → (ℕ → Option (List ℕ))

@@ -53,8 +53,7 @@ pub fn import_slice(alloc: Global, bytes: &[u8]) -> Result<(Document, Vec<Data>)
 ///
 /// The answer is that of [`import_slice`] over the bytes of the file, with the bytes that the
 /// source gives for the names. [`gltf_glb::Error::Io`] says that the source failed at the last name
-/// that was asked for; each other answer says that it failed at none. The bytes of the file are
-/// handed on, so that a blob is not copied.
+/// that was asked for; each other answer says that it failed at none.
 pub fn import_from<S: NamedBytes>(
     alloc: Global,
     source: &mut S,

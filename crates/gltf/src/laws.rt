@@ -14,6 +14,7 @@ ghost use Rattle.gltf_json_geometry.specs.declared.semantic.Semantic.TheVariants
 ghost use Rattle.gltf_read.specs.Colors.{AreColors};
 ghost use Rattle.gltf_read.specs.Indices.{AreIndices};
 ghost use Rattle.gltf_read.specs.Joints.{AreJoints};
+ghost use Rattle.gltf_read.specs.Kinds.{OfKind, three_floats, indices};
 ghost use Rattle.gltf_read.specs.Members.{attribute_at, indices_at, displacements_at, matrices_at};
 ghost use Rattle.gltf_read.specs.Members.{input_at, output_at, property_at};
 ghost use Rattle.gltf_read.specs.Outputs.{AreOutputs};
@@ -28,7 +29,8 @@ use gltf_items::{F32, Item};
 use gltf_json::laws::what_shows_the_same_is_alike_in_each_member;
 use gltf_read::laws::{
     colors_are_alike, indices_are_alike, items_are_alike, joints_are_alike, outputs_are_alike,
-    readings_of_one_value_have_the_same_indices, tex_coords_are_alike, weights_are_alike,
+    readings_of_one_value_have_the_same_indices, tex_coords_are_alike, typed_indices_are_alike,
+    typed_items_are_alike, weights_are_alike,
 };
 
 /// The bytes of a file have one JSON text, and one blob at most.
@@ -66,6 +68,21 @@ pub fn primitives_are_of_the_bytes()
     joints_are_alike();
     tex_coords_are_alike();
     weights_are_alike();
+}
+
+/// The same of positions and indices of the types that the standard has for them.
+pub fn typed_primitives_are_of_the_bytes()
+    ensures positions { (m p : ℕ)
+        → IsOfBytes (λ r. OfKind three_floats (AreItems {t = ⟦<[F32; 3] as Item>⟧}))
+        (λ r. attribute_at r m p attributes.Positions) }
+    ensures indices { (m p : ℕ) → IsOfBytes (λ r. OfKind indices AreIndices)
+        (λ r. indices_at r m p) }
+{
+    one_reading();
+    what_shows_the_same_is_alike_in_each_member();
+    readings_of_one_value_have_the_same_indices();
+    typed_items_are_alike::<[F32; 3]>();
+    typed_indices_are_alike();
 }
 
 /// What is read of morph target t of primitive p of mesh m.

@@ -1,6 +1,7 @@
 //! The layers of a document over its bytes, which are lent or given up. What is lent is copied
 //! where it has to be owned; what is given up is handed on.
-ghost use Rattle.std.specs.Prelude.{◌≡◌, ◌≢◌, ℕ, List, Option, IfOk, IfErr};
+ghost use Rattle.std.specs.Prelude.{◌≡◌, ◌≢◌, ℕ, List, Option, IfOk, IfErr, IfSome};
+ghost use Rattle.std.specs.Prelude.{◌+◌, ◌<◌, ◌≤◌, ◌^◌, length, vec_capacity};
 ghost use Rattle.std.specs.Cow.{cow_slice_items};
 ghost use Rattle.gltf_glb.specs.Glb.{items_of, IsTakenFrom, RefusesOrRunsOut};
 ghost use Rattle.gltf_glb.specs.declared.error.Error.TheVariants.{Memory};
@@ -8,6 +9,7 @@ ghost use Rattle.gltf.specs.Errors.{OutOfMemoryOr};
 ghost use Rattle.gltf.specs.Import.{AreParts, IsDocument, IsValidDocument};
 ghost use Rattle.gltf.specs.Import.{IsOnlyDocument, IsNoDocument, IsNoValidDocument};
 ghost use Rattle.gltf.specs.Import.{RefusesContainer, RefusesRecords, RefusesDocument};
+ghost use Rattle.gltf.specs.Room.{StaysInRoom, IsInRoomOf, KeepsRoom};
 ghost use Rattle.gltf.specs.Shown.{blob_bytes};
 
 use crate::document::{Document, RawDocument};
@@ -30,6 +32,7 @@ pub(crate) fn document_of(
     ensures refused { IfErr result (OutOfMemoryOr (RefusesDocument (cow_slice_items bytes.entry))) }
     ensures exact { IfErr result (λ e. e ≢ Memory
         → IsNoValidDocument (cow_slice_items bytes.entry)) }
+    ensures moved { IfOk result (λ read. IfSome read.1 (IsInRoomOf bytes.entry)) }
 {
     // A law that the proof stands on; the call does nothing.
     what_shows_the_same_breaks_the_same_rules();
@@ -51,6 +54,7 @@ pub(crate) fn raw_document_of(
     ensures refused { IfErr result (OutOfMemoryOr (RefusesRecords (cow_slice_items bytes.entry))) }
     ensures exact { IfErr result
         (λ e. e ≢ Memory → IsNoDocument (cow_slice_items bytes.entry)) }
+    ensures moved { IfOk result (λ read. IfSome read.1 (IsInRoomOf bytes.entry)) }
 {
     let (root, blob) = root_of(alloc, bytes)?;
     let blob = owned_blob(alloc, blob)?;
@@ -66,15 +70,20 @@ fn root_of(alloc: Global, bytes: CowSlice<'_, u8>) -> Result<(Root, Option<CowSl
     ensures refused { IfErr result (OutOfMemoryOr (RefusesRecords (cow_slice_items bytes.entry))) }
     ensures exact { IfErr result
         (λ e. e ≢ Memory → IsNoDocument (cow_slice_items bytes.entry)) }
+    ensures moved { IfOk result (λ read. IfSome read.1 (StaysInRoom bytes.entry)) }
 {
-    let (text, blob) = parts_of(alloc, bytes)?;
+    let (text, blob) = text_and_blob_of(alloc, bytes)?;
     let root = deserialize::from_slice(alloc, text.as_slice())?;
     Ok((root, blob))
 }
 
-/// The JSON text and the blob.
+/// [`text_and_blob`] of bytes that are lent or given up. Of a container that is given up the text is
+/// copied, and the blob is handed on in the room that the bytes had.
+///
+/// Returns [`Error::Binary`](crate::Error::Binary) where the bytes begin with `glTF` and are no
+/// container, or [`Error::Memory`](crate::Error::Memory).
 #[tactic(auto, unfolding(crate::specs::Import::AreParts))]
-fn parts_of(
+pub fn text_and_blob_of(
     alloc: Global,
     bytes: CowSlice<'_, u8>,
 ) -> Result<(CowSlice<'_, u8>, Option<CowSlice<'_, u8>>)>
@@ -88,6 +97,7 @@ fn parts_of(
     ensures exact { IfErr result (λ e. e ≢ Memory
         → (text : List ℕ) (blob : Option (List ℕ))
         → AreParts (cow_slice_items bytes.entry) text blob → ⊥) }
+    ensures moved { IfOk result (λ parts. IfSome parts.1 (StaysInRoom bytes.entry)) }
 {
     if bytes.as_slice().starts_with(b"glTF") {
         let glb = container_of(alloc, bytes)?;
@@ -124,6 +134,7 @@ pub fn text_and_blob(bytes: &[u8]) -> Result<(CowSlice<'_, u8>, Option<CowSlice<
 fn container_of(alloc: Global, bytes: CowSlice<'_, u8>) -> Result<Glb<'_>>
     ensures parts { IfOk result (IsTakenFrom (cow_slice_items bytes.entry)) }
     ensures fault { IfErr result (RefusesOrRunsOut (cow_slice_items bytes.entry)) }
+    ensures moved { IfOk result (λ glb. IfSome glb.bin (StaysInRoom bytes.entry)) }
 {
     match bytes {
         CowSlice::Borrowed(bytes) => Glb::from_slice(bytes),
@@ -131,9 +142,11 @@ fn container_of(alloc: Global, bytes: CowSlice<'_, u8>) -> Result<Glb<'_>>
     }
 }
 
-/// The blob, owned. What is lent is copied, with room for the zeros that may follow it.
+/// The blob, owned. What is lent is copied, with room for the zeros that may follow it; what is
+/// given up is handed on as it is.
 pub fn owned_blob(alloc: Global, blob: Option<CowSlice<'_, u8>>) -> Result<Option<Vec<u8>>>
     ensures ok { IfOk result (λ copy. blob_bytes copy ≡ items_of blob.entry) }
+    ensures room { IfOk result (KeepsRoom blob.entry) }
     ensures refused { IfErr result (λ e. e ≡ Memory) }
 {
     match blob {
@@ -145,7 +158,9 @@ pub fn owned_blob(alloc: Global, blob: Option<CowSlice<'_, u8>>) -> Result<Optio
 
 /// A copy that is made once: there is room for the zeros that may follow a blob.
 fn copied(alloc: Global, blob: &[u8]) -> Result<Vec<u8>, AllocError>
-    ensures { IfOk result (λ copy. copy.items ≡ blob.now) }
+    ensures items { IfOk result (λ copy. copy.items ≡ blob.now) }
+    ensures room { IfOk result (λ copy. length blob.now + 3 < 2 ^ 64
+        → length blob.now + 3 ≤ vec_capacity copy) }
 {
     let mut copy = Vec::with_capacity(alloc, blob.len().saturating_add(3))?;
     copy.extend_from_slice(blob)?;

@@ -28,7 +28,7 @@ pub use gltf_glb::{Error, Glb, Result};
 pub use gltf_look::{camera, image, khr_lights_punctual};
 pub use gltf_material::material;
 pub use gltf_names::{Folder, Name, NamedBytes, NamedFault, Shelf};
-pub use gltf_read::{animation, mesh, skin};
+pub use gltf_read::{animation, mesh, skin, typed};
 pub use gltf_rules::{Records, Refused, Valid};
 pub use gltf_scene::scene;
 pub use image::Image;
@@ -37,10 +37,11 @@ pub use imports::{
     import_each_buffer_from, import_from, import_slice,
 };
 pub use items::{imported_items, read_items};
-pub use layers::{owned_blob, text_and_blob};
+pub use layers::{owned_blob, text_and_blob, text_and_blob_of};
 pub use material::Material;
 pub use mesh::{Attribute, Mesh, Primitive, Semantic};
 pub use primitives::{imported_indices, imported_positions, read_indices, read_positions};
+pub use reading::read_file;
 pub use scene::{Node, Scene};
 pub use skin::Skin;
 pub use texture::Texture;

@@ -22,22 +22,23 @@ use crate::accessor::Item;
 use crate::buffer::{Buffer, Data, bytes_of};
 use crate::document::Document;
 use crate::imports::import_slice;
-use crate::laws::primitives_are_of_the_bytes;
+use crate::laws::typed_primitives_are_of_the_bytes;
 use crate::listing::{listed, listed_indices};
+use crate::mesh::Primitive;
 use crate::mesh::util::{ReadIndices, ReadPositions};
-use crate::mesh::{Primitive, Reader};
 use gltf_glb::Result;
 use gltf_items::F32;
-use gltf_read::laws::{items_are_by_answers, tables_are_by_answers};
+use gltf_read::laws::{typed_indices_are_by_answers, typed_items_are_by_answers};
+use gltf_read::typed;
 use std::alloc::Global;
 
 /// The positions of the vertices of a primitive, over the bytes of its document's buffers:
 /// `POSITION`, three numbers each, in metres. Both indices count from 0, that of the mesh in the
 /// document and that of the primitive in its mesh.
 ///
-/// None where there is no such mesh or primitive, where the primitive has no such attribute, or
-/// where its accessor cannot be read over these buffers, as [`crate::accessor::Iter::new`] says. It
-/// takes no memory.
+/// None where there is no such mesh or primitive, where the primitive has no such attribute, where
+/// its accessor has items of another type than three floats, or where it cannot be read over these
+/// buffers, as [`crate::accessor::Iter::new`] says. It takes no memory.
 pub fn imported_positions<'s>(
     document: &Document,
     buffers: &'s [Data],
@@ -51,16 +52,16 @@ pub fn imported_positions<'s>(
 {
     let bytes = |buffer: Buffer| bytes_of(buffers, buffer);
     // A law that the proof stands on; the call does nothing.
-    items_are_by_answers::<[F32; 3], _>(&bytes);
+    typed_items_are_by_answers::<[F32; 3], _>(&bytes);
     let primitive = primitive_of(document, mesh, primitive)?;
-    Reader::new(&primitive, &bytes).read_positions()
+    typed::read_positions(&primitive, &bytes)
 }
 
 /// The indices of the vertices of a primitive, over the bytes of its document's buffers: `indices`,
 /// of one, two or four bytes each.
 ///
-/// None as with [`imported_positions`], so also where the primitive has no indices. It takes no
-/// memory.
+/// None as with [`imported_positions`], so also where the primitive has no indices, or where these
+/// are of another type than one unsigned integer each. It takes no memory.
 pub fn imported_indices<'s>(
     document: &Document,
     buffers: &'s [Data],
@@ -74,9 +75,9 @@ pub fn imported_indices<'s>(
 {
     let bytes = |buffer: Buffer| bytes_of(buffers, buffer);
     // A law that the proof stands on; the call does nothing.
-    tables_are_by_answers(&bytes);
+    typed_indices_are_by_answers(&bytes);
     let primitive = primitive_of(document, mesh, primitive)?;
-    Reader::new(&primitive, &bytes).read_indices()
+    typed::read_indices(&primitive, &bytes)
 }
 
 /// The positions of the vertices of a primitive, from the bytes of a file, in a list.
@@ -99,7 +100,7 @@ pub fn read_positions(
     ensures exact { IfErr result (λ e. e ≢ Memory → IsNotAccepted bytes.now) }
 {
     // A law that the proof stands on; the call does nothing.
-    primitives_are_of_the_bytes();
+    typed_primitives_are_of_the_bytes();
     let (document, buffers) = import_slice(alloc, bytes)?;
     listed(
         alloc,
@@ -125,7 +126,7 @@ pub fn read_indices(
     ensures exact { IfErr result (λ e. e ≢ Memory → IsNotAccepted bytes.now) }
 {
     // A law that the proof stands on; the call does nothing.
-    primitives_are_of_the_bytes();
+    typed_primitives_are_of_the_bytes();
     let (document, buffers) = import_slice(alloc, bytes)?;
     listed_indices(
         alloc,

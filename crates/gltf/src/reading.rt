@@ -14,7 +14,11 @@ use std::io::Read;
 /// The bytes of a file out of a reader, of which nothing was read before: those of a GLB container
 /// up to its declared length where they begin with `glTF`, and no further than its header where
 /// that is refused; else all.
-pub(crate) fn read_file<R: Read>(reader: &mut R, bytes: &mut Vec<u8>) -> Result<()>
+///
+/// Where it stops before, what came stays in `bytes`. The error is [`Error::Io`]; of a container
+/// [`Error::Binary`], with what is wrong with its header, or [`binary::Error::Io`] where it failed
+/// or ended too early; or [`Error::Memory`]. A read that fails is not tried again.
+pub fn read_file<R: Read>(reader: &mut R, bytes: &mut Vec<u8>) -> Result<()>
     requires { bytes.old.items ≡ [] }
     ensures came { ReadsBehind (R.remaining reader.old) (R.remaining reader.new)
         bytes.old.items bytes.new.items }

@@ -2,5 +2,4 @@ pub mod Raw
 pub mod Flat
 pub mod Packed
 pub mod Texts
-pub mod Rows
 pub mod Why

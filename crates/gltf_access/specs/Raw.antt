@@ -92,6 +92,6 @@ pub record HoldsItem (p : Part) (bytes : List ℕ) (i : ℕ) : Type 0 where
 
 -- ---- images
 
--- the view that an image stands in; none where it has a URI
+-- the view that an image stands in, where it names one
 abbrev pub image_view : Root → Image → Option View
 image_view r i = option_and_then (view_at r) i.buffer_view

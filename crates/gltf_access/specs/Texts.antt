@@ -34,8 +34,8 @@ abbrev pub not_read_text : NotRead → List ℕ
 not_read_text reason.Absent = codes "there is no such member"
 not_read_text reason.NoReader = codes "no reader reads this attribute"
 not_read_text (reason.Type component dimensions) =
-    codes "the reader reads no items of type " ++ (shape_text dimensions
-    ++ (codes " of " ++ component_text component))
+    codes "the standard has no items of type " ++ (shape_text dimensions
+    ++ (codes " of " ++ (component_text component ++ codes " here")))
 not_read_text (reason.Unreadable why) = text_of why
 
 abbrev pub not_written_text : NotWritten → List ℕ

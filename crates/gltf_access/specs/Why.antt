@@ -16,10 +16,11 @@ use Rattle.gltf_data.specs.Unreadable.{where_all_hold, conditions}
 use Rattle.gltf_data.specs.declared.unreadable.Unreadable.{Unreadable}
 use Rattle.gltf_read.specs.Colors.{AreColors}
 use Rattle.gltf_read.specs.Joints.{AreJoints}
+use Rattle.gltf_read.specs.Kinds.{Kinds, OfKind, kind_of, three_floats, four_floats}
+use Rattle.gltf_read.specs.Kinds.{colors, tex_coords, joints, weights}
 use Rattle.gltf_read.specs.Reading.{Table, ReadsMember, AreItems, type_of, dimensions_of}
 use Rattle.gltf_read.specs.TexCoords.{AreTexCoords}
 use Rattle.gltf_read.specs.Weights.{AreWeights}
-use Rattle.gltf_access.specs.Rows.{Rows, items_of}
 use Rattle.gltf_access.specs.declared.not_read.NotRead.{NotRead}
 use Rattle.gltf_access.specs.declared.not_read.NotRead.TheVariants as reason
 
@@ -52,61 +53,61 @@ IsOfType a why =
     (c : DataType) × (d : Dimensions) × (type_of a ≡ Some c) × (dimensions_of a ≡ Some d)
     × (why ≡ Some (reason.«Type» c d))
 
--- by the row of a reader's table
+-- as items of so many bytes, or of a type that the standard does not have for what is read
 abbrev pub IsWhy : Results → Root → Accessor → Option ℕ → Option NotRead → Type 0
 IsWhy Gives r a None why = IsOfType a why
 IsWhy Gives r a (Some size) why = IsTried Gives size r a why
 
--- by the rows of a reader, where there is one
-abbrev pub IsWhyRow : Option Rows → Results → Root → Accessor → Option NotRead → Type 0
-IsWhyRow None Gives r a why = why ≡ Some reason.NoReader
-IsWhyRow (Some rows) Gives r a why = IsWhy Gives r a (rows a) why
+-- by the types that the standard has for it, where a reader reads it
+abbrev pub IsWhyKind : Option Kinds → Results → Root → Accessor → Option NotRead → Type 0
+IsWhyKind None Gives r a why = why ≡ Some reason.NoReader
+IsWhyKind (Some kinds) Gives r a why = IsWhy Gives r a (kind_of kinds a) why
 
 -- ---- of a member that names an accessor
 
-abbrev pub IsWhyMember : Rows → Results → Root → Option ℕ → Option NotRead → Type 0
-IsWhyMember rows Gives r None why = why ≡ Some reason.Absent
-IsWhyMember rows Gives r (Some i) why =
-    (a : Accessor) × (accessor_at r i ≡ Some a) × IsWhy Gives r a (rows a) why
+abbrev pub IsWhyMember : Kinds → Results → Root → Option ℕ → Option NotRead → Type 0
+IsWhyMember kinds Gives r None why = why ≡ Some reason.Absent
+IsWhyMember kinds Gives r (Some i) why =
+    (a : Accessor) × (accessor_at r i ≡ Some a) × IsWhy Gives r a (kind_of kinds a) why
 
 -- of one that no reader reads
 abbrev pub IsUnread : Option ℕ → Option NotRead → Type 0
 IsUnread None why = why ≡ Some reason.Absent
 IsUnread (Some i) why = why ≡ Some reason.NoReader
 
-abbrev pub IsWhyAttribute : Option Rows → Results → Root → Option ℕ → Option NotRead → Type 0
+abbrev pub IsWhyAttribute : Option Kinds → Results → Root → Option ℕ → Option NotRead → Type 0
 IsWhyAttribute None Gives r index why = IsUnread index why
-IsWhyAttribute (Some rows) Gives r index why = IsWhyMember rows Gives r index why
+IsWhyAttribute (Some kinds) Gives r index why = IsWhyMember kinds Gives r index why
 
--- ---- the reader's own call
+-- ---- what is read
 
--- where a closure answers one buffer always alike, there is a reason exactly where the reader's
--- call reads none
+-- where a closure answers one buffer always alike, there is a reason exactly where by this table
+-- nothing is read
 abbrev pub Explains : {E : Type 0} → Table E → Results → Root → Option ℕ → Option NotRead → Type 0
 Explains {E} Are Gives r index why =
     (answer : ℕ → Option (List ℕ)) → AlwaysAnswers Gives r answer
     → (read : Option E) → ReadsMember Are Gives r index read
     → NoneIff why (is_some read ≡ true)
 
--- the call of each attribute, of which one of the application has none; three and four floats are
--- items by t and u
+-- what is read of each attribute, of the types that the standard has for it; of one of the
+-- application nothing is. Three and four floats are items by t and u
 abbrev pub ExplainsAttribute : {X Y : Type 0} → Ghosts X → Ghosts Y → Semantic → Results → Root
     → Option ℕ → Option NotRead → Type 0
 ExplainsAttribute t u (attributes.Extras name) Gives r index why = ⊤
 ExplainsAttribute t u attributes.Positions Gives r index why =
-    Explains (AreItems {t = t}) Gives r index why
+    Explains (OfKind three_floats (AreItems {t = t})) Gives r index why
 ExplainsAttribute t u attributes.Normals Gives r index why =
-    Explains (AreItems {t = t}) Gives r index why
+    Explains (OfKind three_floats (AreItems {t = t})) Gives r index why
 ExplainsAttribute t u attributes.Tangents Gives r index why =
-    Explains (AreItems {t = u}) Gives r index why
+    Explains (OfKind four_floats (AreItems {t = u})) Gives r index why
 ExplainsAttribute t u (attributes.Colors set) Gives r index why =
-    Explains AreColors Gives r index why
+    Explains (OfKind colors AreColors) Gives r index why
 ExplainsAttribute t u (attributes.TexCoords set) Gives r index why =
-    Explains AreTexCoords Gives r index why
+    Explains (OfKind tex_coords AreTexCoords) Gives r index why
 ExplainsAttribute t u (attributes.Joints set) Gives r index why =
-    Explains AreJoints Gives r index why
+    Explains (OfKind joints AreJoints) Gives r index why
 ExplainsAttribute t u (attributes.Weights set) Gives r index why =
-    Explains AreWeights Gives r index why
+    Explains (OfKind weights AreWeights) Gives r index why
 
 -- ---- of a morph target (glTF 2.0, section 3.7.2.2, "Morph Targets")
 
@@ -119,10 +120,11 @@ displacement _ target = None
 
 abbrev pub IsWhyDisplacement : Results → Root → Option (Option ℕ) → Option NotRead → Type 0
 IsWhyDisplacement Gives r None why = why ≡ Some reason.NoReader
-IsWhyDisplacement Gives r (Some index) why = IsWhyMember (items_of 12) Gives r index why
+IsWhyDisplacement Gives r (Some index) why = IsWhyMember three_floats Gives r index why
 
 -- three floats are items by t
 abbrev pub ExplainsDisplacement : {X : Type 0} → Ghosts X → Results → Root → Option (Option ℕ)
     → Option NotRead → Type 0
 ExplainsDisplacement t Gives r None why = ⊤
-ExplainsDisplacement t Gives r (Some index) why = Explains (AreItems {t = t}) Gives r index why
+ExplainsDisplacement t Gives r (Some index) why =
+    Explains (OfKind three_floats (AreItems {t = t})) Gives r index why

@@ -6,9 +6,9 @@ ghost use Rattle.gltf_json.specs.declared.root.Root.{Root};
 ghost use Rattle.gltf_handles.specs.Accessors.{IsAccessor};
 ghost use Rattle.gltf_handles.specs.Members.{Follows};
 ghost use Rattle.gltf_read.specs.Indices.{AreIndices};
+ghost use Rattle.gltf_read.specs.Kinds.{OfKind, indices, three_floats, attribute_kinds};
 ghost use Rattle.gltf_read.specs.Primitives.{attribute};
 ghost use Rattle.gltf_scene.specs.Meshes.{primitive_handle, morph_target_handle};
-ghost use Rattle.gltf_access.specs.Rows.{indices_of, items_of, attribute_rows};
 ghost use Rattle.gltf_access.specs.Why.{IsWhyMember, IsWhyAttribute, Explains, ExplainsAttribute};
 ghost use Rattle.gltf_access.specs.Why.{displacement, IsWhyDisplacement, ExplainsDisplacement};
 
@@ -19,9 +19,11 @@ use gltf_data::buffer::Buffer;
 use gltf_items::F32;
 use gltf_scene::mesh::{MorphTarget, Primitive, Semantic};
 
-/// Why the reader's call for an attribute (`read_positions` for `POSITION`, `read_colors(n)` for
-/// `COLOR_n`, and so on) gives None; None exactly where it gives items. The closure gives the bytes
-/// of buffers.
+/// Why nothing is read of an attribute as what the standard has for it (section 3.7.2.1, "Meshes:
+/// Overview"): None exactly where its items are of such a type and the reader's call for it
+/// (`read_positions` for `POSITION`, `read_colors(n)` for `COLOR_n`, and so on) gives them. The
+/// reader's calls for floats look at the bytes of an item alone, and may give items of another type
+/// too. The closure gives the bytes of buffers.
 pub fn why_not_read<'s, F: Fn(Buffer) -> Option<&'s [u8]>>(
     primitive: &Primitive,
     semantic: &Semantic,
@@ -29,7 +31,7 @@ pub fn why_not_read<'s, F: Fn(Buffer) -> Option<&'s [u8]>>(
 ) -> Option<NotRead>
     requires { F.IsAlwaysCallable get_buffer_data.now }
     ensures why { let p = primitive_handle primitive.now in
-        IsWhyAttribute (attribute_rows semantic.now) (λ b o. F.post get_buffer_data.now b o)
+        IsWhyAttribute (attribute_kinds semantic.now) (λ b o. F.post get_buffer_data.now b o)
         p.document (attribute p semantic.now) result }
     ensures exact { let p = primitive_handle primitive.now in
         ExplainsAttribute ⟦<[F32; 3] as gltf_items::Item>⟧ ⟦<[F32; 4] as gltf_items::Item>⟧
@@ -39,7 +41,7 @@ pub fn why_not_read<'s, F: Fn(Buffer) -> Option<&'s [u8]>>(
     attribute_reason(primitive, semantic, get_buffer_data)
 }
 
-/// The same, by the rows of the reader's table.
+/// The same, by the types that the standard has.
 fn attribute_reason<'s, F: Fn(Buffer) -> Option<&'s [u8]>>(
     primitive: &Primitive,
     semantic: &Semantic,
@@ -47,7 +49,7 @@ fn attribute_reason<'s, F: Fn(Buffer) -> Option<&'s [u8]>>(
 ) -> Option<NotRead>
     requires { F.IsAlwaysCallable get_buffer_data.now }
     ensures { let p = primitive_handle primitive.now in
-        IsWhyAttribute (attribute_rows semantic.now) (λ b o. F.post get_buffer_data.now b o)
+        IsWhyAttribute (attribute_kinds semantic.now) (λ b o. F.post get_buffer_data.now b o)
         p.document (attribute p semantic.now) result }
 {
     match primitive.get(semantic) {
@@ -56,17 +58,17 @@ fn attribute_reason<'s, F: Fn(Buffer) -> Option<&'s [u8]>>(
     }
 }
 
-/// Why the reader's call `read_indices` gives None; None exactly where it gives items.
+/// The same of `indices`, of which the reader's call is `read_indices`.
 pub fn why_no_indices<'s, F: Fn(Buffer) -> Option<&'s [u8]>>(
     primitive: &Primitive,
     get_buffer_data: &F,
 ) -> Option<NotRead>
     requires { F.IsAlwaysCallable get_buffer_data.now }
     ensures why { let p = primitive_handle primitive.now in
-        IsWhyMember indices_of (λ b o. F.post get_buffer_data.now b o)
+        IsWhyMember indices (λ b o. F.post get_buffer_data.now b o)
         p.document p.json.indices result }
     ensures exact { let p = primitive_handle primitive.now in
-        Explains AreIndices (λ b o. F.post get_buffer_data.now b o)
+        Explains (OfKind indices AreIndices) (λ b o. F.post get_buffer_data.now b o)
         p.document p.json.indices result }
 {
     match primitive.indices() {
@@ -75,9 +77,9 @@ pub fn why_no_indices<'s, F: Fn(Buffer) -> Option<&'s [u8]>>(
     }
 }
 
-/// Why the reader's call `read_morph_targets` gives no displacements of an attribute for a target
-/// (section 3.7.2.2, "Morph Targets"); None exactly where it gives them. It reads those of
-/// `POSITION`, `NORMAL` and `TANGENT` alone.
+/// The same of what a morph target displaces (section 3.7.2.2, "Morph Targets"), of which the
+/// reader's call is `read_morph_targets`. It reads `POSITION`, `NORMAL` and `TANGENT` alone, and of
+/// any other attribute the answer is `NoReader`, whether the target has it or not.
 pub fn why_no_displacements<'s, F: Fn(Buffer) -> Option<&'s [u8]>>(
     target: &MorphTarget,
     semantic: &Semantic,
@@ -121,10 +123,10 @@ fn displacements<'s, F: Fn(Buffer) -> Option<&'s [u8]>>(
 ) -> Option<NotRead>
     requires { F.IsAlwaysCallable get_buffer_data.now }
     ensures { (r : Root) (index : Option ℕ) → Follows (IsAccessor r) index accessor.entry
-        → IsWhyMember (items_of 12) (λ b o. F.post get_buffer_data.now b o) r index result }
+        → IsWhyMember three_floats (λ b o. F.post get_buffer_data.now b o) r index result }
 {
     match accessor {
-        Some(accessor) => why::items::<[F32; 3], F>(accessor, get_buffer_data),
+        Some(accessor) => why::three_floats(accessor, get_buffer_data),
         None => Some(NotRead::Absent),
     }
 }

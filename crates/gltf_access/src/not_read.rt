@@ -6,7 +6,9 @@ ghost use Rattle.gltf_access.specs.Texts.{component_text, shape_text};
 use gltf_data::accessor::{DataType, Dimensions, Unreadable};
 use std::fmt;
 
-/// Why a reader of items read nothing: the first of these that is so.
+/// Why nothing is read of what the standard has for it: the first of these that is so. Only of a
+/// morph target `NoReader` comes before `Absent`: its record keeps no attribute that no reader
+/// reads.
 #[derive(Clone, Copy, Debug, PartialEq, Eq)]
 pub enum NotRead {
     /// The record has no such member.
@@ -15,7 +17,8 @@ pub enum NotRead {
     /// "Meshes: Overview"), or of a morph target another than `POSITION`, `NORMAL` and `TANGENT`
     /// (section 3.7.2.2, "Morph Targets").
     NoReader,
-    /// The reader reads no items of this type (section 3.6.2.2, "Accessor Data Types").
+    /// The standard has no items of this type for it (sections 3.7.2.1, "Meshes: Overview", 3.7.3.1,
+    /// "Overview" of skins, and 3.11, "Animations").
     Type {
         /// The type of each component of an item of the accessor.
         component: DataType,
@@ -72,7 +75,7 @@ impl fmt::Display for NotRead {
                 let (shape, component) = (shape_name(*dimensions), component_name(*component));
                 write!(
                     f,
-                    "the reader reads no items of type {shape} of {component}"
+                    "the standard has no items of type {shape} of {component} here"
                 )
             }
             NotRead::Unreadable(reason) => write!(f, "{reason}"),

@@ -31,7 +31,8 @@ pub struct Bytes<'s> {
 /// The bytes of the items of an accessor where they lie (glTF 2.0, section 3.6.2, "Accessors").
 /// None exactly where it has a sparse part or no view, where the closure gives no bytes for the
 /// view's buffer or the view ends past these, where the count is 0, where the stride is below the
-/// size of an item, or where the last item ends past the view. The closure is asked once at most.
+/// size of an item, or where the last item ends past the view. All this is by one answer of the
+/// closure, for the view's buffer.
 pub fn accessor_bytes<'s, F: Fn(Buffer) -> Option<&'s [u8]>>(
     accessor: Accessor,
     get_buffer_data: &F,
@@ -69,7 +70,7 @@ pub fn view_bytes<'s, F: Fn(Buffer) -> Option<&'s [u8]>>(
 }
 
 /// The bytes of an image that stands in a view (glTF 2.0, section 3.8.3, "Images"): those of the
-/// view. None also where the image has a URI.
+/// view, whether it has a URI as well or not. None where it names no view, and as of [`view_bytes`].
 pub fn image_bytes<'s, F: Fn(Buffer) -> Option<&'s [u8]>>(
     image: Image,
     get_buffer_data: &F,

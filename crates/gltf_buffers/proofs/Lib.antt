@@ -1,6 +1,7 @@
 pub mod Prefixes
 pub mod Cuts
 pub mod Firsts
+pub mod Moved
 pub mod Texts
 pub mod Asked
 pub mod Buffers

@@ -1,5 +1,6 @@
 pub mod Uri
 pub mod Meanings
+pub mod Moved
 pub mod UriLaws
 pub mod Payload
 pub mod Padding

@@ -3,6 +3,7 @@ ghost use Rattle.std.specs.Prelude.{◌≡◌, Ok, Err, IfOk, IfErr, OnOk, OnErr
 ghost use Rattle.std.specs.Prelude.{if◌then◌else◌, option_copied};
 ghost use Rattle.gltf_buffers.specs.Buffers.{IsDataOf, LeadsTo};
 ghost use Rattle.gltf_buffers.specs.Errors.{FailsOrNames};
+ghost use Rattle.gltf_buffers.specs.Moved.{IsHandedOn};
 ghost use Rattle.gltf_buffers.specs.Names.{names_in, names_left, failures_in, failures_left};
 ghost use Rattle.gltf_buffers.specs.Shown.{blob_bytes};
 ghost use Rattle.gltf_handles.specs.Buffers.{uri_of};
@@ -53,7 +54,8 @@ impl Data {
     /// [`gltf_glb::Error::MissingBlob`] says that there is no blob,
     /// [`gltf_glb::Error::Base64`] that the payload of a `data:` URI is none, and
     /// [`gltf_glb::Error::UnsupportedScheme`] that the URI is of no known kind. Where the answer is
-    /// an error, the blob stays.
+    /// an error, the blob stays. The blob is handed on in the memory that it had, where it has as
+    /// many bytes as a multiple of four.
     pub fn from_source_and_blob<S: NamedBytes>(
         alloc: Global,
         source: Source<'_>,
@@ -74,6 +76,7 @@ impl Data {
         ensures blob { OnOk result (blob_bytes blob.new
             ≡ (if is_some (uri_of source.entry) then blob_bytes blob.old else None)) }
         ensures stays { OnErr result (blob_bytes blob.new ≡ blob_bytes blob.old) }
+        ensures moved { uri_of source.entry ≡ None → IfOk result (IsHandedOn blob.old) }
     {
         match names {
             Some(names) => data_of(alloc, uri_in(source), names, blob),

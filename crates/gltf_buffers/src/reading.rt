@@ -1,11 +1,12 @@
 //! The bytes of all buffers of a document.
 ghost use Rattle.std.specs.Prelude.{◌≡◌, Ok, Err, IfOk, IfErr, OnOk, OnErr, is_some, None, map};
-ghost use Rattle.std.specs.Prelude.{length};
+ghost use Rattle.std.specs.Prelude.{length, true};
 ghost use Rattle.std.specs.Prelude.{if◌then◌else◌, option_copied};
 ghost use Rattle.gltf_buffers.specs.Buffers.{IsBytesOf, LeadsTo, source_of, AreBytes};
 ghost use Rattle.gltf_buffers.specs.Buffers.{HasBufferFault, IsAskedFor};
 ghost use Rattle.gltf_buffers.specs.Each.{AreAnswers, NotesEach};
 ghost use Rattle.gltf_buffers.specs.Errors.{FailsOrNames};
+ghost use Rattle.gltf_buffers.specs.Moved.{IsHandedOn, HandsOn};
 ghost use Rattle.gltf_buffers.specs.Shown.{blob_bytes, bytes_of_each, answer_of_each};
 
 use crate::asking::Ask;
@@ -20,6 +21,8 @@ use std::alloc::{AllocError, Global};
 ///
 /// The error is that of the first buffer that has one: that of [`Data::from_source_and_blob`], or
 /// [`Error::BufferLength`] where there are fewer bytes than the buffer declares, the zeros counted.
+///
+/// The blob is handed on in the memory that it had, where it has as many bytes as a multiple of four.
 pub fn read_buffers<N: Ask>(
     alloc: Global,
     buffers: &[buffer::Buffer],
@@ -34,6 +37,7 @@ pub fn read_buffers<N: Ask>(
         (N.failures names.old) (N.failures names.new)) }
     ensures fine { OnOk result (N.failures names.new ≡ N.failures names.old) }
     ensures kept { N.names names.new ≡ N.names names.old }
+    ensures moved { IfOk result (λ all. HandsOn (map source_of buffers.now) blob all.items) }
 {
     let mut left = blob;
     let mut all = Vec::new(alloc);
@@ -95,6 +99,8 @@ fn read_buffer<N: Ask>(
     ensures kept { N.names names.new ≡ N.names names.old }
     ensures blob { blob_bytes blob.new
         ≡ (if is_some (source_of buffer.now).uri then blob_bytes blob.old else None) }
+    ensures moved { (source_of buffer.now).uri ≡ None → IfOk result (IsHandedOn blob.old) }
+    ensures untouched { is_some (source_of buffer.now).uri ≡ true → blob.new ≡ blob.old }
 {
     let read = data_of(alloc, uri_of(buffer), names, blob);
     if buffer.uri.is_none() {

@@ -1,10 +1,11 @@
 //! What a URI leads to, and the blob.
 ghost use Rattle.std.specs.Prelude.{◌≡◌, Ok, Err, IfOk, IfErr, OnOk, OnErr, Some, None};
-ghost use Rattle.std.specs.Prelude.{is_some};
+ghost use Rattle.std.specs.Prelude.{is_some, true};
 ghost use Rattle.std.specs.Prelude.{if◌then◌else◌, option_copied};
 ghost use Rattle.gltf_buffers.specs.Buffers.{IsMeant, IsDataOf, LeadsTo, blob_or_fault};
 ghost use Rattle.gltf_buffers.specs.Buffers.{filled_bytes};
 ghost use Rattle.gltf_buffers.specs.Errors.{FailsOrNames, IsNotTaken};
+ghost use Rattle.gltf_buffers.specs.Moved.{IsHandedOn};
 ghost use Rattle.gltf_buffers.specs.Names.{CanBeAsked, name_of};
 ghost use Rattle.gltf_buffers.specs.Shown.{blob_bytes};
 ghost use Rattle.gltf_buffers.specs.Uri.{uri_of};
@@ -36,6 +37,8 @@ pub(crate) fn data_of<N: Ask>(
     ensures blob { OnOk result (blob_bytes blob.new
         ≡ (if is_some (option_copied uri.entry) then blob_bytes blob.old else None)) }
     ensures stays { OnErr result (blob_bytes blob.new ≡ blob_bytes blob.old) }
+    ensures moved { option_copied uri.entry ≡ None → IfOk result (IsHandedOn blob.old) }
+    ensures untouched { is_some (option_copied uri.entry) ≡ true → blob.new ≡ blob.old }
 {
     match uri {
         Some(uri) => {
@@ -65,13 +68,15 @@ pub(crate) fn data_without_blob<N: Ask>(
     data_of(alloc, uri, names, &mut None)
 }
 
-/// The blob, with zeros after it. Where there is not enough memory for them, it stays.
+/// The blob in the memory that it has, with zeros after it. Where there is not enough memory for
+/// them, it stays.
 fn taken(blob: &mut Option<Vec<u8>>) -> Result<Data>
     ensures ok { IfOk result (λ read. filled_bytes (blob_or_fault (blob_bytes blob.old))
         ≡ Ok read.0.items) }
     ensures err { IfErr result (IsNotTaken (blob_bytes blob.old)) }
     ensures blob { OnOk result (blob_bytes blob.new ≡ None) }
     ensures stays { OnErr result (blob_bytes blob.new ≡ blob_bytes blob.old) }
+    ensures moved { IfOk result (IsHandedOn blob.old) }
 {
     let Some(mut bytes) = blob.take() else {
         return Err(Error::MissingBlob);

@@ -28,7 +28,10 @@ use Rattle.gltf_buffers.specs.Buffers.{checked_bytes, filled_bytes, raw_bytes, l
 use Rattle.gltf_buffers.specs.Names.{Names}
 use Rattle.gltf_buffers.specs.Padding as payload
 use Rattle.gltf_pack.specs.Laws.{SpacesBehind}
-use Rattle.gltf.specs.Import.{AreParts, AcceptsWith}
+use Rattle.gltf.specs.Import.{AreParts}
+use Rattle.gltf_required.specs.Import.{IsRead}
+use Rattle.gltf_required.specs.Left.{others_are}
+use Rattle.gltf_required.specs.declared.required.Required.{Required}
 use Rattle.gltf_edit.specs.Bundled.{bundled, views_after, with_some, one_buffer}
 use Rattle.gltf_edit.specs.BundledLaws.{get_with, get_with_some_other, object_with_some, differ}
 use Rattle.gltf_edit.specs.BundledLaws.{bundled_other}
@@ -207,14 +210,14 @@ from_one over one bytes cs blob others is_one is_blob whole no_uri long are =
 
 -- ---- what a bundle is imported as
 
-module _ (one : OneTextAndBlob) (back : ReadsBack) (spaces : SpacesBehind) (names : Names)
-    (path : List ℕ) (keep : Bool) (answer : List ℕ)
-    (is : IsBundle names path keep answer) (over : Names) (s : Root) (others : List (List ℕ))
-    (accepted : AcceptsWith over answer s others) where
+module _ (one : OneTextAndBlob) (back : ReadsBack) (spaces : SpacesBehind)
+    (required : Required) (names : Names) (path : List ℕ) (keep : Bool) (answer : List ℕ)
+    (is : IsBundle required names path keep answer) (over : Names) (s : Root)
+    (others : List (List ℕ)) (accepted : IsRead over answer s others) where
   abbrev all : List (List ℕ)
   all = is.buffers ++ is.images
 
-  abbrev source : IsSource names path is.value is.root_ is.buffers
+  abbrev source : IsSource required names path is.value is.root_ is.buffers
   source = is.gathered.source
 
   the_parts : AreParts answer (padded 32 is.json) (option_map (padded 0) (blob_of all))
@@ -225,15 +228,15 @@ module _ (one : OneTextAndBlob) (back : ReadsBack) (spaces : SpacesBehind) (name
 
   the_blob : accepted.blob ≡ option_map (padded 0) (blob_of all)
   the_blob =
-      (one answer (padded 32 is.json) accepted.valid.document.text
+      (one answer (padded 32 is.json) accepted.document.text
       (option_map (padded 0) (blob_of all)) accepted.blob the_parts
-      accepted.valid.document.parts).1
+      accepted.document.parts).1
 
-  the_text : accepted.valid.document.text ≡ padded 32 is.json
+  the_text : accepted.document.text ≡ padded 32 is.json
   the_text =
-      (one answer (padded 32 is.json) accepted.valid.document.text
+      (one answer (padded 32 is.json) accepted.document.text
       (option_map (padded 0) (blob_of all)) accepted.blob the_parts
-      accepted.valid.document.parts).0
+      accepted.document.parts).0
 
   abbrev total : ℕ
   total = length (joined all)
@@ -244,9 +247,9 @@ module _ (one : OneTextAndBlob) (back : ReadsBack) (spaces : SpacesBehind) (name
   abbrev edited : Data
   edited = moved_value all is.pictures is.value
 
-  pub the_value : accepted.valid.document.value ≡ edited
+  pub the_value : accepted.document.value ≡ edited
   the_value =
-      let document = accepted.valid.document in
+      let document = accepted.document in
       let padded_reads : Reads (padded 32 is.json) document.value =
       subst (λ (t : List ℕ). Reads t document.value) the_text document.reads in
       let n = (4 - length is.json % 4) % 4 in
@@ -254,7 +257,7 @@ module _ (one : OneTextAndBlob) (back : ReadsBack) (spaces : SpacesBehind) (name
       ((spaces n is.json document.value).0 padded_reads) is.reads
 
   pub after : root.is edited s
-  after = subst (λ (d : Data). root.is d s) the_value accepted.valid.document.records
+  after = subst (λ (d : Data). root.is d s) the_value accepted.document.records
 
   pub own_count : length is.buffers ≡ length is.root_.buffers.items
   own_count = source.data_.count ∙ length_of_map source_of is.root_.buffers.items
@@ -264,7 +267,8 @@ module _ (one : OneTextAndBlob) (back : ReadsBack) (spaces : SpacesBehind) (name
     value = is.value;
     pictures = is.pictures;
     before = source.records;
-    rules = source.rules;
+    rules =
+        (source.left, source.rules, others_are required is.root_ source.left source.is_left);
     count = own_count;
     after = after;
     placed = is.placed;

@@ -16,9 +16,11 @@ use Rattle.gltf_json.specs.declared.root.Root.{Root}
 use Rattle.gltf_json_record.specs.declared.error.Error as json
 use Rattle.gltf_json_record.specs.declared.error.Error.TheVariants.{Memory}
 use Rattle.gltf_validation.specs.Documents.{Faults}
-use Rattle.gltf.specs.Errors.{OutOfMemoryOr, TellsRules}
-use Rattle.gltf.specs.Import.{AreParts, IsDocument, IsValidDocument, RefusesContainer}
-use Rattle.gltf.specs.Import.{RefusesDocument}
+use Rattle.gltf.specs.Errors.{OutOfMemoryOr}
+use Rattle.gltf.specs.Import.{AreParts, IsDocument, RefusesContainer}
+use Rattle.gltf_required.specs.Import.{IsOpenedAs, RefusesDocumentAs}
+use Rattle.gltf_required.specs.Required.{IsLeft, TellsAs}
+use Rattle.gltf_required.specs.declared.required.Required.{Required}
 use Rattle.gltf.specs.Laws.{OneTextAndBlob}
 use Rattle.gltf.specs.Shown.{blob_bytes}
 
@@ -26,15 +28,16 @@ or_memory : (P : Error → Type 0) (e : Error) → P e → OutOfMemoryOr P e
 or_memory P error.Memory p = tt
 or_memory P _ p = p
 
-pub container_told : (bytes : List ℕ) (e : Error) → RefusesContainer bytes e
-    → OutOfMemoryOr (RefusesDocument bytes) e
-container_told bytes e told = or_memory (RefusesDocument bytes) e (inl (inl told))
+pub container_told : (required : Required) (bytes : List ℕ) (e : Error) → RefusesContainer bytes e
+    → OutOfMemoryOr (RefusesDocumentAs required bytes) e
+container_told required bytes e told =
+    or_memory (RefusesDocumentAs required bytes) e (inl (inl told))
 
-pub text_told : (bytes text : List ℕ) (blob : Option (List ℕ)) (cause : json.Error)
-    → AreParts bytes text blob → Refuses text cause
-    → OutOfMemoryOr (RefusesDocument bytes) (from_json cause)
-text_told bytes text blob Memory parts told = tt
-text_told bytes text blob cause parts told = inl (inr (record {
+pub text_told : (required : Required) (bytes text : List ℕ) (blob : Option (List ℕ))
+    (cause : json.Error) → AreParts bytes text blob → Refuses text cause
+    → OutOfMemoryOr (RefusesDocumentAs required bytes) (from_json cause)
+text_told required bytes text blob Memory parts told = tt
+text_told required bytes text blob cause parts told = inl (inr (record {
   text = text;
   blob = blob;
   parts = parts;
@@ -44,12 +47,12 @@ text_told bytes text blob cause parts told = inl (inr (record {
   fails = told;
 }))
 
-pub rules_told : (bytes : List ℕ) (r : Root) (blob : Option (List ℕ)) (e : Error)
-    → IsDocument bytes r blob → OutOfMemoryOr (TellsRules r) e
-    → OutOfMemoryOr (RefusesDocument bytes) e
-rules_told bytes r blob error.Memory document told = tt
-rules_told bytes r blob e document told =
-    or_memory (RefusesDocument bytes) e
+pub rules_told : (required : Required) (bytes : List ℕ) (r : Root) (blob : Option (List ℕ))
+    (e : Error) → IsDocument bytes r blob → OutOfMemoryOr (TellsAs required r) e
+    → OutOfMemoryOr (RefusesDocumentAs required bytes) e
+rules_told required bytes r blob error.Memory document told = tt
+rules_told required bytes r blob e document told =
+    or_memory (RefusesDocumentAs required bytes) e
     (inr (record { root = r; blob = blob; document = document; fails = told }))
 
 pub is_document : (bytes text : List ℕ) (blob : Option (List ℕ)) (r : Root)
@@ -63,8 +66,8 @@ is_document bytes text blob r parts read = record {
   records = read.2;
 }
 
-pub is_valid : (bytes : List ℕ) (blob : Option (List ℕ)) (r s : Root) → IsDocument bytes r blob
-    → s ≡ r → Faults r ≡ [] → IsValidDocument bytes s blob
-is_valid bytes blob r s document same rules =
-    subst (λ (x : Root). IsValidDocument bytes x blob) (sym same)
-    (record { document = document; rules = rules })
+pub is_opened : (required : Required) (bytes : List ℕ) (blob : Option (List ℕ)) (r s : Root)
+    → IsDocument bytes r blob → IsLeft required r s → Faults s ≡ []
+    → IsOpenedAs required bytes s blob
+is_opened required bytes blob r s document is rules =
+    record { root = r; document = document; is_left = is; rules = rules }

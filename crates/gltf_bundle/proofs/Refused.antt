@@ -11,12 +11,16 @@ use Rattle.gltf_glb.specs.declared.error.Error.TheVariants as error
 use Rattle.gltf_json.specs.declared.root.Root.{Root}
 use Rattle.gltf_names.specs.Named.{Named, File}
 use Rattle.gltf_buffers.specs.declared.data.Data.{Data as Buffer}
-use Rattle.gltf_buffers.specs.Buffers.{sources_of, HasBufferFault, IsAskedFor}
+use Rattle.gltf_buffers.specs.Buffers.{Source, sources_of, HasBufferFault, IsAskedFor}
 use Rattle.gltf_buffers.specs.Errors.{FailsOrNames, IsUnanswered}
-use Rattle.gltf_buffers.specs.Names.{Names, Gives}
+use Rattle.gltf_buffers.specs.Names.{Names, Nowhere, Gives}
 use Rattle.gltf.specs.Errors.{OutOfMemoryOr}
-use Rattle.gltf.specs.Files.{FailsOrRefuses, RefusesFileAt}
-use Rattle.gltf.specs.Import.{IsValidDocument, RefusesDocument, RefusesImport}
+use Rattle.gltf_required.specs.Files.{FailsOrRefusesAs, RefusesFileAs}
+use Rattle.gltf_required.specs.Import.{IsOpenedAs, IsValidAs, RefusesDocumentAs, RefusesImportAs}
+use Rattle.gltf_required.specs.Left.{same_sources}
+use Rattle.gltf_required.specs.Required.{TellsAs}
+use Rattle.gltf_required.specs.declared.required.Required.{Required}
+use Rattle.gltf_required.specs.declared.required.Required.TheVariants.{Supported, Also, All}
 use Rattle.gltf.specs.Shown.{bytes_of_each}
 use Rattle.gltf_edit.specs.Bundled.{bundled, ArePlaced}
 use Rattle.gltf_edit.specs.Embedded.{embedded, items_at}
@@ -44,79 +48,105 @@ or_memory : (P : Error → Type 0) (e : Error) → P e → OutOfMemoryOr P e
 or_memory P error.Memory p = tt
 or_memory P _ p = p
 
-no_io : (bytes : List ℕ) (cause : IoError) → RefusesDocument bytes (error.Io cause) → ⊥
-no_io bytes cause (inl (inl told)) = let names = told.names in cc
-no_io bytes cause (inl (inr told)) = let names = told.names in cc
-no_io bytes cause (inr told) = told.fails
+no_rules : (required : Required) (r : Root) (cause : IoError) → TellsAs required r (error.Io cause)
+    → ⊥
+no_rules Supported r cause told = told
+no_rules (Also options) r cause told = told
+no_rules All r cause told = told.2
 
-behind : (names : Names) (path bytes : List ℕ) (old new : List Named) (e : Error)
-    → Gives names (File path) bytes → FailsOrRefuses names bytes old new e
-    → OutOfMemoryOr (RefusesFileAt names path old new) e
-behind names path bytes old new e gives told =
-    or_memory (RefusesFileAt names path old new) e
-    (inr (record { bytes = bytes; gives = gives; told = told }))
+no_io : (required : Required) (bytes : List ℕ) (cause : IoError)
+    → RefusesDocumentAs required bytes (error.Io cause) → ⊥
+no_io required bytes cause (inl (inl told)) = let names = told.names in cc
+no_io required bytes cause (inl (inr told)) = let names = told.names in cc
+no_io required bytes cause (inr told) = no_rules required told.root cause told.fails
 
-pub unanswered : (names : Names) (path : List ℕ) (old new : List Named) (e : Error)
-    → IsUnanswered names (File path) old new e → RefusesSource names path old new (bundle.Import e)
-unanswered names path old new e told = or_memory (RefusesFileAt names path old new) e (inl told)
+module _ (required : Required) (names : Names) (path : List ℕ) where
+  behind : (bytes : List ℕ) (old new : List Named) (e : Error) → Gives names (File path) bytes
+      → FailsOrRefusesAs required names bytes old new e
+      → OutOfMemoryOr (RefusesFileAs required names path old new) e
+  behind bytes old new e gives told =
+      or_memory (RefusesFileAs required names path old new) e
+      (inr (record { bytes = bytes; gives = gives; told = told }))
 
-document_told : (names : Names) (bytes : List ℕ) (old new : List Named) (e : Error) → new ≡ old
-    → OutOfMemoryOr (RefusesDocument bytes) e → FailsOrRefuses names bytes old new e
-document_told names bytes old new error.Memory same told = same
-document_told names bytes old new (error.Io cause) same told = absurd (no_io bytes cause told)
-document_told names bytes old new e same told = (same, inl told)
+  pub unanswered : (old new : List Named) (e : Error)
+      → IsUnanswered names (File path) old new e
+      → RefusesSource required names path old new (bundle.Import e)
+  unanswered old new e told = or_memory (RefusesFileAs required names path old new) e (inl told)
 
-pub document_refused : (names : Names) (path bytes : List ℕ) (old new : List Named) (e : Error)
-    → Gives names (File path) bytes → new ≡ old → OutOfMemoryOr (RefusesDocument bytes) e
-    → RefusesSource names path old new (bundle.Import e)
-document_refused names path bytes old new e gives same told =
-    behind names path bytes old new e gives (document_told names bytes old new e same told)
+  document_told : (bytes : List ℕ) (old new : List Named) (e : Error) → new ≡ old
+      → OutOfMemoryOr (RefusesDocumentAs required bytes) e
+      → FailsOrRefusesAs required names bytes old new e
+  document_told bytes old new error.Memory same told = same
+  document_told bytes old new (error.Io cause) same told =
+      absurd (no_io required bytes cause told)
+  document_told bytes old new e same told = (same, inl told)
 
-abbrev FailsWith : Names → Root → Option (List ℕ) → List Named → List Named → Error → Type 0
-FailsWith names r blob old new e =
-    FailsOrNames (HasBufferFault names (sources_of r) blob) (IsAskedFor names (sources_of r) blob)
-    old new e
+  pub document_refused : (bytes : List ℕ) (old new : List Named) (e : Error)
+      → Gives names (File path) bytes → new ≡ old
+      → OutOfMemoryOr (RefusesDocumentAs required bytes) e
+      → RefusesSource required names path old new (bundle.Import e)
+  document_refused bytes old new e gives same told =
+      behind bytes old new e gives (document_told bytes old new e same told)
 
-buffers_told : (names : Names) (bytes : List ℕ) (r : Root) (blob : Option (List ℕ))
-    (old new : List Named) (e : Error) → IsValidDocument bytes r blob
-    → FailsWith names r blob old new e → FailsOrRefuses names bytes old new e
-buffers_told names bytes r blob old new (error.Io cause) valid fails = (
-  fails.0,
-  record { root = r; blob = blob; valid = valid; asked = fails.1 },
-  fails.2,
-)
-buffers_told names bytes r blob old new error.Memory valid fails = fails
-buffers_told names bytes r blob old new e valid fails =
-    (fails.0, inr (record { root = r; blob = blob; valid = valid; fails = fails.1 }))
+  abbrev FailsWith : Root → Option (List ℕ) → List Named → List Named → Error → Type 0
+  FailsWith r blob old new e =
+      FailsOrNames (HasBufferFault names (sources_of r) blob)
+      (IsAskedFor names (sources_of r) blob) old new e
 
-pub buffers_refused : (names : Names) (path bytes : List ℕ) (r : Root) (blob : Option (List ℕ))
-    (old new : List Named) (e : Error) → Gives names (File path) bytes
-    → IsValidDocument bytes r blob → FailsWith names r blob old new e
-    → RefusesSource names path old new (bundle.Import e)
-buffers_refused names path bytes r blob old new e gives valid fails =
-    behind names path bytes old new e gives (buffers_told names bytes r blob old new e valid fails)
+  buffers_told : (bytes : List ℕ) (r : Root) (blob : Option (List ℕ)) (old new : List Named)
+      (e : Error) → IsValidAs required bytes r blob → FailsWith r blob old new e
+      → FailsOrRefusesAs required names bytes old new e
+  buffers_told bytes r blob old new (error.Io cause) valid fails = (
+    fails.0,
+    record { root = r; blob = blob; valid = valid; asked = fails.1 },
+    fails.2,
+  )
+  buffers_told bytes r blob old new error.Memory valid fails = fails
+  buffers_told bytes r blob old new e valid fails =
+      (fails.0, inr (record { root = r; blob = blob; valid = valid; fails = fails.1 }))
+
+  pub buffers_refused : (bytes : List ℕ) (left : Root) (blob : Option (List ℕ))
+      (old new : List Named) (e : Error) → Gives names (File path) bytes
+      → (opened : IsOpenedAs required bytes left blob) → FailsWith left blob old new e
+      → RefusesSource required names path old new (bundle.Import e)
+  buffers_refused bytes left blob old new e gives opened fails =
+      behind bytes old new e gives
+      (buffers_told bytes opened.root blob old new e
+      record {
+        document = opened.document;
+        left = left;
+        is_left = opened.is_left;
+        rules = opened.rules;
+      }
+      (subst (λ (xs : List Source).
+      FailsOrNames (HasBufferFault names xs blob) (IsAskedFor names xs blob) old new e)
+      (same_sources required opened.root left opened.is_left) fails))
 
 -- ---- the images
 
-pub load_refused : (names : Names) (path : List ℕ) (keep : Bool) (old new : List Named)
-    (e : BundleError) → RefusesSource names path old new e → RefusesFile names path keep old new e
-load_refused names path keep old new (bundle.Import e) told = told
-load_refused names path keep old new (bundle.View i) told = absurd told
-load_refused names path keep old new (bundle.Image i e) told = absurd told
-load_refused names path keep old new (bundle.ImageType i) told = absurd told
-load_refused names path keep old new bundle.TooLong told = absurd told
-load_refused names path keep old new (bundle.Answer e) told = absurd told
+pub load_refused : (required : Required) (names : Names) (path : List ℕ) (keep : Bool)
+    (old new : List Named) (e : BundleError) → RefusesSource required names path old new e
+    → RefusesFile required names path keep old new e
+load_refused required names path keep old new (bundle.Import e) told = told
+load_refused required names path keep old new (bundle.View i) told = absurd told
+load_refused required names path keep old new (bundle.Image i e) told = absurd told
+load_refused required names path keep old new (bundle.ImageType i) told = absurd told
+load_refused required names path keep old new bundle.TooLong told = absurd told
+load_refused required names path keep old new (bundle.Answer e) told = absurd told
 
-pub images_refused : (names : Names) (path : List ℕ) (keep : Bool) (old new : List Named)
-    (value : Data) (r : Root) (buffers : List (List ℕ)) (e : BundleError)
-    → IsSource names path value r buffers → keep ≡ false
+pub images_refused : (required : Required) (names : Names) (path : List ℕ) (keep : Bool)
+    (old new : List Named) (value : Data) (r : Root) (buffers : List (List ℕ)) (e : BundleError)
+    → IsSource required names path value r buffers → keep ≡ false
     → RefusesImages names (items_at (codes "images") value) old new e
-    → RefusesFile names path keep old new e
-images_refused names path keep old new value r buffers (bundle.Import e) source not_kept told =
-    subst (λ e. OutOfMemoryOr (RefusesFileAt names path old new) e) (sym told) tt
-images_refused names path keep old new value r buffers (bundle.View i) source not_kept told =
+    → RefusesFile required names path keep old new e
+images_refused required names path keep old new value r buffers (bundle.Import e) source
+    not_kept told =
+    subst (λ e. OutOfMemoryOr (RefusesFileAs required names path old new) e) (sym told) tt
+images_refused required names path keep old new value r buffers (bundle.View i) source not_kept
+    told =
     absurd told
-images_refused names path keep old new value r buffers (bundle.Image i e) source not_kept told =
+images_refused required names path keep old new value r buffers (bundle.Image i e) source
+    not_kept told =
     record {
       value = value;
       root_ = r;
@@ -125,7 +155,8 @@ images_refused names path keep old new value r buffers (bundle.Image i e) source
       not_kept = not_kept;
       told = told;
     }
-images_refused names path keep old new value r buffers (bundle.ImageType i) source not_kept told =
+images_refused required names path keep old new value r buffers (bundle.ImageType i) source
+    not_kept told =
     record {
       value = value;
       root_ = r;
@@ -134,31 +165,34 @@ images_refused names path keep old new value r buffers (bundle.ImageType i) sour
       not_kept = not_kept;
       told = told;
     }
-images_refused names path keep old new value r buffers bundle.TooLong source not_kept told =
+images_refused required names path keep old new value r buffers bundle.TooLong source not_kept
+    told =
     absurd told
-images_refused names path keep old new value r buffers (bundle.Answer e) source not_kept told =
+images_refused required names path keep old new value r buffers (bundle.Answer e) source not_kept
+    told =
     absurd told
 
 -- ---- the steps after it
 
-pub file_refused : (names : Names) (path : List ℕ) (keep : Bool) (old new : List Named)
-    (e : BundleError) → RefusesFile names path keep old new e
-    → RefusesBundle names path keep old new e
-file_refused names path keep old new (bundle.Import e) told = told
-file_refused names path keep old new (bundle.View i) told = absurd told
-file_refused names path keep old new (bundle.Image i e) told = told
-file_refused names path keep old new (bundle.ImageType i) told = told
-file_refused names path keep old new bundle.TooLong told = absurd told
-file_refused names path keep old new (bundle.Answer e) told = absurd told
+pub file_refused : (required : Required) (names : Names) (path : List ℕ) (keep : Bool)
+    (old new : List Named) (e : BundleError) → RefusesFile required names path keep old new e
+    → RefusesBundle required names path keep old new e
+file_refused required names path keep old new (bundle.Import e) told = told
+file_refused required names path keep old new (bundle.View i) told = absurd told
+file_refused required names path keep old new (bundle.Image i e) told = told
+file_refused required names path keep old new (bundle.ImageType i) told = told
+file_refused required names path keep old new bundle.TooLong told = absurd told
+file_refused required names path keep old new (bundle.Answer e) told = absurd told
 
-module _ (names : Names) (path : List ℕ) (keep : Bool) (old new : List Named) (value : Data)
-    (r : Root) (buffers images : List (List ℕ)) (ps : List (Option Picture))
-    (gathered : IsGathered names path keep value r buffers images ps) where
+module _ (required : Required) (names : Names) (path : List ℕ) (keep : Bool)
+    (old new : List Named) (value : Data) (r : Root) (buffers images : List (List ℕ))
+    (ps : List (Option Picture))
+    (gathered : IsGathered required names path keep value r buffers images ps) where
   abbrev whole : List (List ℕ)
   whole = buffers ++ images
 
   pub join_refused : (f : Fault) → IsTooLong (length (joined whole)) f
-      → RefusesBundle names path keep old new (of_fault f)
+      → RefusesBundle required names path keep old new (of_fault f)
   join_refused (fault.Outside i) told = absurd told
   join_refused fault.TooLong told =
       record {
@@ -173,7 +207,7 @@ module _ (names : Names) (path : List ℕ) (keep : Bool) (old new : List Named) 
   join_refused fault.Memory told = tt
 
   pub edit_refused : (f : Fault) → NamesStray (spans_from 0 whole) (embedded ps value) f
-      → RefusesBundle names path keep old new (of_fault f)
+      → RefusesBundle required names path keep old new (of_fault f)
   edit_refused (fault.Outside i) told =
       record {
         value = value;
@@ -189,9 +223,9 @@ module _ (names : Names) (path : List ℕ) (keep : Bool) (old new : List Named) 
 
   container_refused : (e : BundleError) → ArePlaced (spans_from 0 whole) (embedded ps value)
       → RefusesContainerOf (moved_value whole ps value) (blob_of whole) e
-      → RefusesBundle names path keep old new e
+      → RefusesBundle required names path keep old new e
   container_refused (bundle.Import e) placed told =
-      subst (λ e. OutOfMemoryOr (RefusesFileAt names path old new) e) (sym told) tt
+      subst (λ e. OutOfMemoryOr (RefusesFileAs required names path old new) e) (sym told) tt
   container_refused (bundle.View i) placed told = absurd told
   container_refused (bundle.Image i e) placed told = absurd told
   container_refused (bundle.ImageType i) placed told = absurd told
@@ -214,7 +248,7 @@ module _ (names : Names) (path : List ℕ) (keep : Bool) (old new : List Named) 
       → ArePlaced all.spans.items (embedded ps value) → (after : Data)
       → after ≡ bundled all.spans.items all.total (embedded ps value)
       → (e : BundleError) → RefusesContainerOf after (blob_of whole) e
-      → RefusesBundle names path keep old new e
+      → RefusesBundle required names path keep old new e
   answer_refused all is placed after edited e told =
       let same : after ≡ moved_value whole ps value =
       edited ∙ (λ i. bundled (is.spans i) (is.total i) (embedded ps value)) in
@@ -223,10 +257,11 @@ module _ (names : Names) (path : List ℕ) (keep : Bool) (old new : List Named) 
       (subst (λ (d : Data). RefusesContainerOf d (blob_of whole) e) same told)
 
 -- the container was made, and the import refuses it
-pub import_refused : (names : Names) (path : List ℕ) (keep : Bool) (answer : List ℕ) (e : Error)
-    → IsBundle names path keep answer → OutOfMemoryOr (RefusesImport answer) e
-    → HasNoContainer names path keep e
-import_refused names path keep answer e is told = record {
+pub import_refused : (required : Required) (names : Names) (path : List ℕ) (keep : Bool)
+    (answer : List ℕ) (e : Error) → IsBundle required names path keep answer
+    → OutOfMemoryOr (RefusesImportAs required Nowhere answer) e
+    → HasNoContainer required names path keep e
+import_refused required names path keep answer e is told = record {
   value = is.value;
   root_ = is.root_;
   buffers = is.buffers;
@@ -236,7 +271,9 @@ import_refused names path keep answer e is told = record {
   placed = is.placed;
   json = is.json;
   reads = is.reads;
-  fault = inr (subst (λ (bytes : List ℕ). OutOfMemoryOr (RefusesImport bytes) e) is.written told);
+  fault =
+      inr (subst (λ (bytes : List ℕ). OutOfMemoryOr (RefusesImportAs required Nowhere bytes) e)
+      is.written told);
 }
 
 -- ---- the bytes so far are no more than all

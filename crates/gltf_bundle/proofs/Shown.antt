@@ -152,8 +152,8 @@ of_some same = cc
 
 pub shows_images : OneTextAndBlob → ReadsBack → SpacesBehind → MovedShows → ShowsImages
 unfolding root
-shows_images one back spaces law names path answer is over s others accepted i x there uri
-    with_uri =
+shows_images one back spaces law required names path answer is over s others accepted i x there
+    uri with_uri =
     let value = is.value in
     let source = is.gathered.source in
     let read = listed (get (codes "images") value) is.root_.images.items i x
@@ -165,7 +165,8 @@ shows_images one back spaces law names path answer is over s others accepted i x
     is.images i is.gathered.taken read.there in
     let picture = found.is_taken in
     let same : picture.uri ≡ uri = of_some (sym picture.there ∙ text) in
-    let moved = is_moved one back spaces names path false answer is over s others accepted in
+    let moved = is_moved one back spaces required names path false answer is over s others
+    accepted in
     let view = law is.buffers is.images is.root_ s moved i e read.there found.picture found.has
     found.bytes
     found.given picture.long in
@@ -180,6 +181,7 @@ shows_images one back spaces law names path answer is over s others accepted i x
       in_view =
           subst (λ (bs : List (List ℕ)). IsInView bs s i
           (string_bytes found.picture.media) found.bytes)
-          (sym (the_buffers one back spaces names path false answer is over s others accepted))
+          (sym (the_buffers one back spaces required names path false answer is over s others
+          accepted))
           view;
     }

@@ -10,9 +10,11 @@ use Rattle.gltf_json.specs.Reading.{Reads}
 use Rattle.gltf_json.specs.declared.root.Root.{Root}
 use Rattle.gltf.specs.Laws.{OneTextAndBlob}
 use Rattle.gltf_names.specs.Named.{File}
-use Rattle.gltf_buffers.specs.Buffers.{sources_of, AreBytes}
+use Rattle.gltf_buffers.specs.Buffers.{Source, sources_of, AreBytes}
 use Rattle.gltf_buffers.specs.Names.{Names, Gives}
-use Rattle.gltf.specs.Import.{IsValidDocument}
+use Rattle.gltf_required.specs.Import.{IsOpenedAs}
+use Rattle.gltf_required.specs.Left.{same_sources}
+use Rattle.gltf_required.specs.declared.required.Required.{Required}
 use Rattle.gltf_edit.specs.Bundled.{bundled, ArePlaced}
 use Rattle.gltf_edit.specs.DepthLaws.{bundled_depth}
 use Rattle.gltf_edit.specs.Embedded.{embedded}
@@ -25,13 +27,24 @@ use Rattle.gltf_bundle.specs.Bundle.{IsValueOf, IsSource, IsGathered, ArePlaces,
 use Rattle.gltf_bundle.specs.Bundle.{IsBundle, blob_of}
 use Rattle.gltf_bundle.proofs.Parts.{one_value}
 
-pub loaded : OneTextAndBlob → (names : Names) (path bytes : List ℕ) → Gives names (File path) bytes
-    → (r : Root) (blob : Option (List ℕ)) → IsValidDocument bytes r blob
+-- the bytes of the buffers of what is left are those of the document
+pub whole_bytes : (required : Required) (names : Names) (bytes : List ℕ) (left : Root)
+    (blob : Option (List ℕ)) (opened : IsOpenedAs required bytes left blob)
+    (buffers : List (List ℕ))
+    → AreBytes names (sources_of left) blob (length (sources_of left)) buffers
+    → AreBytes names (sources_of opened.root) blob (length (sources_of opened.root)) buffers
+whole_bytes required names bytes left blob opened buffers data_ =
+    subst (λ (xs : List Source). AreBytes names xs blob (length xs) buffers)
+    (same_sources required opened.root left opened.is_left) data_
+
+pub loaded : OneTextAndBlob → (required : Required) (names : Names) (path bytes : List ℕ)
+    → Gives names (File path) bytes
+    → (left : Root) (blob : Option (List ℕ)) (opened : IsOpenedAs required bytes left blob)
     → (value : Data) → IsValueOf bytes value → (buffers : List (List ℕ))
-    → AreBytes names (sources_of r) blob (length (sources_of r)) buffers
-    → IsSource names path value r buffers
-loaded law names path bytes gives r blob valid value is buffers data_ =
-    let document = valid.document in
+    → AreBytes names (sources_of left) blob (length (sources_of left)) buffers
+    → IsSource required names path value opened.root buffers
+loaded law required names path bytes gives left blob opened value is buffers data_ =
+    let document = opened.document in
     let same =
     law bytes document.text is.text blob is.blob document.parts is.parts in
     record {
@@ -43,12 +56,14 @@ loaded law names path bytes gives r blob valid value is buffers data_ =
       reads = subst (λ (t : List ℕ). Reads t value) same.0 is.reads;
       nests = is.nests;
       records =
-          subst (λ (d : Data). root.is d r)
+          subst (λ (d : Data). root.is d opened.root)
           (one_value document.text is.text document.value value
           (sym same.0) document.reads is.reads)
           document.records;
-      rules = valid.rules;
-      data_ = data_;
+      left = left;
+      is_left = opened.is_left;
+      rules = opened.rules;
+      data_ = whole_bytes required names bytes left blob opened buffers data_;
     }
 
 -- the container's value nests no deeper than the file's may
@@ -59,16 +74,16 @@ moved_depth all ps value nests =
     (omega arith)
     (embedded_depth ps value max_depth (omega arith) nests)
 
-pub is_bundle : (names : Names) (path : List ℕ) (keep : Bool) (value : Data) (r : Root)
-    (buffers images : List (List ℕ)) (ps : List (Option Picture))
-    → IsGathered names path keep value r buffers images ps
+pub is_bundle : (required : Required) (names : Names) (path : List ℕ) (keep : Bool) (value : Data)
+    (r : Root) (buffers images : List (List ℕ)) (ps : List (Option Picture))
+    → IsGathered required names path keep value r buffers images ps
     → (all : Places) → ArePlaces (buffers ++ images) all
     → ArePlaced all.spans.items (embedded ps value)
     → (after : Data) → after ≡ bundled all.spans.items all.total (embedded ps value)
     → (answer : List ℕ) → IsContainerOf after (blob_of (buffers ++ images)) answer
-    → IsBundle names path keep answer
-is_bundle names path keep value r buffers images ps gathered all is placed after edited answer
-    container =
+    → IsBundle required names path keep answer
+is_bundle required names path keep value r buffers images ps gathered all is placed after edited
+    answer container =
     let same : after ≡ moved_value (buffers ++ images) ps value =
     edited ∙ (λ i. bundled (is.spans i) (is.total i) (embedded ps value)) in
     let short : depth after ≤ max_depth =

@@ -17,8 +17,11 @@ use Rattle.gltf_buffers.specs.Errors.{FailsOrNames}
 use Rattle.gltf_buffers.specs.Names.{Nowhere, MayBeGiven}
 use Rattle.gltf_buffers.specs.Padding.{padded}
 use Rattle.gltf.specs.Errors.{OutOfMemoryOr}
-use Rattle.gltf.specs.Import.{IsValidDocument, RefusesDocument, RefusesImport}
-use Rattle.gltf_bundle.specs.Bundle.{IsAccepted}
+use Rattle.gltf_required.specs.Import.{IsOpenedAs, IsValidAs, RefusesDocumentAs, RefusesImportAs}
+use Rattle.gltf_required.specs.Left.{same_sources}
+use Rattle.gltf_required.specs.declared.required.Required.{Required}
+use Rattle.gltf_bundle.specs.Bundle.{IsAcceptedAs}
+use Rattle.gltf_bundle.proofs.Sourced.{whole_bytes}
 
 -- ---- the one buffer
 
@@ -84,26 +87,53 @@ one_blob (x ∷ []) b blob bytes some few is there no_uri enough = (
 
 -- ---- what is accepted, and what is not
 
-pub is_accepted : (bytes : List ℕ) (r : Root) (blob : Option (List ℕ)) (all : List (List ℕ))
-    → IsValidDocument bytes r blob
-    → AreBytes Nowhere (sources_of r) blob (length (sources_of r)) all → IsAccepted bytes
-is_accepted bytes r blob all valid are =
-    (r, all, record { blob = blob; valid = valid; data_ = are })
+valid_of : (required : Required) (bytes : List ℕ) (left : Root) (blob : Option (List ℕ))
+    (opened : IsOpenedAs required bytes left blob) → IsValidAs required bytes opened.root blob
+valid_of required bytes left blob opened = record {
+  document = opened.document;
+  left = left;
+  is_left = opened.is_left;
+  rules = opened.rules;
+}
 
-pub document_told : (bytes : List ℕ) (e : Error) → OutOfMemoryOr (RefusesDocument bytes) e
-    → OutOfMemoryOr (RefusesImport bytes) e
-document_told bytes error.Memory told = tt
-document_told bytes e told = inl told
+pub is_accepted : (required : Required) (bytes : List ℕ) (left : Root) (blob : Option (List ℕ))
+    (all : List (List ℕ)) → IsOpenedAs required bytes left blob
+    → AreBytes Nowhere (sources_of left) blob (length (sources_of left)) all
+    → IsAcceptedAs required bytes
+is_accepted required bytes left blob all opened are = (
+  opened.root,
+  all,
+  record {
+    blob = blob;
+    valid = valid_of required bytes left blob opened;
+    data_ = whole_bytes required Nowhere bytes left blob opened all are;
+  },
+)
+
+pub document_told : (required : Required) (bytes : List ℕ) (e : Error)
+    → OutOfMemoryOr (RefusesDocumentAs required bytes) e
+    → OutOfMemoryOr (RefusesImportAs required Nowhere bytes) e
+document_told required bytes error.Memory told = tt
+document_told required bytes e told = inl told
 
 abbrev pub FailsWith : Root → Option (List ℕ) → List Named → List Named → Error → Type 0
 FailsWith r blob old new e =
     FailsOrNames (HasBufferFault Nowhere (sources_of r) blob)
     (IsAskedFor Nowhere (sources_of r) blob) old new e
 
-pub buffers_told : (bytes : List ℕ) (r : Root) (blob : Option (List ℕ)) (old new : List Named)
-    (e : Error) → IsValidDocument bytes r blob → FailsWith r blob old new e
-    → OutOfMemoryOr (RefusesImport bytes) e
-buffers_told bytes r blob old new (error.Io cause) valid fails = absurd fails.1.leads.0
-buffers_told bytes r blob old new error.Memory valid fails = tt
-buffers_told bytes r blob old new e valid fails =
+told_of : (required : Required) (bytes : List ℕ) (r : Root) (blob : Option (List ℕ))
+    (old new : List Named) (e : Error) → IsValidAs required bytes r blob
+    → FailsWith r blob old new e → OutOfMemoryOr (RefusesImportAs required Nowhere bytes) e
+told_of required bytes r blob old new (error.Io cause) valid fails = absurd fails.1.leads.0
+told_of required bytes r blob old new error.Memory valid fails = tt
+told_of required bytes r blob old new e valid fails =
     inr (record { root = r; blob = blob; valid = valid; fails = fails.1 })
+
+pub buffers_told : (required : Required) (bytes : List ℕ) (left : Root) (blob : Option (List ℕ))
+    (old new : List Named) (e : Error) → IsOpenedAs required bytes left blob
+    → FailsWith left blob old new e → OutOfMemoryOr (RefusesImportAs required Nowhere bytes) e
+buffers_told required bytes left blob old new e opened fails =
+    told_of required bytes opened.root blob old new e (valid_of required bytes left blob opened)
+    (subst (λ (xs : List Source).
+    FailsOrNames (HasBufferFault Nowhere xs blob) (IsAskedFor Nowhere xs blob) old new e)
+    (same_sources required opened.root left opened.is_left) fails)

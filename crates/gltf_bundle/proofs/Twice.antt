@@ -22,7 +22,8 @@ use Rattle.gltf_edit.specs.declared.picture.Picture.{Picture}
 use Rattle.gltf_edit.specs.declared.span.Span.{Span}
 use Rattle.gltf_names.specs.Named.{Named, File}
 use Rattle.gltf_buffers.specs.Names.{Names, Held}
-use Rattle.gltf.specs.Import.{AcceptsWith}
+use Rattle.gltf_required.specs.Import.{IsRead}
+use Rattle.gltf_required.specs.declared.required.Required.{Required}
 use Rattle.gltf_glb.specs.Laws.{ReadsBack}
 use Rattle.gltf.specs.Laws.{OneTextAndBlob}
 use Rattle.gltf_glb.specs.Written.{container_bytes}
@@ -213,20 +214,17 @@ same_data same = cc
 never : {x : Data} → ◌≡◌ {A = Option Data} None (Some x) → ⊥
 never same = cc
 
-abbrev source_accepted : (names : Names) (path : List ℕ) (value : Data) (r : Root)
-    (buffers : List (List ℕ)) (source : IsSource names path value r buffers)
-    → AcceptsWith names source.bytes r buffers
-source_accepted names path value r buffers source = record {
+abbrev source_read : (required : Required) (names : Names) (path : List ℕ) (value : Data)
+    (r : Root) (buffers : List (List ℕ)) (source : IsSource required names path value r buffers)
+    → IsRead names source.bytes r buffers
+source_read required names path value r buffers source = record {
   blob = source.blob;
-  valid = record {
-    document = record {
-      text = source.text;
-      value = value;
-      parts = source.parts;
-      reads = source.reads;
-      records = source.records;
-    };
-    rules = source.rules;
+  document = record {
+    text = source.text;
+    value = value;
+    parts = source.parts;
+    reads = source.reads;
+    records = source.records;
   };
   data_ = source.data_;
 }
@@ -244,10 +242,12 @@ record IsNothing (ps : List (Option Picture)) (taken : List (List ℕ)) (d : Dat
   pictures : embedded ps d ≡ d
   taken_is : taken ≡ []
 
-module _ (one : OneTextAndBlob) (back : ReadsBack) (spaces : SpacesBehind) (names : Names)
-    (path : List ℕ) (keep : Bool) (answer : List ℕ) (is : IsBundle names path keep answer)
+module _ (one : OneTextAndBlob) (back : ReadsBack) (spaces : SpacesBehind)
+    (required : Required) (names : Names) (path : List ℕ) (keep : Bool) (answer : List ℕ)
+    (is : IsBundle required names path keep answer)
     (from : Named → Option (List ℕ)) (other : List ℕ) (held : from (File other) ≡ Some answer)
-    (kept : Bool) (again : List ℕ) (more : IsBundle (Held from) other kept again) where
+    (kept : Bool) (requires : Required) (again : List ℕ)
+    (more : IsBundle requires (Held from) other kept again) where
   abbrev all : List (List ℕ)
   all = is.buffers ++ is.images
 
@@ -257,17 +257,17 @@ module _ (one : OneTextAndBlob) (back : ReadsBack) (spaces : SpacesBehind) (name
   abbrev edited : Data
   edited = moved_value all is.pictures is.value
 
-  abbrev source : IsSource (Held from) other more.value more.root_ more.buffers
+  abbrev source : IsSource requires (Held from) other more.value more.root_ more.buffers
   source = more.gathered.source
 
   bytes_are : source.bytes ≡ answer
   bytes_are = of_some (sym source.gives ∙ held)
 
-  abbrev accepted : AcceptsWith (Held from) source.bytes more.root_ more.buffers
-  accepted = source_accepted (Held from) other more.value more.root_ more.buffers source
+  abbrev accepted : IsRead (Held from) source.bytes more.root_ more.buffers
+  accepted = source_read requires (Held from) other more.value more.root_ more.buffers source
 
   -- the same answer, by the bytes that the source has
-  abbrev same_is : IsBundle names path keep source.bytes
+  abbrev same_is : IsBundle required names path keep source.bytes
   same_is = record {
     value = is.value;
     root_ = is.root_;
@@ -286,14 +286,14 @@ module _ (one : OneTextAndBlob) (back : ReadsBack) (spaces : SpacesBehind) (name
 
   value_is : more.value ≡ edited
   value_is =
-      the_value one back spaces names path keep source.bytes same_is (Held from) more.root_
-      more.buffers
-      (source_accepted (Held from) other more.value more.root_ more.buffers source)
+      the_value one back spaces required names path keep source.bytes same_is (Held from)
+      more.root_ more.buffers
+      (source_read requires (Held from) other more.value more.root_ more.buffers source)
 
   buffers_are : more.buffers ≡ one_list all
   buffers_are =
-      the_buffers one back spaces names path keep source.bytes same_is (Held from) more.root_
-      more.buffers accepted
+      the_buffers one back spaces required names path keep source.bytes same_is (Held from)
+      more.root_ more.buffers accepted
 
   is_object : IsSome (as_object is.value)
   unfolding root
@@ -425,5 +425,7 @@ module _ (one : OneTextAndBlob) (back : ReadsBack) (spaces : SpacesBehind) (name
       }
 
 pub bundles_again : OneTextAndBlob → ReadsBack → SpacesBehind → BundlesAgain
-bundles_again one back spaces names path keep answer is from other held kept only again more =
-    the_same one back spaces names path keep answer is from other held kept again more only
+bundles_again one back spaces required names path keep answer is from other held kept only requires
+    again more =
+    the_same one back spaces required names path keep answer is from other held kept requires again
+    more only

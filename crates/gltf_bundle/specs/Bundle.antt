@@ -18,8 +18,11 @@ use Rattle.gltf_validation.specs.Documents.{Faults}
 use Rattle.gltf_glb.specs.Written.{container_bytes, total_of}
 use Rattle.gltf_names.specs.Named.{File}
 use Rattle.gltf_buffers.specs.Buffers.{sources_of, AreBytes}
-use Rattle.gltf_buffers.specs.Names.{Names, Gives}
+use Rattle.gltf_buffers.specs.Names.{Names, Nowhere, Gives}
 use Rattle.gltf.specs.Import.{AreParts, Accepts}
+use Rattle.gltf_required.specs.Import.{AcceptsAs}
+use Rattle.gltf_required.specs.Required.{IsLeft}
+use Rattle.gltf_required.specs.declared.required.Required.{Required}
 use Rattle.gltf.specs.Shown.{bytes_of_each}
 use Rattle.gltf_bundle.specs.declared.joining.Places.{Places}
 use Rattle.gltf_bundle.specs.declared.loading.Loaded.{Loaded}
@@ -34,8 +37,9 @@ pub record IsValueOf (bytes : List ℕ) (value : Data) : Type 0 where
   pub reads : Reads text value
   pub nests : depth value ≤ max_depth
 
--- the file at the path is accepted, by its JSON value, its records and the bytes of its buffers
-pub record IsSource (names : Names) (path : List ℕ) (value : Data) (r : Root)
+-- the file at the path is accepted, by its JSON value, its records and the bytes of its buffers, with
+-- the rules of what is left of it without the required names that pass
+pub record IsSource (required : Required) (names : Names) (path : List ℕ) (value : Data) (r : Root)
     (buffers : List (List ℕ)) : Type 0 where
   pub bytes : List ℕ
   pub gives : Gives names (File path) bytes
@@ -45,25 +49,29 @@ pub record IsSource (names : Names) (path : List ℕ) (value : Data) (r : Root)
   pub reads : Reads text value
   pub nests : depth value ≤ max_depth
   pub records : root.is value r
-  pub rules : Faults r ≡ []
+  pub left : Root
+  pub is_left : IsLeft required r left
+  pub rules : Faults left ≡ []
   pub data_ : AreBytes names (sources_of r) blob (length (sources_of r)) buffers
 
 -- that is what was loaded
-abbrev pub IsLoaded : Names → List ℕ → Loaded → Type 0
-IsLoaded names path loaded =
-    (r : Root) × IsSource names path (view loaded.value) r (bytes_of_each loaded.buffers.items)
+abbrev pub IsLoaded : Required → Names → List ℕ → Loaded → Type 0
+IsLoaded required names path loaded =
+    (r : Root)
+    × IsSource required names path (view loaded.value) r (bytes_of_each loaded.buffers.items)
 
 -- and its images are taken in, unless they are kept as they are
-pub record IsGathered (names : Names) (path : List ℕ) (keep : Bool) (value : Data) (r : Root)
-    (buffers images : List (List ℕ)) (pictures : List (Option Picture)) : Type 0 where
-  pub source : IsSource names path value r buffers
+pub record IsGathered (required : Required) (names : Names) (path : List ℕ) (keep : Bool)
+    (value : Data) (r : Root) (buffers images : List (List ℕ)) (pictures : List (Option Picture))
+    : Type 0 where
+  pub source : IsSource required names path value r buffers
   pub taken : AreTaken names keep value pictures images
 
 -- that is what was gathered
-abbrev pub AreGathered : Names → List ℕ → Bool → Gathered → Type 0
-AreGathered names path keep all =
+abbrev pub AreGathered : Required → Names → List ℕ → Bool → Gathered → Type 0
+AreGathered required names path keep all =
     (r : Root) × (buffers : List (List ℕ)) × (images : List (List ℕ))
-    × IsGathered names path keep (view all.value) r buffers images all.pictures.items
+    × IsGathered required names path keep (view all.value) r buffers images all.pictures.items
     × (bytes_of_each all.buffers.items ≡ buffers ++ images)
 
 -- the binary buffer of a container: there is none without buffers
@@ -90,13 +98,14 @@ pub record IsContainerOf (value : Data) (blob : Option (List ℕ)) (answer : Lis
 -- the answer is the canonical container of the edited value of the file at the path, and of the
 -- bytes of its buffers and of the images that are taken in as one, where each view lies in its
 -- buffer
-pub record IsBundle (names : Names) (path : List ℕ) (keep : Bool) (answer : List ℕ) : Type 0 where
+pub record IsBundle (required : Required) (names : Names) (path : List ℕ) (keep : Bool)
+    (answer : List ℕ) : Type 0 where
   pub value : Data
   pub root_ : Root
   pub buffers : List (List ℕ)
   pub images : List (List ℕ)
   pub pictures : List (Option Picture)
-  pub gathered : IsGathered names path keep value root_ buffers images pictures
+  pub gathered : IsGathered required names path keep value root_ buffers images pictures
   pub placed : ArePlaced (spans_from 0 (buffers ++ images)) (embedded pictures value)
   pub short : length (joined (buffers ++ images)) < 2 ^ 32
   pub json : List ℕ
@@ -109,3 +118,8 @@ pub record IsBundle (names : Names) (path : List ℕ) (keep : Bool) (answer : Li
 -- the bytes are accepted where no name can be asked for
 abbrev pub IsAccepted : List ℕ → Type 0
 IsAccepted bytes = (r : Root) × (buffers : List (List ℕ)) × Accepts bytes r buffers
+
+-- the same where some of the extensions that they require pass
+abbrev pub IsAcceptedAs : Required → List ℕ → Type 0
+IsAcceptedAs required bytes =
+    (r : Root) × (buffers : List (List ℕ)) × AcceptsAs required Nowhere bytes r buffers

@@ -10,36 +10,37 @@ use Rattle.gltf_buffers.specs.Buffers.{IsMeant}
 use Rattle.gltf_names.specs.Named.{Named, File}
 use Rattle.gltf_buffers.specs.Names.{Names, Held}
 use Rattle.gltf_buffers.specs.Uri.{uri_of}
-use Rattle.gltf.specs.Import.{AcceptsWith}
+use Rattle.gltf_required.specs.Import.{IsRead}
+use Rattle.gltf_required.specs.declared.required.Required.{Required}
 use Rattle.gltf_moved.specs.Images.{IsInView}
 use Rattle.gltf_moved.specs.Laws.{IsMoved, one_list, moved_value}
 use Rattle.gltf_bundle.specs.Bundle.{IsBundle, blob_of}
 use Rattle.gltf_bundle.specs.Media.{media_of}
 
--- whatever a bundle is imported as, over any source: the records are those of the edited value, and
--- the buffers are the one
+-- whatever a bundle is read as, over any source, whatever rules it breaks: the records are those of
+-- the edited value, and the buffers are the one
 abbrev pub HasOneBuffer : Type 0
 HasOneBuffer =
-    (names : Names) (path : List ℕ) (keep : Bool) (answer : List ℕ)
-    (is : IsBundle names path keep answer) (over : Names) (s : Root) (others : List (List ℕ))
-    → AcceptsWith over answer s others
+    (required : Required) (names : Names) (path : List ℕ) (keep : Bool) (answer : List ℕ)
+    (is : IsBundle required names path keep answer) (over : Names) (s : Root)
+    (others : List (List ℕ)) → IsRead over answer s others
     → IsMoved is.buffers is.images is.root_ s × (others ≡ one_list (is.buffers ++ is.images))
 
 -- no buffer has a URI, and no image has one, unless images are kept
 abbrev pub NeedsNoFile : Type 0
 NeedsNoFile =
-    (names : Names) (path : List ℕ) (keep : Bool) (answer : List ℕ)
-    → IsBundle names path keep answer → (over : Names) (s : Root) (others : List (List ℕ))
-    → AcceptsWith over answer s others
+    (required : Required) (names : Names) (path : List ℕ) (keep : Bool) (answer : List ℕ)
+    → IsBundle required names path keep answer → (over : Names) (s : Root)
+    (others : List (List ℕ)) → IsRead over answer s others
     → All (λ b. b.uri ≡ None) s.buffers.items
     × (keep ≡ false → All (λ i. i.uri ≡ None) s.images.items)
 
 -- and each accessor has the items that it has in the file
 abbrev pub KeepsItems : {X : Type 0} → Ghosts X → Type 0
 KeepsItems {X} t =
-    (names : Names) (path : List ℕ) (keep : Bool) (answer : List ℕ)
-    (is : IsBundle names path keep answer) (over : Names) (s : Root) (others : List (List ℕ))
-    → AcceptsWith over answer s others → (index : ℕ) (result : Option (List X))
+    (required : Required) (names : Names) (path : List ℕ) (keep : Bool) (answer : List ℕ)
+    (is : IsBundle required names path keep answer) (over : Names) (s : Root)
+    (others : List (List ℕ)) → IsRead over answer s others → (index : ℕ) (result : Option (List X))
     → ReadsAt t is.root_ (slice_get is.buffers) index result
     ↔ ReadsAt t s (slice_get others) index result
 
@@ -56,8 +57,9 @@ pub record IsShown (names : Names) (uri : List ℕ) (own : Option (List ℕ))
 -- so is each image that has one, unless images are kept
 abbrev pub ShowsImages : Type 0
 ShowsImages =
-    (names : Names) (path answer : List ℕ) (is : IsBundle names path false answer) (over : Names)
-    (s : Root) (others : List (List ℕ)) → AcceptsWith over answer s others
+    (required : Required) (names : Names) (path answer : List ℕ)
+    (is : IsBundle required names path false answer) (over : Names) (s : Root)
+    (others : List (List ℕ)) → IsRead over answer s others
     → (i : ℕ) (image : Image) → slice_get is.root_.images.items i ≡ Some image
     → (uri : List ℕ) → option_map string_bytes image.uri ≡ Some uri
     → IsShown names uri (option_map string_bytes image.mime_type) others s i
@@ -66,9 +68,9 @@ ShowsImages =
 
 -- two bundles have the same JSON value and the same binary buffer; where the value has no float
 -- they are the same bytes
-pub record IsTheSame {names over : Names} {path other : List ℕ} {keep kept : Bool}
-    {answer again : List ℕ} (is : IsBundle names path keep answer)
-    (more : IsBundle over other kept again) : Type 0 where
+pub record IsTheSame {required others : Required} {names over : Names} {path other : List ℕ}
+    {keep kept : Bool} {answer again : List ℕ} (is : IsBundle required names path keep answer)
+    (more : IsBundle others over other kept again) : Type 0 where
   pub value : moved_value (more.buffers ++ more.images) more.pictures more.value
       ≡ moved_value (is.buffers ++ is.images) is.pictures is.value
   pub blob : blob_of (more.buffers ++ more.images) ≡ blob_of (is.buffers ++ is.images)
@@ -78,7 +80,8 @@ pub record IsTheSame {names over : Names} {path other : List ℕ} {keep kept : B
 -- so has a bundle, bundled again out of a source that has it; images that were kept are kept
 abbrev pub BundlesAgain : Type 0
 BundlesAgain =
-    (names : Names) (path : List ℕ) (keep : Bool) (answer : List ℕ)
-    (is : IsBundle names path keep answer) (from : Named → Option (List ℕ)) (other : List ℕ)
-    → from (File other) ≡ Some answer → (kept : Bool) → (keep ≡ true → kept ≡ true)
-    → (again : List ℕ) (more : IsBundle (Held from) other kept again) → IsTheSame is more
+    (required : Required) (names : Names) (path : List ℕ) (keep : Bool) (answer : List ℕ)
+    (is : IsBundle required names path keep answer) (from : Named → Option (List ℕ))
+    (other : List ℕ) → from (File other) ≡ Some answer → (kept : Bool) → (keep ≡ true → kept ≡ true)
+    → (others : Required) (again : List ℕ) (more : IsBundle others (Held from) other kept again)
+    → IsTheSame is more

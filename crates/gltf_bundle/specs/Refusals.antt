@@ -16,88 +16,97 @@ use Rattle.gltf_glb.specs.Written.{container_bytes, total_of}
 use Rattle.gltf_glb.specs.declared.error.Error.{Error}
 use Rattle.gltf_glb.specs.declared.error.Error.TheVariants.{Memory}
 use Rattle.gltf_names.specs.Named.{Named}
-use Rattle.gltf_buffers.specs.Names.{Names}
+use Rattle.gltf_buffers.specs.Names.{Names, Nowhere}
 use Rattle.gltf.specs.Errors.{OutOfMemoryOr}
-use Rattle.gltf.specs.Files.{RefusesFileAt}
-use Rattle.gltf.specs.Import.{RefusesImport}
+use Rattle.gltf_required.specs.Files.{RefusesFileAs}
+use Rattle.gltf_required.specs.Import.{RefusesImportAs}
+use Rattle.gltf_required.specs.declared.required.Required.{Required}
 use Rattle.gltf_bundle.specs.Bundle.{IsSource, IsGathered, blob_of}
 use Rattle.gltf_bundle.specs.Images.{RefusesImages}
 use Rattle.gltf_bundle.specs.declared.error.BundleError.{BundleError}
 use Rattle.gltf_bundle.specs.declared.error.BundleError.TheVariants as bundle
 
 -- the error of the import of the file at the path, or out of memory
-abbrev pub RefusesSource : Names → List ℕ → List Named → List Named → BundleError → Type 0
-RefusesSource names path old new (bundle.Import e) =
-    OutOfMemoryOr (RefusesFileAt names path old new) e
-RefusesSource names path old new _ = ⊥
+abbrev pub RefusesSource : Required → Names → List ℕ → List Named → List Named → BundleError
+    → Type 0
+RefusesSource required names path old new (bundle.Import e) =
+    OutOfMemoryOr (RefusesFileAs required names path old new) e
+RefusesSource required names path old new _ = ⊥
 
 -- the file is accepted, and its images are not kept and are refused so
-pub record HasBadImage (names : Names) (path : List ℕ) (keep : Bool) (old new : List Named)
-    (e : BundleError) : Type 0 where
+pub record HasBadImage (required : Required) (names : Names) (path : List ℕ) (keep : Bool)
+    (old new : List Named) (e : BundleError) : Type 0 where
   pub value : Data
   pub root_ : Root
   pub buffers : List (List ℕ)
-  pub source : IsSource names path value root_ buffers
+  pub source : IsSource required names path value root_ buffers
   pub not_kept : keep ≡ false
   pub told : RefusesImages names (items_at (codes "images") value) old new e
 
 -- the error of the import, or of the images, or out of memory
-abbrev pub RefusesFile : Names → List ℕ → Bool → List Named → List Named → BundleError → Type 0
-RefusesFile names path keep old new (bundle.Import e) =
-    OutOfMemoryOr (RefusesFileAt names path old new) e
-RefusesFile names path keep old new (bundle.Image i e) =
-    HasBadImage names path keep old new (bundle.Image i e)
-RefusesFile names path keep old new (bundle.ImageType i) =
-    HasBadImage names path keep old new (bundle.ImageType i)
-RefusesFile names path keep old new _ = ⊥
+abbrev pub RefusesFile : Required → Names → List ℕ → Bool → List Named → List Named → BundleError
+    → Type 0
+RefusesFile required names path keep old new (bundle.Import e) =
+    OutOfMemoryOr (RefusesFileAs required names path old new) e
+RefusesFile required names path keep old new (bundle.Image i e) =
+    HasBadImage required names path keep old new (bundle.Image i e)
+RefusesFile required names path keep old new (bundle.ImageType i) =
+    HasBadImage required names path keep old new (bundle.ImageType i)
+RefusesFile required names path keep old new _ = ⊥
 
 -- the file is accepted, its images are taken in, and view i is the first that does not lie in its
 -- buffer
-pub record HasStray (names : Names) (path : List ℕ) (keep : Bool) (i : ℕ) : Type 0 where
+pub record HasStray (required : Required) (names : Names) (path : List ℕ) (keep : Bool) (i : ℕ)
+    : Type 0 where
   pub value : Data
   pub root_ : Root
   pub buffers : List (List ℕ)
   pub images : List (List ℕ)
   pub pictures : List (Option Picture)
-  pub gathered : IsGathered names path keep value root_ buffers images pictures
+  pub gathered : IsGathered required names path keep value root_ buffers images pictures
   pub stray : NamesStray (spans_from 0 (buffers ++ images)) (embedded pictures value) (Outside i)
 
 -- the file is accepted, its images are taken in, and all is too long for one buffer
-pub record HasTooMuch (names : Names) (path : List ℕ) (keep : Bool) : Type 0 where
+pub record HasTooMuch (required : Required) (names : Names) (path : List ℕ) (keep : Bool)
+    : Type 0 where
   pub value : Data
   pub root_ : Root
   pub buffers : List (List ℕ)
   pub images : List (List ℕ)
   pub pictures : List (Option Picture)
-  pub gathered : IsGathered names path keep value root_ buffers images pictures
+  pub gathered : IsGathered required names path keep value root_ buffers images pictures
   pub long : 2 ^ 32 ≤ length (joined (buffers ++ images))
 
 -- the file is accepted, its images are taken in, each view lies in its buffer, and the container
 -- would be too long, or is refused with this error; out of memory says nothing of it
-pub record HasNoContainer (names : Names) (path : List ℕ) (keep : Bool) (e : Error) : Type 0 where
+pub record HasNoContainer (required : Required) (names : Names) (path : List ℕ) (keep : Bool)
+    (e : Error) : Type 0 where
   pub value : Data
   pub root_ : Root
   pub buffers : List (List ℕ)
   pub images : List (List ℕ)
   pub pictures : List (Option Picture)
-  pub gathered : IsGathered names path keep value root_ buffers images pictures
+  pub gathered : IsGathered required names path keep value root_ buffers images pictures
   pub placed : ArePlaced (spans_from 0 (buffers ++ images)) (embedded pictures value)
   pub json : List ℕ
   pub reads : Reads json (moved_value (buffers ++ images) pictures value)
   pub fault : (2 ^ 32 ≤ total_of json (blob_of (buffers ++ images)))
-      ⊎ OutOfMemoryOr (RefusesImport (container_bytes json (blob_of (buffers ++ images)))) e
+      ⊎ OutOfMemoryOr (RefusesImportAs required Nowhere
+      (container_bytes json (blob_of (buffers ++ images)))) e
 
 -- the error is that of the import, or names the one other condition that does not hold
-abbrev pub RefusesBundle : Names → List ℕ → Bool → List Named → List Named → BundleError → Type 0
-RefusesBundle names path keep old new (bundle.Import e) =
-    OutOfMemoryOr (RefusesFileAt names path old new) e
-RefusesBundle names path keep old new (bundle.View i) = HasStray names path keep i
-RefusesBundle names path keep old new (bundle.Image i e) =
-    HasBadImage names path keep old new (bundle.Image i e)
-RefusesBundle names path keep old new (bundle.ImageType i) =
-    HasBadImage names path keep old new (bundle.ImageType i)
-RefusesBundle names path keep old new bundle.TooLong = HasTooMuch names path keep
-RefusesBundle names path keep old new (bundle.Answer e) = HasNoContainer names path keep e
+abbrev pub RefusesBundle : Required → Names → List ℕ → Bool → List Named → List Named → BundleError
+    → Type 0
+RefusesBundle required names path keep old new (bundle.Import e) =
+    OutOfMemoryOr (RefusesFileAs required names path old new) e
+RefusesBundle required names path keep old new (bundle.View i) = HasStray required names path keep i
+RefusesBundle required names path keep old new (bundle.Image i e) =
+    HasBadImage required names path keep old new (bundle.Image i e)
+RefusesBundle required names path keep old new (bundle.ImageType i) =
+    HasBadImage required names path keep old new (bundle.ImageType i)
+RefusesBundle required names path keep old new bundle.TooLong = HasTooMuch required names path keep
+RefusesBundle required names path keep old new (bundle.Answer e) =
+    HasNoContainer required names path keep e
 
 -- out of memory, or the container of some text of the value and of the blob would be too long
 abbrev pub RefusesContainerOf : Data → Option (List ℕ) → BundleError → Type 0

@@ -1,13 +1,15 @@
 //! One container out of a file and the files that its buffers and images name.
 ghost use Rattle.std.specs.Prelude.{◌≡◌, IfOk, IfErr, OnOk, length};
 ghost use Rattle.gltf_buffers.specs.Names.{names_of};
-ghost use Rattle.gltf_bundle.specs.Bundle.{IsBundle, IsAccepted, IsContainerOf, blob_of};
+ghost use Rattle.gltf_bundle.specs.Bundle.{IsBundle, IsAccepted, IsAcceptedAs, IsContainerOf};
+ghost use Rattle.gltf_bundle.specs.Bundle.{blob_of};
 ghost use Rattle.gltf_bundle.specs.Refusals.{RefusesBundle, RefusesContainerOf};
 ghost use Rattle.gltf_edit.specs.Bundled.{bundled, ArePlaced};
 ghost use Rattle.gltf_edit.specs.Embedded.{embedded};
 ghost use Rattle.gltf_edit.specs.Faults.{NamesStray};
 ghost use Rattle.gltf_edit.specs.Joined.{joined};
 ghost use Rattle.gltf.specs.Shown.{bytes_of_each};
+ghost use Rattle.gltf_required.specs.declared.required.Required.TheVariants.{Supported};
 ghost use Rattle.serde_json.specs.View.{view};
 
 use crate::error::BundleError;
@@ -19,6 +21,7 @@ use gltf::NamedBytes;
 use gltf::buffer::Data;
 use gltf_edit::{Fault, Picture, bundled, embedded};
 use gltf_glb::Error;
+use gltf_required::Required;
 use serde_json::Value;
 use std::alloc::Global;
 
@@ -53,22 +56,45 @@ pub fn bundle<S: NamedBytes>(
     path: &str,
     options: &BundleOptions,
 ) -> Result<Vec<u8>, BundleError>
-    ensures bundle { IfOk result (λ answer. IsBundle (names_of (S.bytes_by_name source.old))
-        path.now options.now.keep_images answer.items) }
+    ensures bundle { IfOk result (λ answer. IsBundle Supported
+        (names_of (S.bytes_by_name source.old)) path.now options.now.keep_images answer.items) }
     ensures accepted { IfOk result (λ answer. IsAccepted answer.items) }
-    ensures refused { IfErr result (RefusesBundle (names_of (S.bytes_by_name source.old)) path.now
-        options.now.keep_images (S.failures source.old) (S.failures source.new)) }
+    ensures refused { IfErr result (RefusesBundle Supported
+        (names_of (S.bytes_by_name source.old)) path.now options.now.keep_images
+        (S.failures source.old) (S.failures source.new)) }
+{
+    bundle_with(alloc, source, path, options, &Required::Supported)
+}
+
+/// [`bundle`] of a file that may require these extensions (glTF 2.0, section 3.12, "Specifying
+/// Extensions"). The container requires what the file does, and is tried with the same extensions
+/// before it is returned. Nothing that an extension says is read but that of
+/// `EXT_meshopt_compression`: what it says of views, accessors, images and textures by their
+/// indices stays true, since all keep theirs.
+pub fn bundle_with<S: NamedBytes>(
+    alloc: Global,
+    source: &mut S,
+    path: &str,
+    options: &BundleOptions,
+    required: &Required<'_>,
+) -> Result<Vec<u8>, BundleError>
+    ensures bundle { IfOk result (λ answer. IsBundle required.now
+        (names_of (S.bytes_by_name source.old)) path.now options.now.keep_images answer.items) }
+    ensures accepted { IfOk result (λ answer. IsAcceptedAs required.now answer.items) }
+    ensures refused { IfErr result (RefusesBundle required.now
+        (names_of (S.bytes_by_name source.old)) path.now options.now.keep_images
+        (S.failures source.old) (S.failures source.new)) }
 {
     let Gathered {
         value,
         pictures,
         buffers,
-    } = gather(alloc, source, path, options.keep_images)?;
+    } = gather(alloc, source, path, options.keep_images, required)?;
     let places = places_of(alloc, &buffers)?;
     let value = edited(alloc, value, &pictures, &places)?;
     let answer = container_of(alloc, &value, &buffers, places.total)?;
     drop(buffers);
-    match tried(alloc, &answer) {
+    match tried(alloc, &answer, required) {
         Ok(()) => Ok(answer),
         Err(Error::Memory) => Err(BundleError::Import(Error::Memory)),
         Err(error) => Err(BundleError::Answer(error)),

@@ -11,9 +11,10 @@ mod media;
 mod options;
 mod trial;
 
-pub use bundling::bundle;
+pub use bundling::{bundle, bundle_with};
 pub use error::BundleError;
+pub use gltf_required::Required;
 pub use images::{image_bytes, text_at};
-pub use loading::{Loaded, load};
+pub use loading::{Loaded, load, load_with};
 pub use media::begun_media;
 pub use options::BundleOptions;

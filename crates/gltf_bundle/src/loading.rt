@@ -4,6 +4,7 @@ ghost use Rattle.gltf_bundle.specs.Bundle.{IsLoaded, IsValueOf, AreGathered};
 ghost use Rattle.gltf_bundle.specs.Refusals.{RefusesSource, RefusesFile};
 ghost use Rattle.gltf_bundle.specs.declared.error.BundleError.TheVariants.{Import};
 ghost use Rattle.gltf_glb.specs.declared.error.Error.TheVariants.{Memory};
+ghost use Rattle.gltf_required.specs.declared.required.Required.TheVariants.{Supported};
 ghost use Rattle.gltf_buffers.specs.Names.{names_of};
 ghost use Rattle.serde_json.specs.View.{view};
 
@@ -15,6 +16,7 @@ use gltf::{Gltf, Name, NamedBytes, import_buffers_from, text_and_blob};
 use gltf_buffers::Ask;
 use gltf_edit::Picture;
 use gltf_glb::Error;
+use gltf_required::{Required, from_slice_as};
 use serde_json::Value;
 use std::alloc::Global;
 
@@ -29,9 +31,31 @@ pub struct Loaded {
 
 /// Imports the file at the path, as [`gltf::import_from`] does.
 pub fn load<S: NamedBytes>(alloc: Global, source: &mut S, path: &str) -> Result<Loaded, BundleError>
-    ensures loaded { IfOk result (IsLoaded (names_of (S.bytes_by_name source.old)) path.now) }
-    ensures refused { IfErr result (RefusesSource (names_of (S.bytes_by_name source.old)) path.now
-        (S.failures source.old) (S.failures source.new)) }
+    ensures loaded { IfOk result (IsLoaded Supported (names_of (S.bytes_by_name source.old))
+        path.now) }
+    ensures refused { IfErr result (RefusesSource Supported (names_of (S.bytes_by_name source.old))
+        path.now (S.failures source.old) (S.failures source.new)) }
+    ensures fine { OnOk result (S.failures source.new ≡ S.failures source.old) }
+    ensures kept { OnOk result (names_of (S.bytes_by_name source.new)
+        ≡ names_of (S.bytes_by_name source.old)) }
+{
+    load_with(alloc, source, path, &Required::Supported)
+}
+
+/// [`load`] of a file that may require these extensions (glTF 2.0, section 3.12, "Specifying
+/// Extensions"). The value is that of the whole file, with all names that it requires. The error of
+/// a broken rule is that of the file without the names that pass.
+pub fn load_with<S: NamedBytes>(
+    alloc: Global,
+    source: &mut S,
+    path: &str,
+    required: &Required<'_>,
+) -> Result<Loaded, BundleError>
+    ensures loaded { IfOk result (IsLoaded required.now (names_of (S.bytes_by_name source.old))
+        path.now) }
+    ensures refused { IfErr result (RefusesSource required.now
+        (names_of (S.bytes_by_name source.old)) path.now (S.failures source.old)
+        (S.failures source.new)) }
     ensures fine { OnOk result (S.failures source.new ≡ S.failures source.old) }
     ensures kept { OnOk result (names_of (S.bytes_by_name source.new)
         ≡ names_of (S.bytes_by_name source.old)) }
@@ -42,7 +66,7 @@ pub fn load<S: NamedBytes>(alloc: Global, source: &mut S, path: &str) -> Result<
         Ok(bytes) => bytes,
         Err(error) => return Err(BundleError::Import(error)),
     };
-    let file = match Gltf::from_slice(alloc, &bytes) {
+    let file = match from_slice_as(alloc, &bytes, required) {
         Ok(file) => file,
         Err(error) => return Err(BundleError::Import(error)),
     };
@@ -74,13 +98,14 @@ pub(crate) fn gather<S: NamedBytes>(
     source: &mut S,
     path: &str,
     keep: bool,
+    required: &Required<'_>,
 ) -> Result<Gathered, BundleError>
-    ensures gathered { IfOk result (AreGathered (names_of (S.bytes_by_name source.old)) path.now
-        keep) }
-    ensures refused { IfErr result (RefusesFile (names_of (S.bytes_by_name source.old)) path.now
-        keep (S.failures source.old) (S.failures source.new)) }
+    ensures gathered { IfOk result (AreGathered required.now (names_of (S.bytes_by_name source.old))
+        path.now keep) }
+    ensures refused { IfErr result (RefusesFile required.now (names_of (S.bytes_by_name source.old))
+        path.now keep (S.failures source.old) (S.failures source.new)) }
 {
-    let Loaded { value, buffers } = load(alloc, source, path)?;
+    let Loaded { value, buffers } = load_with(alloc, source, path, required)?;
     let mut buffers = buffers;
     let pictures = pictures_of(alloc, source, &value, keep, &mut buffers)?;
     Ok(Gathered {

@@ -213,15 +213,21 @@ fn is_displaced<'s, F: Fn(Buffer) -> Option<&'s [u8]>>(
     }
 }
 
-/// Writes a reason, or that there is none; and whether the reader reads where there is one.
+/// Writes a reason, or that there is none; and where the reader does otherwise, that it does.
 fn write_reason(reason: Option<NotRead>, is_read: bool, line: &mut String) -> Written {
     match reason {
-        Some(reason) => write!(line, "{reason:?}: {reason}")?,
-        None => line.push_str("read")?,
+        Some(reason) => {
+            write!(line, "{reason:?}: {reason}")?;
+            if is_read {
+                line.push_str("; the reader gives items")?;
+            }
+        }
+        None => {
+            line.push_str("read")?;
+            if !is_read {
+                line.push_str("; the reader gives none")?;
+            }
+        }
     }
-    if reason.is_none() == is_read {
-        Ok(())
-    } else {
-        line.push_str(", and the reader differs")
-    }
+    Ok(())
 }

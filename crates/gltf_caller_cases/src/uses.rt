@@ -26,24 +26,14 @@ pub(crate) fn write(alloc: Global, asked: Asked<'_>, root: &Root, line: &mut Str
     }
 }
 
-/// The list of a name: that of a member of the root, or `lights`.
+/// The list of a name.
 fn kind_of(name: &str) -> Option<Kind> {
-    match name {
-        "accessors" => Some(Kind::Accessor),
-        "buffers" => Some(Kind::Buffer),
-        "cameras" => Some(Kind::Camera),
-        "images" => Some(Kind::Image),
-        "lights" => Some(Kind::Light),
-        "materials" => Some(Kind::Material),
-        "meshes" => Some(Kind::Mesh),
-        "nodes" => Some(Kind::Node),
-        "samplers" => Some(Kind::Sampler),
-        "scenes" => Some(Kind::Scene),
-        "skins" => Some(Kind::Skin),
-        "textures" => Some(Kind::Texture),
-        "bufferViews" => Some(Kind::View),
-        _ => None,
+    for kind in &Kind::ALL {
+        if kind.as_str() == name {
+            return Some(*kind);
+        }
     }
+    None
 }
 
 /// Writes each path and its pointer.

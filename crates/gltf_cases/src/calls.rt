@@ -18,7 +18,7 @@ use std::alloc::Global;
 ///   bytes.
 /// - `broken COUNT`: a document that breaks so many rules.
 /// - `files`: the import of a file that names others.
-/// - `source`, `shelf`, `named`: named bytes, and the buffers that they are.
+/// - `source`, `shelf`, `inside`, `named`: named bytes, and the buffers that they are.
 /// - `write`: the bytes of a container of a text and a blob.
 /// - all others are calls on a file, of the text or the bytes, or of a container of the text and a
 ///   blob.
@@ -35,6 +35,7 @@ pub(crate) fn answer(alloc: Global, asked: Asked<'_>, line: &mut String) -> Writ
         "files" => files::of_shelf(alloc, asked, line),
         "source" => named::of_source(alloc, asked, line),
         "shelf" => named::of_shelf(alloc, asked, line),
+        "inside" => named::of_inside(alloc, asked, line),
         "named" => named::of_document(alloc, asked, line),
         "write" => of_container(alloc, asked, line),
         "over" => of_text(alloc, asked, line),

@@ -11,6 +11,7 @@ use gltf_case::bytes::bytes_of;
 use gltf_case::refused::write_error;
 use gltf_case::shelf::{blob_of, put, shelf_of};
 use gltf_case::shown::{Written, tell_copy};
+use gltf_names::Inside;
 use std::alloc::Global;
 use std::rt::HostRuntime;
 
@@ -66,6 +67,24 @@ pub(crate) fn of_shelf(alloc: Global, asked: Asked<'_>, line: &mut String) -> Wr
             put(alloc, &mut shelf, word)?;
         } else {
             write_read(alloc, &mut shelf, word, line)?;
+        }
+    }
+    Ok(())
+}
+
+/// The bytes of names inside the folder of a document, whose path is given, and of none outside:
+/// `inside WORD..`, where what words with `=` put on a shelf stands there from the first read on.
+pub(crate) fn of_inside(alloc: Global, asked: Asked<'_>, line: &mut String) -> Written {
+    let mut shelf = Shelf::new(alloc);
+    for word in asked.words.split_whitespace() {
+        if word.contains("=") {
+            put(alloc, &mut shelf, word)?;
+        }
+    }
+    let mut inside = Inside::new(shelf, asked.given);
+    for word in asked.words.split_whitespace() {
+        if !word.contains("=") {
+            write_read(alloc, &mut inside, word, line)?;
         }
     }
     Ok(())

@@ -5,11 +5,20 @@ use gltf_put::PutFault;
 use std::alloc::AllocError;
 use std::{fmt, io};
 
-const USAGE: &str = "usage: gltf_convert IN OUT.glb [--keep-images]
-       gltf_convert IN OUT.gltf [--keep-images|--drop-image-views] [--pretty]
+const USAGE: &str = "usage: gltf_convert IN OUT.glb [--keep-images] [--keep-unknown] [--outside]
+       gltf_convert IN OUT.gltf [--keep-images|--drop-image-views] [--pretty] [--keep-unknown]
+           [--outside] [--force]
 
 Writes the glTF file IN, GLB or JSON, anew. Each accessor has the same items. Unless images are
 kept, what is written needs no other file than those that are written with it.
+
+A file may require any extension. What an extension says is written as it stands, but for the buffer
+that EXT_meshopt_compression names in a view; views, accessors, images and textures keep their
+indices, but for the views that --drop-image-views takes away.
+
+Where the object of an extension has a member buffer, buffers, uri or uris, but for that buffer, it
+names what is not moved, and nothing is written. With --keep-unknown it is written as it stands, and
+a line on standard error says where.
 
 OUT.glb is one GLB container. The buffers become one without a URI, and each image with a URI goes
 into a view of that buffer. The media type of such an image is that which its data: URI names,
@@ -32,12 +41,20 @@ stands behind that end than bytes of views that go, and zeros.
 Where the bytes of an image cannot be read, nothing is written. With --keep-images images are not
 touched: each one stays in its view, or keeps its URI.
 
+Only files in the folder of IN, and in folders below it, are read. An absolute path, a file: URI, a
+path that climbs out by .., and a symbolic link out of that folder are refused, and nothing is
+written. With --outside they are read wherever they lead: for files that you trust.
+
 The bytes of each file go to its name with .part behind it, a new file, which takes the name once
 the bytes of all are whole, the JSON text last; so OUT may be IN. Where a write fails, each file
 is what it was before, and the new ones are removed. Where a new file cannot take its name, those
 before it have theirs, and the others are removed. Where the program is stopped, or a new file
 cannot be removed, it is left behind with a part of the bytes; the program writes to no such file
 that is there already.
+
+No file beside OUT.gltf is written over that is there already, but those that an earlier OUT.gltf
+names: nothing is written then. With --force it is, unless it is IN or a file that IN needs, which
+only an OUT that is IN itself may replace.
 
 A file of such a name that is there has to be a regular file, or a symbolic link to one, which is
 then replaced in its place. The new file has its mode. It belongs to whoever runs the program, and
@@ -56,6 +73,8 @@ pub(crate) enum Refusal<'w> {
     Put(PutFault<'w>),
     /// One of several files could not be written: why.
     Files(String),
+    /// The object of an extension names a buffer or a file itself: where, and the way out.
+    Elsewhere(String),
     /// There is not enough memory.
     Memory,
     /// All files are written, and a line that says so could not be.
@@ -79,6 +98,26 @@ impl Refusal<'_> {
             _ => false,
         }
     }
+
+    /// Whether a file was not read since it stands outside of the folder of the first one: no
+    /// error of the system, which says so of a file that may not be read too.
+    pub(crate) fn is_outside(&self) -> bool {
+        match self {
+            Refusal::File(BundleError::Import(Error::Io(cause))) => is_refusal(cause),
+            Refusal::File(
+                BundleError::Image {
+                    cause: Error::Io(cause),
+                    ..
+                },
+            ) => is_refusal(cause),
+            _ => false,
+        }
+    }
+}
+
+/// Whether a source refused to read.
+fn is_refusal(cause: &io::Error) -> bool {
+    cause.kind() == io::ErrorKind::PermissionDenied && cause.raw_os_error().is_none()
 }
 
 impl<'w> From<PutFault<'w>> for Refusal<'w> {
@@ -107,6 +146,7 @@ impl fmt::Display for Refusal<'_> {
             Refusal::File(error) => write!(f, "{error}"),
             Refusal::Put(fault) => write!(f, "{fault}"),
             Refusal::Files(reason) => write!(f, "{reason}"),
+            Refusal::Elsewhere(reason) => write!(f, "{reason}"),
             Refusal::Memory => write!(f, "out of memory"),
             Refusal::Line(cause) => write!(f, "{cause}"),
         }

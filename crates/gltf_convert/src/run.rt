@@ -1,11 +1,15 @@
 //! The engine of the program, over any files and any two writers.
+use crate::beside::spare;
+use crate::elsewhere::look;
+use crate::noted::Notes;
 use crate::refusal::Refusal;
 use crate::words::{Conversion, Form, request};
-use gltf::{NamedBytes, base_of};
-use gltf_bundle::{BundleOptions, bundle};
+use gltf::{NamedBytes, base_of, text_and_blob};
+use gltf_bundle::{BundleError, BundleOptions, bundle_with};
 use gltf_detach::Part;
 use gltf_put::{put, put_all};
-use gltf_split::{Pieces, SplitOptions, split};
+use gltf_required::Required;
+use gltf_split::{Pieces, SplitOptions, split_with};
 use std::alloc::{AllocError, Global};
 use std::io::{self, Write};
 use std::rt::Files;
@@ -13,22 +17,23 @@ use std::rt::Files;
 /// Converts the file that the first word names to the form that the name in the second ends in,
 /// where the words are the arguments after the program's name, and gives the exit status. The files
 /// are asked of the source by name. After the names, `--keep-images` says that images are not
-/// touched, `--drop-image-views` that the views go that only images name, and `--pretty` that JSON
-/// has line breaks.
+/// touched, `--drop-image-views` that the views go that only images name, `--pretty` that JSON has
+/// line breaks, `--force` that files beside the text are written over others that are there, and
+/// `--keep-unknown` that what the objects of extensions name themselves is written as it stands.
 ///
 /// - 0: all files are whole, and a line on `out` for each says how long it is.
 /// - 1: the file is refused, a file could not be written, or a line could not; the reason stands on
 ///   `err`, with the name of a file that could not be read or written.
 /// - 2: the words are not these, or the second ends in neither `.glb` nor `.gltf`; the reason
 ///   stands on `err`.
-pub fn run<S: NamedBytes, O: Write, E: Write>(
+pub fn run<S: Notes, O: Write, E: Write>(
     rt: &(impl Files + AllocGlobal),
     source: &mut S,
     words: &[&str],
     out: &mut O,
     err: &mut E,
 ) -> u8 {
-    match answer(rt, source, words, out) {
+    match answer(rt, source, words, out, err) {
         Ok(()) => 0,
         Err(refusal) => {
             // Where this write fails too, the status alone says so.
@@ -41,46 +46,56 @@ pub fn run<S: NamedBytes, O: Write, E: Write>(
 /// Writes why nothing was converted; where a file was not read, after the name of that file.
 fn report<E: Write>(refusal: &Refusal, failed: Option<&str>, err: &mut E) -> io::Result<()> {
     match failed {
+        Some(name) if refusal.is_outside() => {
+            writeln!(err, "{name}: {refusal}; --outside reads it")
+        }
         Some(name) if refusal.is_failed_read() => writeln!(err, "{name}: {refusal}"),
         _ => writeln!(err, "{refusal}"),
     }
 }
 
-fn answer<'w, S: NamedBytes, O: Write>(
+fn answer<'w, S: Notes, O: Write, E: Write>(
     rt: &(impl Files + AllocGlobal),
     source: &mut S,
     words: &[&'w str],
     out: &mut O,
+    err: &mut E,
 ) -> Result<(), Refusal<'w>> {
     let asked = request(words)?;
     match asked.form {
-        Form::Container => write_container(rt, source, &asked, out),
-        Form::Text(stem) => write_text(rt, source, &asked, stem, out),
+        Form::Container => write_container(rt, source, &asked, out, err),
+        Form::Text(stem) => write_text(rt, source, &asked, stem, out, err),
     }
 }
 
 /// Writes one container.
-fn write_container<'w, S: NamedBytes, O: Write>(
+fn write_container<'w, S: NamedBytes, O: Write, E: Write>(
     rt: &(impl Files + AllocGlobal),
     source: &mut S,
     asked: &Conversion<'w>,
     out: &mut O,
+    err: &mut E,
 ) -> Result<(), Refusal<'w>> {
     let options = BundleOptions {
         keep_images: asked.keep_images,
     };
-    let bytes = bundle(rt.alloc(), source, asked.from, &options)?;
+    let bytes = bundle_with(rt.alloc(), source, asked.from, &options, &Required::All)?;
+    match text_and_blob(&bytes) {
+        Ok((text, _)) => look(rt.alloc(), asked, text.as_slice(), err)?,
+        Err(error) => return Err(Refusal::File(BundleError::Answer(error))),
+    }
     put(rt, asked.to, &bytes)?;
     report_file(out, asked.to, bytes.len())
 }
 
 /// Writes JSON text with files beside it. The stem is the name of the text without its ending.
-fn write_text<'w, S: NamedBytes, O: Write>(
+fn write_text<'w, S: Notes, O: Write, E: Write>(
     rt: &(impl Files + AllocGlobal),
     source: &mut S,
     asked: &Conversion<'w>,
     stem: &str,
     out: &mut O,
+    err: &mut E,
 ) -> Result<(), Refusal<'w>> {
     let alloc = rt.alloc();
     let options = SplitOptions {
@@ -88,8 +103,10 @@ fn write_text<'w, S: NamedBytes, O: Write>(
         drop_image_views: asked.drop_image_views,
         pretty: asked.pretty,
     };
-    let split = split(alloc, source, asked.from, stem, &options)?;
+    let split = split_with(alloc, source, asked.from, stem, &options, &Required::All)?;
+    look(alloc, asked, split.json.as_bytes(), err)?;
     let paths = paths_of(alloc, &split, base_of(asked.to))?;
+    spare(rt, asked, source.paths(), split.json.as_str(), &paths)?;
     let files = files_of(alloc, &split, &paths, asked.to)?;
     if let Err(fault) = put_all(rt, &files) {
         return Err(Refusal::Files(format!(in alloc; "{fault}")?));

@@ -26,10 +26,15 @@ pub(crate) struct Conversion<'w> {
     pub(crate) drop_image_views: bool,
     /// Whether JSON text has line breaks.
     pub(crate) pretty: bool,
+    /// Whether a file is written over another one that stands there.
+    pub(crate) force: bool,
+    /// Whether what the objects of extensions name themselves is written as it stands.
+    pub(crate) keep_unknown: bool,
 }
 
-/// What the words ask for: two names, and each flag at most once after them. `--pretty` and
-/// `--drop-image-views` are for JSON text alone, and the latter for images that have files.
+/// What the words ask for: two names, and each flag at most once after them. `--pretty`, `--force`
+/// and `--drop-image-views` are for JSON text alone, and the latter for images that have files.
+/// `--outside` is a matter of the source that is asked.
 pub(crate) fn request<'w>(words: &[&'w str]) -> Result<Conversion<'w>, Refusal<'w>> {
     let (from, to, flags) = match words {
         [from, to, flags @ ..] => (*from, *to, flags),
@@ -39,9 +44,12 @@ pub(crate) fn request<'w>(words: &[&'w str]) -> Result<Conversion<'w>, Refusal<'
         keep_images,
         drop_image_views,
         pretty,
+        force,
+        keep_unknown,
+        outside: _,
     } = flags_of(flags)?;
     let form = form_of(to)?;
-    if matches!(form, Form::Container) && (pretty || drop_image_views) {
+    if matches!(form, Form::Container) && (pretty || drop_image_views || force) {
         return Err(Refusal::Usage);
     }
     if keep_images && drop_image_views {
@@ -54,6 +62,8 @@ pub(crate) fn request<'w>(words: &[&'w str]) -> Result<Conversion<'w>, Refusal<'
         keep_images,
         drop_image_views,
         pretty,
+        force,
+        keep_unknown,
     })
 }
 
@@ -63,6 +73,9 @@ struct Flags {
     keep_images: bool,
     drop_image_views: bool,
     pretty: bool,
+    force: bool,
+    keep_unknown: bool,
+    outside: bool,
 }
 
 /// The flags that these words are, each at most once.
@@ -73,6 +86,9 @@ fn flags_of<'w>(words: &[&'w str]) -> Result<Flags, Refusal<'w>> {
             "--keep-images" => replace(&mut flags.keep_images, true),
             "--drop-image-views" => replace(&mut flags.drop_image_views, true),
             "--pretty" => replace(&mut flags.pretty, true),
+            "--force" => replace(&mut flags.force, true),
+            "--keep-unknown" => replace(&mut flags.keep_unknown, true),
+            "--outside" => replace(&mut flags.outside, true),
             _ => return Err(Refusal::Usage),
         };
         if again {

@@ -5,36 +5,38 @@ use Rattle.gltf_items.specs.declared.item.Item.{Ghosts}
 use Rattle.gltf_data.specs.Documents.{ReadsAt}
 use Rattle.gltf_names.specs.Named.{File}
 use Rattle.gltf_buffers.specs.Names.{Names, Held}
-use Rattle.gltf.specs.Import.{AcceptsWith}
+use Rattle.gltf_required.specs.Import.{IsRead}
+use Rattle.gltf_required.specs.declared.required.Required.{Required}
 use Rattle.gltf_bundle.specs.Bundle.{IsBundle}
 use Rattle.gltf_split.specs.Laws.{Holds, HoldsBuffers}
 use Rattle.gltf_split.specs.Splits.{IsSplit}
 use Rattle.gltf_split.specs.declared.splitting.Pieces.{Pieces}
 
 -- where a source has the text of a set and the files of its buffers, the container of this text has
--- at each accessor the items of the file that the set is of, whatever it is imported as
+-- at each accessor the items of the file that the set is of, whatever it is read as
 abbrev pub KeepsItemsThere : {X : Type 0} → Ghosts X → Type 0
 KeepsItemsThere {X} t =
-    (names : Names) (path stem : List ℕ) (keep drop : Bool) (set : Pieces)
-    (is : IsSplit names path stem keep drop set) (there : Holds) → HoldsBuffers there set
+    (required : Required) (names : Names) (path stem : List ℕ) (keep drop : Bool) (set : Pieces)
+    (is : IsSplit required names path stem keep drop set) (there : Holds) → HoldsBuffers there set
     → (other : List ℕ) → there (File other) ≡ Some (string_bytes set.json)
-    → (kept : Bool) (answer : List ℕ) → IsBundle (Held there) other kept answer
-    → (over : Names) (s : Root) (others : List (List ℕ)) → AcceptsWith over answer s others
+    → (passing : Required) (kept : Bool) (answer : List ℕ)
+    → IsBundle passing (Held there) other kept answer
+    → (over : Names) (s : Root) (others : List (List ℕ)) → IsRead over answer s others
     → (index : ℕ) (result : Option (List X))
     → ReadsAt t is.root_ (slice_get is.whole) index result
     ↔ ReadsAt t s (slice_get others) index result
 
 -- where a source has a container, the set of it has at each accessor the items of the file that the
--- container is of, whatever its text is imported as over a source that has the files of its buffers
+-- container is of, whatever its text is read as over a source that has the files of its buffers
 abbrev pub KeepsItemsBack : {X : Type 0} → Ghosts X → Type 0
 KeepsItemsBack {X} t =
-    (names : Names) (path : List ℕ) (keep : Bool) (answer : List ℕ)
-    (is : IsBundle names path keep answer) (from : Holds) (other : List ℕ)
+    (required : Required) (names : Names) (path : List ℕ) (keep : Bool) (answer : List ℕ)
+    (is : IsBundle required names path keep answer) (from : Holds) (other : List ℕ)
     → from (File other) ≡ Some answer
-    → (stem : List ℕ) (kept drop : Bool) (set : Pieces)
-    → IsSplit (Held from) other stem kept drop set
+    → (passing : Required) (stem : List ℕ) (kept drop : Bool) (set : Pieces)
+    → IsSplit passing (Held from) other stem kept drop set
     → (there : Holds) → HoldsBuffers there set → (s : Root) (others : List (List ℕ))
-    → AcceptsWith (Held there) (string_bytes set.json) s others
+    → IsRead (Held there) (string_bytes set.json) s others
     → (index : ℕ) (result : Option (List X))
     → ReadsAt t is.root_ (slice_get is.buffers) index result
     ↔ ReadsAt t s (slice_get others) index result

@@ -1,6 +1,6 @@
 -- What a walk over a list of items answers, by a position in the list.
-use Rattle.std.specs.Prelude.{ℕ, ◌+◌, ◌-◌, nat_lt, min, if◌then◌else◌, List, [], ◌∷◌, length}
-use Rattle.std.specs.Prelude.{sum_by, slice_get, None}
+use Rattle.std.specs.Prelude.{◌≡◌, ◌≤◌, ℕ, ◌+◌, ◌-◌, nat_lt, min, if◌then◌else◌, List, [], ◌∷◌}
+use Rattle.std.specs.Prelude.{length, take, drop, sum_by, slice_get, None}
 use Rattle.gltf_items.specs.Sparse.{digits}
 use Rattle.gltf_data.specs.declared.walk.Step.{Step}
 use Rattle.gltf_data.specs.declared.walk.Step.TheVariants.{Next, Nth, Len}
@@ -34,6 +34,13 @@ abbrev pub position_after : {X : Type 0} → List X → ℕ → List Step → �
 position_after items position [] = position
 position_after items position (step ∷ steps) =
     position_after items (behind items position step) steps
+
+-- the items that are left behind some of the steps, from the first on
+pub record IsLeftBySome {X : Type 0} (items : List X) (steps : List Step) (others : List X)
+    : Type 0 where
+  pub taken : ℕ
+  pub within : taken ≤ length steps
+  pub left : others ≡ drop (position_after items 0 (take taken steps)) items
 
 -- what the end answers at a position
 abbrev pub end_answer : {X : Type 0} → List X → ℕ → End → outcome.Ended X

@@ -17,21 +17,20 @@ pub(crate) fn write(
     line: &mut String,
 ) -> Result<(), AllocError> {
     if let Some(material) = document.materials().next() {
-        return of_material(alloc, call, document, &material, line);
+        return of_material(alloc, call, &material, line);
     }
     if let Some(node) = document.nodes().next() {
-        return of_node(alloc, call, document, &node, line);
+        return of_node(alloc, call, &node, line);
     }
     if let Some(texture) = document.textures().next() {
-        let valid = document.as_valid();
         return match call {
-            "basisu" => write_found(alloc, basisu(alloc, valid, &texture), line),
-            "webp" => write_found(alloc, webp(alloc, valid, &texture), line),
+            "basisu" => write_found(alloc, basisu(alloc, &texture), line),
+            "webp" => write_found(alloc, webp(alloc, &texture), line),
             _ => line.push_str("no call"),
         };
     }
     if let Some(view) = document.views().next() {
-        let found = meshopt_compression(alloc, document.as_valid(), &view);
+        let found = meshopt_compression(alloc, &view);
         return write_found(alloc, found, line);
     }
     write_packet(alloc, document, line)
@@ -40,20 +39,18 @@ pub(crate) fn write(
 fn of_material(
     alloc: Global,
     call: &str,
-    document: &Document,
     material: &gltf::Material,
     line: &mut String,
 ) -> Result<(), AllocError> {
-    let valid = document.as_valid();
     match call {
-        "clearcoat" => write_found(alloc, clearcoat(alloc, valid, material), line),
-        "sheen" => write_found(alloc, sheen(alloc, valid, material), line),
-        "iridescence" => write_found(alloc, iridescence(alloc, valid, material), line),
-        "anisotropy" => write_found(alloc, anisotropy(alloc, valid, material), line),
-        "dispersion" => write_found(alloc, dispersion(alloc, valid, material), line),
-        "wetness" => write_found(alloc, wetness_of(alloc, document, material), line),
+        "clearcoat" => write_found(alloc, clearcoat(alloc, material), line),
+        "sheen" => write_found(alloc, sheen(alloc, material), line),
+        "iridescence" => write_found(alloc, iridescence(alloc, material), line),
+        "anisotropy" => write_found(alloc, anisotropy(alloc, material), line),
+        "dispersion" => write_found(alloc, dispersion(alloc, material), line),
+        "wetness" => write_found(alloc, wetness_of(alloc, material), line),
         "diffuse_transmission" => {
-            write_found(alloc, diffuse_transmission(alloc, valid, material), line)
+            write_found(alloc, diffuse_transmission(alloc, material), line)
         }
         _ => line.push_str("no call"),
     }
@@ -62,14 +59,12 @@ fn of_material(
 fn of_node(
     alloc: Global,
     call: &str,
-    document: &Document,
     node: &gltf::Node,
     line: &mut String,
 ) -> Result<(), AllocError> {
-    let valid = document.as_valid();
     match call {
-        "visibility" => write_found(alloc, node_visibility(alloc, valid, node), line),
-        "instancing" => write_found(alloc, mesh_gpu_instancing(alloc, valid, node), line),
+        "visibility" => write_found(alloc, node_visibility(alloc, node), line),
+        "instancing" => write_found(alloc, mesh_gpu_instancing(alloc, node), line),
         _ => line.push_str("no call"),
     }
 }

@@ -26,7 +26,7 @@ fn write_first(
     let Some(node) = document.nodes().next() else {
         return line.push_str("no node");
     };
-    match mesh_gpu_instancing(alloc, document.as_valid(), &node) {
+    match mesh_gpu_instancing(alloc, &node) {
         Some(Ok(instancing)) => write_instances(&instancing, buffers, line),
         Some(Err(fault)) => write_fault(alloc, &fault, line),
         None => line.push_str("none"),

@@ -19,7 +19,8 @@ pub(crate) fn write(alloc: Global, case: &str, line: &mut String) -> Result<(), 
     }
 }
 
-fn mends_of(word: &str) -> Mends<'static> {
+/// What is mended, by the word that asks for it.
+pub(crate) fn mends_of(word: &str) -> Mends<'static> {
     Mends {
         skip_channels_without_node: matches!(word, "channels" | "both"),
         skip_unknown_attributes: word == "attributes",
@@ -31,7 +32,9 @@ fn mends_of(word: &str) -> Mends<'static> {
     }
 }
 
-fn write_document(document: &Document, line: &mut String) -> Result<(), AllocError> {
+/// Writes the images of the textures of a document, how many channels its animations have, and the
+/// attributes of its primitives.
+pub(crate) fn write_document(document: &Document, line: &mut String) -> Result<(), AllocError> {
     line.push_str("images")?;
     let mut textures = document.textures();
     while let Some(texture) = textures.next() {

@@ -20,19 +20,18 @@ use gltf_rules::Records;
 use std::alloc::Global;
 
 /// A clear layer above a surface, such as lacquer (the extension `KHR_materials_clearcoat`): of a
-/// material of this document.
+/// material.
 pub fn clearcoat<'a, D: Records>(
     alloc: Global,
-    document: &'a D,
     material: &Material<'a, D>,
 ) -> Option<Result<Handle<'a, Clearcoat, D>, ExtensionFault>>
-    ensures { IsRead kinds.clearcoat rules.clearcoat_rules (D.root document.now)
+    ensures { IsRead kinds.clearcoat rules.clearcoat_rules (material_handle material.now).document
         (extension_named (codes "KHR_materials_clearcoat")
         (option_map (λ e. e.others) (material_handle material.now).json.extensions)) result }
 {
     read_handle(
         alloc,
-        document,
+        material.document(),
         material.extension_value("KHR_materials_clearcoat"),
     )
 }
@@ -77,20 +76,18 @@ impl<'a, D: Records> Handle<'a, Clearcoat, D> {
     }
 }
 
-/// The soft reflection of cloth (the extension `KHR_materials_sheen`): of a material of this
-/// document.
+/// The soft reflection of cloth (the extension `KHR_materials_sheen`): of a material.
 pub fn sheen<'a, D: Records>(
     alloc: Global,
-    document: &'a D,
     material: &Material<'a, D>,
 ) -> Option<Result<Handle<'a, Sheen, D>, ExtensionFault>>
-    ensures { IsRead kinds.sheen rules.sheen_rules (D.root document.now)
+    ensures { IsRead kinds.sheen rules.sheen_rules (material_handle material.now).document
         (extension_named (codes "KHR_materials_sheen")
         (option_map (λ e. e.others) (material_handle material.now).json.extensions)) result }
 {
     read_handle(
         alloc,
-        document,
+        material.document(),
         material.extension_value("KHR_materials_sheen"),
     )
 }
@@ -129,19 +126,18 @@ impl<'a, D: Records> Handle<'a, Sheen, D> {
 }
 
 /// A thin film, whose colour depends on the angle of view (the extension
-/// `KHR_materials_iridescence`): of a material of this document.
+/// `KHR_materials_iridescence`) of a material.
 pub fn iridescence<'a, D: Records>(
     alloc: Global,
-    document: &'a D,
     material: &Material<'a, D>,
 ) -> Option<Result<Handle<'a, Iridescence, D>, ExtensionFault>>
-    ensures { IsRead kinds.iridescence rules.iridescence_rules (D.root document.now)
+    ensures { IsRead kinds.iridescence rules.iridescence_rules (material_handle material.now).document
         (extension_named (codes "KHR_materials_iridescence")
         (option_map (λ e. e.others) (material_handle material.now).json.extensions)) result }
 {
     read_handle(
         alloc,
-        document,
+        material.document(),
         material.extension_value("KHR_materials_iridescence"),
     )
 }
@@ -196,19 +192,18 @@ impl<'a, D: Records> Handle<'a, Iridescence, D> {
 }
 
 /// Reflections that are stretched, as those of brushed metal (the extension
-/// `KHR_materials_anisotropy`): of a material of this document.
+/// `KHR_materials_anisotropy`) of a material.
 pub fn anisotropy<'a, D: Records>(
     alloc: Global,
-    document: &'a D,
     material: &Material<'a, D>,
 ) -> Option<Result<Handle<'a, Anisotropy, D>, ExtensionFault>>
-    ensures { IsRead kinds.anisotropy rules.anisotropy_rules (D.root document.now)
+    ensures { IsRead kinds.anisotropy rules.anisotropy_rules (material_handle material.now).document
         (extension_named (codes "KHR_materials_anisotropy")
         (option_map (λ e. e.others) (material_handle material.now).json.extensions)) result }
 {
     read_handle(
         alloc,
-        document,
+        material.document(),
         material.extension_value("KHR_materials_anisotropy"),
     )
 }
@@ -239,19 +234,18 @@ impl<'a, D: Records> Handle<'a, Anisotropy, D> {
 }
 
 /// How a volume parts the colours of light (the extension `KHR_materials_dispersion`): of a
-/// material of this document.
+/// material.
 pub fn dispersion<'a, D: Records>(
     alloc: Global,
-    document: &'a D,
     material: &Material<'a, D>,
 ) -> Option<Result<Handle<'a, Dispersion, D>, ExtensionFault>>
-    ensures { IsRead kinds.dispersion rules.dispersion_rules (D.root document.now)
+    ensures { IsRead kinds.dispersion rules.dispersion_rules (material_handle material.now).document
         (extension_named (codes "KHR_materials_dispersion")
         (option_map (λ e. e.others) (material_handle material.now).json.extensions)) result }
 {
     read_handle(
         alloc,
-        document,
+        material.document(),
         material.extension_value("KHR_materials_dispersion"),
     )
 }
@@ -266,19 +260,18 @@ impl<'a, D: Records> Handle<'a, Dispersion, D> {
 }
 
 /// Light that is scattered as it goes through a surface, as through a leaf (the extension
-/// `KHR_materials_diffuse_transmission`): of a material of this document.
+/// `KHR_materials_diffuse_transmission`) of a material.
 pub fn diffuse_transmission<'a, D: Records>(
     alloc: Global,
-    document: &'a D,
     material: &Material<'a, D>,
 ) -> Option<Result<Handle<'a, DiffuseTransmission, D>, ExtensionFault>>
     ensures { IsRead kinds.diffuse_transmission rules.diffuse_transmission_rules
-        (D.root document.now) (extension_named (codes "KHR_materials_diffuse_transmission")
+        (material_handle material.now).document (extension_named (codes "KHR_materials_diffuse_transmission")
         (option_map (λ e. e.others) (material_handle material.now).json.extensions)) result }
 {
     read_handle(
         alloc,
-        document,
+        material.document(),
         material.extension_value("KHR_materials_diffuse_transmission"),
     )
 }

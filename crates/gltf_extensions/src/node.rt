@@ -22,29 +22,31 @@ use std::alloc::Global;
 /// `KHR_node_visibility`). Where it is absent, they are.
 pub fn node_visibility<'a, D: Records>(
     alloc: Global,
-    document: &'a D,
     node: &Node<'a, D>,
 ) -> Option<Result<Handle<'a, NodeVisibility, D>, ExtensionFault>>
-    ensures { IsRead kinds.node_visibility (λ _ _. Nothing) (D.root document.now)
+    ensures { IsRead kinds.node_visibility (λ _ _. Nothing) (node_handle node.now).document
         (extension_named (codes "KHR_node_visibility")
-        (option_map (λ e. e.others) (node_handle node.now).json.extensions)) result }
-{
-    read_handle(alloc, document, node.extension_value("KHR_node_visibility"))
-}
-
-/// Instances of the mesh of a node of this document (the extension `EXT_mesh_gpu_instancing`).
-pub fn mesh_gpu_instancing<'a, D: Records>(
-    alloc: Global,
-    document: &'a D,
-    node: &Node<'a, D>,
-) -> Option<Result<Handle<'a, MeshGpuInstancing, D>, ExtensionFault>>
-    ensures { IsRead kinds.mesh_gpu_instancing rules.mesh_gpu_instancing_rules
-        (D.root document.now) (extension_named (codes "EXT_mesh_gpu_instancing")
         (option_map (λ e. e.others) (node_handle node.now).json.extensions)) result }
 {
     read_handle(
         alloc,
-        document,
+        node.document(),
+        node.extension_value("KHR_node_visibility"),
+    )
+}
+
+/// Instances of the mesh of a node (the extension `EXT_mesh_gpu_instancing`).
+pub fn mesh_gpu_instancing<'a, D: Records>(
+    alloc: Global,
+    node: &Node<'a, D>,
+) -> Option<Result<Handle<'a, MeshGpuInstancing, D>, ExtensionFault>>
+    ensures { IsRead kinds.mesh_gpu_instancing rules.mesh_gpu_instancing_rules
+        (node_handle node.now).document (extension_named (codes "EXT_mesh_gpu_instancing")
+        (option_map (λ e. e.others) (node_handle node.now).json.extensions)) result }
+{
+    read_handle(
+        alloc,
+        node.document(),
         node.extension_value("EXT_mesh_gpu_instancing"),
     )
 }

@@ -26,16 +26,15 @@ use std::alloc::Global;
 /// The texture's own `source` is the image for those who do not know the extension.
 pub fn basisu<'a, D: Records>(
     alloc: Global,
-    document: &'a D,
     texture: &Texture<'a, D>,
 ) -> Option<Result<Handle<'a, TextureSource, D>, ExtensionFault>>
-    ensures { IsRead texture_source source_rules (D.root document.now)
+    ensures { IsRead texture_source source_rules (texture_handle texture.now).document
         (extension_named (codes "KHR_texture_basisu")
         (unknown_extensions (texture_handle texture.now).json.extensions)) result }
 {
     read_handle(
         alloc,
-        document,
+        texture.document(),
         texture.extension_value("KHR_texture_basisu"),
     )
 }
@@ -44,30 +43,32 @@ pub fn basisu<'a, D: Records>(
 /// `source` is the image for those who do not know the extension.
 pub fn webp<'a, D: Records>(
     alloc: Global,
-    document: &'a D,
     texture: &Texture<'a, D>,
 ) -> Option<Result<Handle<'a, TextureSource, D>, ExtensionFault>>
-    ensures { IsRead texture_source source_rules (D.root document.now)
+    ensures { IsRead texture_source source_rules (texture_handle texture.now).document
         (extension_named (codes "EXT_texture_webp")
         (unknown_extensions (texture_handle texture.now).json.extensions)) result }
 {
-    read_handle(alloc, document, texture.extension_value("EXT_texture_webp"))
+    read_handle(
+        alloc,
+        texture.document(),
+        texture.extension_value("EXT_texture_webp"),
+    )
 }
 
 /// How the coordinates of a normal texture are transformed (the extension `KHR_texture_transform`;
 /// at other uses of textures the loader knows it).
 pub fn normal_texture_transform<'a, D: Records>(
     alloc: Global,
-    document: &'a D,
     normal: &NormalTexture<'a, D>,
 ) -> Option<Result<Handle<'a, TextureTransform, D>, ExtensionFault>>
-    ensures { IsRead texture_transform (λ _ _. Nothing) (D.root document.now)
+    ensures { IsRead texture_transform (λ _ _. Nothing) (normal_handle normal.now).document
         (extension_named (codes "KHR_texture_transform")
         (unknown_extensions (normal_handle normal.now).json.extensions)) result }
 {
     read_handle(
         alloc,
-        document,
+        normal.document(),
         normal.extension_value("KHR_texture_transform"),
     )
 }
@@ -76,16 +77,15 @@ pub fn normal_texture_transform<'a, D: Records>(
 /// `KHR_texture_transform`).
 pub fn occlusion_texture_transform<'a, D: Records>(
     alloc: Global,
-    document: &'a D,
     occlusion: &OcclusionTexture<'a, D>,
 ) -> Option<Result<Handle<'a, TextureTransform, D>, ExtensionFault>>
-    ensures { IsRead texture_transform (λ _ _. Nothing) (D.root document.now)
+    ensures { IsRead texture_transform (λ _ _. Nothing) (occlusion_handle occlusion.now).document
         (extension_named (codes "KHR_texture_transform")
         (unknown_extensions (occlusion_handle occlusion.now).json.extensions)) result }
 {
     read_handle(
         alloc,
-        document,
+        occlusion.document(),
         occlusion.extension_value("KHR_texture_transform"),
     )
 }

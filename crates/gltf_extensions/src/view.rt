@@ -15,20 +15,19 @@ use gltf_handles::member::meaning;
 use gltf_rules::Records;
 use std::alloc::Global;
 
-/// Where the compressed bytes of a view of this document are, and how they are decompressed (the
+/// Where the compressed bytes of a view are, and how they are decompressed (the
 /// extension `EXT_meshopt_compression`). Nothing is decompressed here.
 pub fn meshopt_compression<'a, D: Records>(
     alloc: Global,
-    document: &'a D,
     view: &View<'a, D>,
 ) -> Option<Result<Handle<'a, MeshoptCompression, D>, ExtensionFault>>
-    ensures { IsRead meshopt_compression meshopt_compression_rules (D.root document.now)
+    ensures { IsRead meshopt_compression meshopt_compression_rules (view_handle view.now).document
         (extension_named (codes "EXT_meshopt_compression")
         (unknown_extensions (view_handle view.now).json.extensions)) result }
 {
     read_handle(
         alloc,
-        document,
+        view.document(),
         view.extension_value("EXT_meshopt_compression"),
     )
 }

@@ -1,6 +1,6 @@
 -- The codes of findings: their names and severities, as the Khronos validator has them, and what
 -- each says.
-use Rattle.std.specs.Prelude.{List, ℕ, codes}
+use Rattle.std.specs.Prelude.{List, ℕ, Bool, true, ◌==◌, codes}
 use Rattle.gltf_findings.specs.declared.code.Code.{Code}
 use Rattle.gltf_findings.specs.declared.code.Code.TheVariants as code
 use Rattle.gltf_findings.specs.declared.code.Severity.{Severity}
@@ -101,6 +101,8 @@ code_text code.ElementOutOfMaxBound = codes "ACCESSOR_ELEMENT_OUT_OF_MAX_BOUND"
 code_text code.AnimationInputNegative = codes "ACCESSOR_ANIMATION_INPUT_NEGATIVE"
 code_text code.AnimationInputNonIncreasing = codes "ACCESSOR_ANIMATION_INPUT_NON_INCREASING"
 code_text code.ItemsNotLookedAt = codes "ACCESSOR_ITEMS_NOT_LOOKED_AT"
+code_text code.NeededByReader = codes "MEMBER_NEEDED_BY_READER"
+code_text code.AttributeUnsignedInt = codes "MESH_PRIMITIVE_ATTRIBUTES_ACCESSOR_UNSIGNED_INT"
 
 abbrev pub sentence : Code → List ℕ
 sentence code.UnresolvedReference = codes "The index leads to no element of its list."
@@ -108,8 +110,8 @@ sentence code.ValueNotInList = codes "The value is none of those that the standa
 sentence code.InvalidAttribute =
     codes "The name of the attribute is none of the standard's, and does not begin with an underscore."
 sentence code.UndefinedProperty = codes "A member is absent that has to be there."
-sentence code.OneOfMismatch = codes "The image has neither uri nor bufferView."
-sentence code.UnsatisfiedDependency = codes "The image has a bufferView and no mimeType."
+sentence code.OneOfMismatch = codes "Of two members exactly one has to be there."
+sentence code.UnsatisfiedDependency = codes "A member is there without another one that it needs."
 sentence code.RequiredExtension =
     codes "The extension is required, and this reader does not know it."
 sentence code.UnusedExtensionRequired =
@@ -224,6 +226,10 @@ sentence code.AnimationInputNegative = codes "A time is negative."
 sentence code.AnimationInputNonIncreasing = codes "A time is not greater than the one before."
 sentence code.ItemsNotLookedAt =
     codes "The items were not looked at: all together are too many for a file of this size."
+sentence code.NeededByReader =
+    codes "The standard lets this member be absent, and this reader does not load a file without it."
+sentence code.AttributeUnsignedInt =
+    codes "An attribute of an application must not have unsigned integers of four bytes."
 
 -- an error is what the standard forbids
 abbrev pub severity : Code → Severity
@@ -321,6 +327,8 @@ severity code.ElementOutOfMaxBound = grave.Error
 severity code.AnimationInputNegative = grave.Error
 severity code.AnimationInputNonIncreasing = grave.Error
 severity code.ItemsNotLookedAt = grave.Warning
+severity code.NeededByReader = grave.Warning
+severity code.AttributeUnsignedInt = grave.Error
 
 -- the number of a severity in a report
 abbrev pub severity_number : Severity → ℕ
@@ -328,6 +336,12 @@ severity_number grave.Error = 0
 severity_number grave.Warning = 1
 severity_number grave.Information = 2
 severity_number grave.Hint = 3
+
+-- a file with such a finding may be one that is not loaded: the standard forbids it, or this reader
+-- alone needs a member that the standard lets be absent
+abbrev pub may_refuse : Code → Bool
+may_refuse code.NeededByReader = true
+may_refuse c = severity_number (severity c) == 0
 
 abbrev pub severity_text : Severity → List ℕ
 severity_text grave.Error = codes "error"

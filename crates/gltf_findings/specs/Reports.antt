@@ -8,7 +8,7 @@ use Rattle.gltf_json_record.specs.Pointer.{pointer_text}
 use Rattle.gltf_findings.specs.declared.code.Code.{Code}
 use Rattle.gltf_findings.specs.declared.code.Severity.{Severity}
 use Rattle.gltf_findings.specs.declared.code.Severity.TheVariants as grave
-use Rattle.gltf_findings.specs.Codes.{code_text, sentence, severity, severity_number}
+use Rattle.gltf_findings.specs.Codes.{code_text, sentence, severity, severity_number, may_refuse}
 
 -- how many findings are of this severity
 abbrev pub count_of : Severity → List (List Place × Code) → ℕ
@@ -16,6 +16,11 @@ count_of grave [] = 0
 count_of grave (f ∷ fs) =
     if severity_number (severity f.1) == severity_number grave
     then suc (count_of grave fs) else count_of grave fs
+
+-- how many findings say that a file may be one that is not loaded
+abbrev pub refusal_count : List (List Place × Code) → ℕ
+refusal_count [] = 0
+refusal_count (f ∷ fs) = if may_refuse f.1 then suc (refusal_count fs) else refusal_count fs
 
 -- a message, with its members in the order of their names
 abbrev pub message_data : List Place × Code → Data

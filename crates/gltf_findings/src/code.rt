@@ -1,7 +1,7 @@
 //! What a finding says.
 ghost use Rattle.std.specs.Prelude.{◌≡◌, ◌==◌};
 ghost use Rattle.gltf_findings.specs.Codes.{code_text, sentence, severity, severity_number};
-ghost use Rattle.gltf_findings.specs.Codes.{severity_text};
+ghost use Rattle.gltf_findings.specs.Codes.{severity_text, may_refuse};
 
 /// How grave a finding is.
 #[derive(Clone, Copy, Debug, PartialEq, Eq)]
@@ -63,9 +63,11 @@ pub enum Code {
     InvalidAttribute,
     /// `UNDEFINED_PROPERTY`: A member is absent that has to be there (section 5.12).
     UndefinedProperty,
-    /// `ONE_OF_MISMATCH`: The image has neither uri nor bufferView (section 5.18).
+    /// `ONE_OF_MISMATCH`: Of two members not exactly one is there: uri and bufferView of an image
+    /// (section 5.18), perspective and orthographic of a camera (section 5.12).
     OneOfMismatch,
-    /// `UNSATISFIED_DEPENDENCY`: The image has a bufferView and no mimeType (section 5.18).
+    /// `UNSATISFIED_DEPENDENCY`: A member is there without another one that it needs (sections 5.1,
+    /// 5.18 and 5.25).
     UnsatisfiedDependency,
     /// `UNSUPPORTED_EXTENSION`: The extension is required, and this reader does not know it
     /// (section 3.12).
@@ -79,7 +81,8 @@ pub enum Code {
     /// `EMPTY_ENTITY`: The list or object is empty, and has to hold something (sections 5.2 to
     /// 5.28).
     EmptyEntity,
-    /// `VALUE_NOT_IN_RANGE`: The number is out of its range (sections 5.1, 5.2, 5.10 and 5.11).
+    /// `VALUE_NOT_IN_RANGE`: The number is out of its range (sections 5.1, 5.2, 5.10, 5.11, 5.13,
+    /// 5.14, 5.19, 5.21 and 5.22).
     ValueNotInRange,
     /// `VALUE_MULTIPLE_OF`: The stride is not a multiple of 4 (section 5.11.4).
     ValueMultipleOf,
@@ -298,9 +301,27 @@ pub enum Code {
     /// `ACCESSOR_ITEMS_NOT_LOOKED_AT`: The items of the accessor were not looked at, since those of
     /// all accessors are too many for a file of this size.
     ItemsNotLookedAt,
+    /// `MEMBER_NEEDED_BY_READER`: The standard lets this member be absent (the source of a texture,
+    /// section 5.29.2; the node of a channel's target, section 5.7.1), and this reader does not load
+    /// a file without it. It is no rule of the standard.
+    NeededByReader,
+    /// `MESH_PRIMITIVE_ATTRIBUTES_ACCESSOR_UNSIGNED_INT`: The attribute is one of an application,
+    /// and its components are unsigned integers of four bytes (section 3.7.2.1).
+    AttributeUnsignedInt,
 }
 
 impl Code {
+    /// Whether a file with such a finding may be one that is not loaded: an error, or a member that
+    /// this reader alone needs. Files that are not loaded have one (`gltf_inspect_files::laws`).
+    pub fn may_refuse(self) -> bool
+        ensures { result ≡ may_refuse self }
+    {
+        match self {
+            Code::NeededByReader => true,
+            _ => self.severity().is(Severity::Error),
+        }
+    }
+
     /// How grave it is.
     pub fn severity(self) -> Severity
         ensures { result ≡ severity self }
@@ -311,7 +332,8 @@ impl Code {
             | Code::TangentWithoutNormal
             | Code::IncompatibleMode
             | Code::SkinnedMeshWithoutSkin
-            | Code::ItemsNotLookedAt => Severity::Warning,
+            | Code::ItemsNotLookedAt
+            | Code::NeededByReader => Severity::Warning,
             Code::UnsupportedExtension
             | Code::UnusedObject
             | Code::NodeEmpty
@@ -399,7 +421,8 @@ impl Code {
             | Code::ElementOutOfMinBound
             | Code::ElementOutOfMaxBound
             | Code::AnimationInputNegative
-            | Code::AnimationInputNonIncreasing => Severity::Error,
+            | Code::AnimationInputNonIncreasing
+            | Code::AttributeUnsignedInt => Severity::Error,
         }
     }
 
@@ -502,6 +525,8 @@ impl Code {
             Code::AnimationInputNegative => "ACCESSOR_ANIMATION_INPUT_NEGATIVE",
             Code::AnimationInputNonIncreasing => "ACCESSOR_ANIMATION_INPUT_NON_INCREASING",
             Code::ItemsNotLookedAt => "ACCESSOR_ITEMS_NOT_LOOKED_AT",
+            Code::NeededByReader => "MEMBER_NEEDED_BY_READER",
+            Code::AttributeUnsignedInt => "MESH_PRIMITIVE_ATTRIBUTES_ACCESSOR_UNSIGNED_INT",
         }
     }
 
@@ -515,8 +540,8 @@ impl Code {
             Code::InvalidAttribute =>
                 "The name of the attribute is none of the standard's, and does not begin with an underscore.",
             Code::UndefinedProperty => "A member is absent that has to be there.",
-            Code::OneOfMismatch => "The image has neither uri nor bufferView.",
-            Code::UnsatisfiedDependency => "The image has a bufferView and no mimeType.",
+            Code::OneOfMismatch => "Of two members exactly one has to be there.",
+            Code::UnsatisfiedDependency => "A member is there without another one that it needs.",
             Code::RequiredExtension =>
                 "The extension is required, and this reader does not know it.",
             Code::UnusedExtensionRequired =>
@@ -632,6 +657,11 @@ impl Code {
             Code::ItemsNotLookedAt => {
                 "The items were not looked at: all together are too many for a file of this size."
             }
+            Code::NeededByReader => {
+                "The standard lets this member be absent, and this reader does not load a file without it."
+            }
+            Code::AttributeUnsignedInt =>
+                "An attribute of an application must not have unsigned integers of four bytes.",
         }
     }
 }

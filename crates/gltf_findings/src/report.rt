@@ -1,6 +1,6 @@
 //! The report of a document.
 ghost use Rattle.std.specs.Prelude.{◌≡◌, ◌==◌};
-ghost use Rattle.gltf_findings.specs.Reports.{count_of};
+ghost use Rattle.gltf_findings.specs.Reports.{count_of, refusal_count};
 ghost use Rattle.gltf_findings.specs.declared.code.Severity.TheVariants.{Error};
 
 use crate::code::{Code, Severity};
@@ -55,7 +55,23 @@ impl Report {
         count
     }
 
-    /// Whether none of the findings is an error.
+    /// How many findings say that a file may be one that is not loaded: the errors, and the members
+    /// that this reader alone needs ([`Code::NeededByReader`]). Where there are none, the file of a
+    /// report of `gltf_inspect_files` is loaded.
+    pub fn refusals(&self) -> usize
+        ensures { result ≡ refusal_count self.now }
+    {
+        let mut count = 0;
+        for (i, finding) in self.found.iter().enumerate() {
+            if finding.1.may_refuse() {
+                count += 1;
+            }
+        }
+        count
+    }
+
+    /// Whether none of the findings is an error. A file that is not loaded may have such a report:
+    /// one with [`Code::NeededByReader`] alone.
     pub fn is_without_errors(&self) -> bool
         ensures { result ≡ (count_of Error self.now == 0) }
     {

@@ -15,4 +15,4 @@ pub use items::{Items, Sequence};
 pub use line::{LineSequence, Lines, lines};
 pub use point::{PointSequence, Points, points};
 pub use triangle::{TriangleSequence, Triangles, triangles};
-pub use vertices::{Vertices, indices_in_range};
+pub use vertices::{Vertices, indices_in_range, none_restarts, restart_index};

@@ -1,6 +1,9 @@
 //! The vertices of a primitive, in order.
 
-ghost use Rattle.std.specs.Prelude.{◌≡◌, ◌<◌, ◌↔◌, All, IsTrue, length, slice_index};
+ghost use Rattle.std.specs.Prelude.{◌≡◌, ◌≢◌, ◌<◌, ◌↔◌, All, IsTrue, length, slice_index};
+ghost use Rattle.gltf_geometry.specs.Vertices.{restart_of};
+
+use gltf_json_geometry::accessor::ComponentType;
 
 /// The vertices of a primitive in the order in which they are joined (glTF 2.0, section 3.7.2.1).
 #[derive(Clone, Copy, Debug)]
@@ -54,4 +57,24 @@ pub fn indices_in_range(indices: &[u32], count: usize) -> bool
     ensures { IsTrue result ↔ All (λ index. index < count) indices.now }
 {
     indices.iter().all(|index| (*index as usize) < count)
+}
+
+/// The index that restarts a primitive in interfaces of graphics: the greatest of its type, which
+/// no index may be (glTF 2.0, section 3.7.2.1). None of types that indices do not have.
+pub fn restart_index(component: ComponentType) -> Option<u32>
+    ensures { result ≡ restart_of component }
+{
+    match component {
+        ComponentType::U8 => Some(255),
+        ComponentType::U16 => Some(65535),
+        ComponentType::U32 => Some(4294967295),
+        _ => None,
+    }
+}
+
+/// Whether no index is the one that restarts a primitive, as [`restart_index`] gives it.
+pub fn none_restarts(indices: &[u32], restart: u32) -> bool
+    ensures { IsTrue result ↔ All (λ index. index ≢ restart) indices.now }
+{
+    indices.iter().all(|index| *index != restart)
 }

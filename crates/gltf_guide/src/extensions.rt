@@ -1,10 +1,16 @@
 //! An extension of a user's own, by the rows of its table, and files that are mended.
-ghost use Rattle.std.specs.Prelude.{codes};
+ghost use Rattle.std.specs.Prelude.{◌≢◌, IfOk, IfErr, codes};
 ghost use Rattle.gltf_json_record.specs.Scalars.{size, index};
 ghost use Rattle.gltf_json_record.specs.Table.{defaulted, optional, ◌&◌, table};
 ghost use Rattle.gltf_validation.specs.Members.{member, index_rules, optional_rules};
+ghost use Rattle.gltf_glb.specs.declared.error.Error.TheVariants.{Memory};
+ghost use Rattle.gltf_material.specs.Materials.{material_handle};
+ghost use Rattle.gltf.specs.Errors.{OutOfMemoryOr};
+ghost use Rattle.gltf_extensions.specs.Handles.{IsRead};
+ghost use Rattle.gltf_guide.specs.Imports.{MendsAs, MendsAsNone, RefusesToMend};
+ghost use Rattle.gltf_guide.specs.Materials.{unread_extension};
 
-use gltf::{Document, Material};
+use gltf::Material;
 use gltf_extension_records::members;
 use gltf_extensions::prelude::*;
 use gltf_json_record::error::Error;
@@ -53,16 +59,23 @@ impl Validate for Wetness {
 /// Reads the extension of a material, where it is there.
 pub fn wetness_of<'a>(
     alloc: Global,
-    document: &'a Document,
-    material: &Material<'_>,
-) -> Option<Result<Handle<'a, Wetness>, ExtensionFault>> {
+    material: &Material<'a>,
+) -> Option<Result<Handle<'a, Wetness>, ExtensionFault>>
+    ensures { let m = material_handle material.now in
+        IsRead ⟦<Wetness as FromValue>⟧.kind ⟦<Wetness as Validate>⟧.rules m.document
+        (unread_extension (codes "STUDIO_wetness") m.json) result }
+{
     let value = material.extension_value("STUDIO_wetness");
-    read_handle(alloc, document.as_valid(), value)
+    read_handle(alloc, material.document(), value)
 }
 
 /// Imports a file whose images may stand in extensions, whose channels may name no node, and whose
 /// attributes may have names of their own.
-pub fn import(alloc: Global, bytes: &[u8]) -> gltf::Result<Imported> {
+pub fn import(alloc: Global, bytes: &[u8]) -> gltf::Result<Imported>
+    ensures accepted { IfOk result (MendsAs bytes.now) }
+    ensures refused { IfErr result (OutOfMemoryOr (RefusesToMend bytes.now)) }
+    ensures exact { IfErr result (λ e. e ≢ Memory → MendsAsNone bytes.now) }
+{
     let options = gltf_lenient::Options {
         also_supported: supported(),
         mends: Mends {

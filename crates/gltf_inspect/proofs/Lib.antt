@@ -1,4 +1,5 @@
 pub mod Marks
 pub mod Once
 pub mod Refused
+pub mod Seen
 pub mod Turns

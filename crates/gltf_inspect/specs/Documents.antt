@@ -2,7 +2,7 @@
 use Rattle.std.specs.Prelude.{length, codes, []}
 use Rattle.gltf_json.specs.declared.root.Root.{Root}
 use Rattle.gltf_findings.specs.Checks.{Checks, ◌&◌, member}
-use Rattle.gltf_inspect.specs.Extensions.{used_checks, required_checks}
+use Rattle.gltf_inspect.specs.Extensions.{used_checks, required_checks, unique_checks}
 use Rattle.gltf_inspect_extensions.specs.Documents.{undeclared_checks}
 use Rattle.gltf_inspect_meshes.specs.Meshes.{meshes_checks}
 use Rattle.gltf_inspect_nodes.specs.Graphs.{graph_checks}
@@ -20,8 +20,10 @@ use Rattle.gltf_inspect.specs.Versions.{asset_checks}
 abbrev pub document_checks : Root → Checks
 document_checks r =
     member (codes "extensionsRequired")
-    (required_checks r.extensions_used.items r.extensions_required.items)
-    & member (codes "extensionsUsed") (used_checks r.extensions_used.items)
+    (required_checks r.extensions_used.items r.extensions_required.items
+    & unique_checks [] 0 r.extensions_required.items)
+    & member (codes "extensionsUsed")
+    (used_checks r.extensions_used.items & unique_checks [] 0 r.extensions_used.items)
     & member (codes "nodes") (parents_checks (length r.nodes.items) [] 0 r.nodes.items)
 
 abbrev pub root_checks : Root → Checks

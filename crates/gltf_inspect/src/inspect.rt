@@ -9,7 +9,7 @@ ghost use Rattle.gltf_inspect.specs.Documents.{document_checks, root_checks};
 ghost use Rattle.gltf_inspect.specs.Refusals.{root_refusals};
 
 use crate::asset::tell_asset;
-use crate::extensions::{tell_required, tell_used};
+use crate::extensions::{tell_repeated, tell_required, tell_used};
 use crate::parents::tell_parents;
 use crate::refusal::tell_refusals;
 use crate::unused::tell_unused;
@@ -95,19 +95,13 @@ fn inspect_document(
         (document_checks root.now)) }
 {
     let used = root.extensions_used.as_slice();
-    let required = Location::Member(location, "extensionsRequired");
-    tell_required(
-        alloc,
-        used,
-        root.extensions_required.as_slice(),
-        &required,
-        findings,
-    )?;
-    tell_used(
-        used,
-        &Location::Member(location, "extensionsUsed"),
-        findings,
-    )?;
+    let names = Location::Member(location, "extensionsRequired");
+    let required = root.extensions_required.as_slice();
+    tell_required(alloc, used, required, &names, findings)?;
+    tell_repeated(alloc, required, &names, findings)?;
+    let names = Location::Member(location, "extensionsUsed");
+    tell_used(used, &names, findings)?;
+    tell_repeated(alloc, used, &names, findings)?;
     let nodes = Location::Member(location, "nodes");
     tell_parents(alloc, root.nodes.as_slice(), hierarchy, &nodes, findings)
 }

@@ -17,10 +17,8 @@ use Rattle.gltf.specs.Laws.{OneTextAndBlob}
 use Rattle.gltf.specs.Shown.{bytes_of_each}
 use Rattle.gltf_shared.specs.Shown.{bytes_of_each as shared_bytes}
 use Rattle.gltf_findings.specs.Checks.{findings_of}
-use Rattle.gltf_findings.specs.Codes.{severity, severity_number}
-use Rattle.gltf_findings.specs.Reports.{count_of}
-use Rattle.gltf_findings.specs.declared.code.Severity.{Severity}
-use Rattle.gltf_findings.specs.declared.code.Severity.TheVariants as grave
+use Rattle.gltf_findings.specs.Codes.{may_refuse}
+use Rattle.gltf_findings.specs.Reports.{refusal_count}
 use Rattle.gltf_inspect_unkept.specs.Documents.{unkept_checks}
 use Rattle.gltf_inspect_unkept.specs.Laws.{FindsNothing, has_none}
 use Rattle.gltf_inspect_files.specs.declared.inspect.Inspected.{Inspected}
@@ -111,13 +109,13 @@ counted : (b : Bool) (m n : ℕ) → (m ≡ 0 → n ≡ 0) → (if b then suc m 
 counted true m n fewer none = let never : ⊥ = omega (arith, none) in absurd never
 counted false m n fewer none = fewer none
 
--- where none is found of both, none is of the first
-none_of_first : (s : Severity) (some others : Found) → count_of s (some ++ others) ≡ 0
-    → count_of s some ≡ 0
-none_of_first s [] others none = refl
-none_of_first s (f ∷ some) others none =
-    counted (severity_number (severity f.1) == severity_number s) (count_of s (some ++ others))
-    (count_of s some) (none_of_first s some others) none
+-- where nothing of both says that a file may be refused, nothing of the first does
+none_of_first : (some others : Found) → refusal_count (some ++ others) ≡ 0
+    → refusal_count some ≡ 0
+none_of_first [] others none = refl
+none_of_first (f ∷ some) others none =
+    counted (may_refuse f.1) (refusal_count (some ++ others)) (refusal_count some)
+    (none_of_first some others) none
 
 is_there : {X : Type 0} (o : Option X) (A : Type 0) (P : X → Type 0) → MatchOption o A P → (A → ⊥)
     → IsSome o
@@ -133,17 +131,17 @@ nowhere : {X Y : Type 0} (f : X → Y) (o : Option X) (P : Type 0) → IfNone (o
 nowhere f None P none = none
 nowhere f (Some x) P none = tt
 
-imported_without_an_error : (Are : Said) (names : Names) (bytes : List ℕ) (cause : Option Error)
+imported_without_refusals : (Are : Said) (names : Names) (bytes : List ℕ) (cause : Option Error)
     (imported : Option (Root × List (List ℕ))) (report : Found)
     → ((names : Names) (bytes : List ℕ) (cause : Option Error) (found : Found)
-    → IsOfRefused names bytes cause found → count_of grave.Error found ≢ 0)
-    → IsWhole Are names bytes cause imported report → count_of grave.Error report ≡ 0
+    → IsOfRefused names bytes cause found → refusal_count found ≢ 0)
+    → IsWhole Are names bytes cause imported report → refusal_count report ≡ 0
     → IsSome imported
-imported_without_an_error Are names bytes cause imported report law is none =
+imported_without_refusals Are names bytes cause imported report law is none =
     is_there imported (IsOfRefused names bytes cause is.layers)
     (λ read. Are names bytes read.0 read.1 is.layers) is.of_layers
     (λ refused. law names bytes cause is.layers refused
-    (none_of_first grave.Error is.layers is.unkept (ap (count_of grave.Error) (sym is.same) ∙ none)))
+    (none_of_first is.layers is.unkept (ap refusal_count (sym is.same) ∙ none)))
 
 refused_is_not_accepted : (bytes : List ℕ) (cause : Option Error)
     (imported : Option (Root × List (List ℕ))) (report : Found)
@@ -161,29 +159,29 @@ refused_is_not_accepted bytes cause imported report law is =
 -- of a file whose buffers share bytes
 pub lent_fine : (share : Option ℕ) (names : Names) (bytes : List ℕ) (file : Lent)
     → ((names : Names) (bytes : List ℕ) (cause : Option Error) (found : Found)
-    → IsOfRefused names bytes cause found → count_of grave.Error found ≢ 0)
-    → IsWholeLent share names bytes file → count_of grave.Error file.report ≡ 0
+    → IsOfRefused names bytes cause found → refusal_count found ≢ 0)
+    → IsWholeLent share names bytes file → refusal_count file.report ≡ 0
     → IsSome file.imported
 lent_fine share names bytes file law is none =
     there (λ read. (read.0, shared_bytes read.1.items)) file.imported
-    (imported_without_an_error (said_by share) names bytes file.cause (lent_of file.imported)
+    (imported_without_refusals (said_by share) names bytes file.cause (lent_of file.imported)
     file.report law is none)
 
 pub fine : (names : Names) (bytes : List ℕ) (file : Inspected)
     → ((names : Names) (bytes : List ℕ) (cause : Option Error) (found : Found)
-    → IsOfRefused names bytes cause found → count_of grave.Error found ≢ 0)
-    → IsWholeReport names bytes file → count_of grave.Error file.report ≡ 0
+    → IsOfRefused names bytes cause found → refusal_count found ≢ 0)
+    → IsWholeReport names bytes file → refusal_count file.report ≡ 0
     → IsSome file.imported
 fine names bytes file law is none =
     there (λ read. (read.0, bytes_of_each read.1.items)) file.imported
-    (imported_without_an_error IsOfAccepted names bytes file.cause (imported_of file.imported)
+    (imported_without_refusals IsOfAccepted names bytes file.cause (imported_of file.imported)
     file.report law is none)
 
 pub all_fine : {E : Type 0} (names : Names) (bytes : List ℕ) (made : Result Inspected E)
     → ((names : Names) (bytes : List ℕ) (cause : Option Error) (found : Found)
-    → IsOfRefused names bytes cause found → count_of grave.Error found ≢ 0)
+    → IsOfRefused names bytes cause found → refusal_count found ≢ 0)
     → IfOk made (IsWholeReport names bytes)
-    → IfOk made (λ file. count_of grave.Error file.report ≡ 0 → IsSome file.imported)
+    → IfOk made (λ file. refusal_count file.report ≡ 0 → IsSome file.imported)
 all_fine names bytes (Ok file) law is = fine names bytes file law is
 all_fine names bytes (Err e) law is = tt
 

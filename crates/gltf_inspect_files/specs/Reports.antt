@@ -3,13 +3,15 @@
 -- the JSON text (section 2.7), the records (section 5), the rules between them (sections 3 and 5)
 -- and the buffers (section 3.6.1).
 use Rattle.std.specs.Prelude.{◌≡◌, ◌≢◌, ◌++◌, ◌⊎◌, ℕ, List, [], ◌∷◌, length, slice_get}
-use Rattle.std.specs.Prelude.{Option, MatchOption, option_map, Result, Vec}
+use Rattle.std.specs.Prelude.{Option, Some, MatchOption, option_map, Result, Vec, true}
 use Rattle.std.specs.declared.alloc.Global.{Global}
 use Rattle.std.specs.declared.rc.Rc.{Rc}
 use Rattle.gltf_buffers.specs.declared.data.Data.{Data}
 use Rattle.std.specs.List.{AllByRecursion}
 use Rattle.gltf_json.specs.declared.root.Root.{Root}
-use Rattle.gltf_json_record.specs.Place.{Place}
+use Rattle.gltf_json_record.specs.Place.{Place, named}
+use Rattle.gltf_json_record.specs.declared.error.Error.TheVariants.{Record}
+use Rattle.gltf_json_record.specs.declared.error.RecordFault.TheVariants.{MissingMember}
 use Rattle.gltf_glb.specs.declared.error.Error.{Error}
 use Rattle.gltf_glb.specs.declared.error.Error.TheVariants.{Binary, Deserialize}
 use Rattle.gltf_buffers.specs.Buffers.{sources_of}
@@ -21,14 +23,16 @@ use Rattle.gltf.specs.Import.{IsNoDocument, RefusesRecords}
 use Rattle.gltf.specs.Shown.{bytes_of_each}
 use Rattle.gltf_shared.specs.Shown.{bytes_of_each as shared_bytes}
 use Rattle.gltf_findings.specs.declared.code.Code.{Code}
+use Rattle.gltf_findings.specs.declared.code.Code.TheVariants.{NeededByReader}
 use Rattle.gltf_findings.specs.Checks.{Checks, ◌&◌, findings_of}
 use Rattle.gltf_inspect.specs.Documents.{root_checks}
+use Rattle.gltf_inspect.specs.Refusals.{last_of}
 use Rattle.gltf_inspect_items.specs.Documents.{items_checks}
 use Rattle.gltf_inspect_items.specs.Reading.{Bytes}
 use Rattle.gltf_inspect_values.specs.Documents.{values_checks}
 use Rattle.gltf_inspect_files.specs.Buffers.{buffers_findings, SaysSomething}
 use Rattle.gltf_inspect_files.specs.Containers.{container_code}
-use Rattle.gltf_inspect_files.specs.Texts.{text_findings}
+use Rattle.gltf_inspect_files.specs.Texts.{text_findings, is_needed_here}
 
 abbrev pub Found : Type 0
 Found = List (List Place × Code)
@@ -86,6 +90,14 @@ abbrev pub IsOfRefused : Names → List ℕ → Option Error → Found → Type 
 IsOfRefused names bytes cause found =
     MatchOption cause (IsOfBrokenRules bytes found ⊎ IsOfBuffers names bytes found)
     (λ e. IsOfNoDocument bytes e found)
+
+-- the one thing that is found is a member that the standard lets be absent and that this reader
+-- needs: the bytes are no document, since a record does not have it
+pub record IsOfNeededMember (cause : Option Error) (found : Found) : Type 0 where
+  pub path : List Place
+  pub absent : cause ≡ Some (Deserialize (Record path MissingMember))
+  pub needed : is_needed_here (last_of (named []) path) ≡ true
+  pub same : found ≡ (path, NeededByReader) ∷ []
 
 -- all five layers hold of this root with these bytes of its buffers
 pub record IsOfAccepted (names : Names) (bytes : List ℕ) (root : Root) (buffers : List (List ℕ))

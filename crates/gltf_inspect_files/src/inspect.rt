@@ -6,14 +6,13 @@ ghost use Rattle.gltf_buffers.specs.Errors.{IsUnanswered};
 ghost use Rattle.gltf_buffers.specs.Names.{names_of, Nowhere};
 ghost use Rattle.gltf_glb.specs.declared.error.Error.TheVariants.{Memory};
 ghost use Rattle.gltf_names.specs.Named.{File};
-ghost use Rattle.gltf_findings.specs.Reports.{count_of};
-ghost use Rattle.gltf_findings.specs.declared.code.Severity.TheVariants as grave;
+ghost use Rattle.gltf_findings.specs.Reports.{refusal_count};
 ghost use Rattle.gltf_inspect_files.specs.Reports.{document_findings};
 ghost use Rattle.gltf_inspect_files.specs.Unkept.{IsWholeReport, IsWholeReportOfFile};
 
 use crate::contents::inspect_contents;
 use crate::join::joined;
-use crate::laws::{what_is_refused_has_an_error, what_is_refused_is_not_accepted};
+use crate::laws::{what_is_refused_is_not_accepted, what_is_refused_is_reported};
 use crate::lent::{inspect_lent_from, inspect_lent_slice, owned};
 use gltf::buffer::Data;
 use gltf::{Document, Error, NamedBytes};
@@ -53,20 +52,21 @@ pub fn inspect_imported(
 /// All that is found in the bytes of a file, and what is imported where they are accepted, as
 /// [`gltf::import_slice`] accepts them.
 ///
-/// Where they are not, the report has an error: the fault of the container, of the text or of a
-/// record; or all broken rules, and what else is found in the records; or the fault of each buffer,
+/// Where they are not, the report says so: the fault of the container, of the text or of a
+/// record, which is an error, but for a member that this reader alone needs
+/// ([`Code::NeededByReader`](gltf_findings::code::Code::NeededByReader)); or all broken rules, and what else is found in the records; or the fault of each buffer,
 /// and what is found in the records. Files that buffers name are not looked for. Fails where there
 /// is no memory.
 ///
 /// All items are looked at, however many; [`crate::lent::inspect_lent_slice`] takes a budget.
 pub fn inspect_slice(alloc: Global, bytes: &[u8]) -> Result<Inspected, AllocError>
     ensures report { IfOk result (IsWholeReport Nowhere bytes.now) }
-    ensures fine { IfOk result (λ file. count_of grave.Error file.report ≡ 0
+    ensures fine { IfOk result (λ file. refusal_count file.report ≡ 0
         → IsSome file.imported) }
     ensures exact { IfOk result (λ file. IfNone file.imported (IsNotAccepted bytes.now)) }
 {
     // Laws that the proof stands on; the calls do nothing.
-    what_is_refused_has_an_error();
+    what_is_refused_is_reported();
     what_is_refused_is_not_accepted();
     let file = inspect_lent_slice(alloc, bytes, None)?;
     owned(alloc, file)
@@ -84,14 +84,14 @@ pub fn inspect_from<S: NamedBytes>(
 ) -> gltf::Result<Inspected>
     ensures report { IfOk result (IsWholeReportOfFile (names_of (S.bytes_by_name source.old))
         path.now) }
-    ensures fine { IfOk result (λ file. count_of grave.Error file.report ≡ 0
+    ensures fine { IfOk result (λ file. refusal_count file.report ≡ 0
         → IsSome file.imported) }
     ensures unread { IfErr result (λ e. (e ≡ Memory)
         ⊎ IsUnanswered (names_of (S.bytes_by_name source.old)) (File path.now)
         (S.failures source.old) (S.failures source.new) e) }
 {
     // A law that the proof stands on; the call does nothing.
-    what_is_refused_has_an_error();
+    what_is_refused_is_reported();
     let file = inspect_lent_from(alloc, source, path, None)?;
     let own = owned(alloc, file)?;
     Ok(own)

@@ -1,11 +1,12 @@
 //! Laws of reports of files. Each is the contract of a function; the calls in a body are laws that
 //! its proof stands on, and do nothing.
 ghost use Rattle.std.specs.Prelude.{◌≡◌, ◌≢◌, ◌⊎◌, ◌∷◌, ℕ, Bool, true, List, [], Option, Some};
+ghost use Rattle.std.specs.Prelude.{None};
 ghost use Rattle.std.specs.Prelude.{slice_get, codes};
 ghost use Rattle.gltf.specs.Import.{IsNotAccepted};
 ghost use Rattle.gltf_buffers.specs.Names.{Names, Nowhere};
 ghost use Rattle.gltf_glb.specs.declared.error.Error.{Error};
-ghost use Rattle.gltf_findings.specs.Reports.{count_of};
+ghost use Rattle.gltf_findings.specs.Reports.{count_of, refusal_count};
 ghost use Rattle.gltf_findings.specs.declared.code.Severity.TheVariants as grave;
 ghost use Rattle.gltf_findings.specs.declared.code.Code.{Code};
 ghost use Rattle.gltf_findings.specs.declared.code.Code.TheVariants.{ItemsNotLookedAt};
@@ -16,6 +17,7 @@ ghost use Rattle.gltf_json_record.specs.Place.{Place, named, numbered};
 ghost use Rattle.gltf_inspect_items.specs.Reading.{Bytes};
 ghost use Rattle.gltf_inspect_files.specs.LeftOut.{IsOfLeftOut, SaysLeftOut};
 ghost use Rattle.gltf_inspect_files.specs.Reports.{Found, IsOfRefused, contents_checks};
+ghost use Rattle.gltf_inspect_files.specs.Reports.{IsOfNeededMember};
 ghost use Rattle.gltf_inspect_files.specs.Within.{contents_checks_but};
 
 use gltf_inspect::laws::the_rules_hold_where_no_error_is_found;
@@ -24,11 +26,17 @@ use gltf_rules::laws::{
     no_rule_is_broken_where_all_hold, what_shows_the_same_breaks_the_same_rules,
 };
 
-/// The report of a file that is refused has an error. So a report without one is of a file that is
-/// accepted.
-pub fn what_is_refused_has_an_error()
-    ensures { (names : Names) (bytes : List ℕ) (cause : Option Error) (found : Found)
-        → IsOfRefused names bytes cause found → count_of grave.Error found ≢ 0 }
+/// The report of a file that is refused says so: it has an error, or the one finding that a member is
+/// absent which the standard lets be absent, and which this reader needs. So a report with neither is
+/// of a file that is accepted. Where the file holds a document, its report has an error.
+pub fn what_is_refused_is_reported()
+    ensures reported { (names : Names) (bytes : List ℕ) (cause : Option Error) (found : Found)
+        → IsOfRefused names bytes cause found → refusal_count found ≢ 0 }
+    ensures needed { (names : Names) (bytes : List ℕ) (cause : Option Error) (found : Found)
+        → IsOfRefused names bytes cause found → count_of grave.Error found ≡ 0
+        → IsOfNeededMember cause found }
+    ensures document { (names : Names) (bytes : List ℕ) (found : Found)
+        → IsOfRefused names bytes None found → count_of grave.Error found ≢ 0 }
 {
     the_rules_hold_where_no_error_is_found();
     no_rule_is_broken_where_all_hold();

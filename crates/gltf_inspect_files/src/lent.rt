@@ -4,8 +4,7 @@ ghost use Rattle.gltf_buffers.specs.Errors.{IsUnanswered};
 ghost use Rattle.gltf_buffers.specs.Names.{Nowhere};
 ghost use Rattle.gltf_glb.specs.declared.error.Error.TheVariants.{Memory};
 ghost use Rattle.gltf_names.specs.Named.{File};
-ghost use Rattle.gltf_findings.specs.Reports.{count_of};
-ghost use Rattle.gltf_findings.specs.declared.code.Severity.TheVariants as grave;
+ghost use Rattle.gltf_findings.specs.Reports.{refusal_count};
 ghost use Rattle.gltf_shared.specs.Shown.{bytes_of_each as shared_bytes};
 ghost use Rattle.gltf.specs.Shown.{bytes_of_each};
 ghost use Rattle.gltf_inspect_files.specs.Layers.{IsShared};
@@ -13,7 +12,7 @@ ghost use Rattle.gltf_inspect_files.specs.Reports.{imported_of, lent_of};
 ghost use Rattle.gltf_inspect_files.specs.Unkept.{IsWholeLent, IsWholeLentOfFile};
 
 use crate::inspect::Inspected;
-use crate::laws::what_is_refused_has_an_error;
+use crate::laws::what_is_refused_is_reported;
 use crate::unkept::inspect_whole;
 use gltf::buffer::Data;
 use gltf::{Document, Error, Name};
@@ -71,14 +70,14 @@ pub fn inspect_lent_from<N: AskUpTo>(
     ensures report { IfOk result (λ file. IsWholeLentOfFile share (N.names source.old) N.asks
         path.now file source.old source.new) }
     ensures shared { IfOk result IsShared }
-    ensures fine { IfOk result (λ file. count_of grave.Error file.report ≡ 0
+    ensures fine { IfOk result (λ file. refusal_count file.report ≡ 0
         → IsSome file.imported) }
     ensures unread { IfErr result (λ e. (e ≡ Memory)
         ⊎ IsUnanswered (N.names source.old) (File path.now)
         (N.failures source.old) (N.failures source.new) e) }
 {
     // A law that the proof stands on; the call does nothing.
-    what_is_refused_has_an_error();
+    what_is_refused_is_reported();
     let bytes = source.ask_up_to(alloc, Name::File(path), None)?;
     let file = inspect_whole(alloc, source, &bytes, share)?;
     Ok(file)

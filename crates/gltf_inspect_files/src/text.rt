@@ -3,6 +3,7 @@ ghost use Rattle.std.specs.Prelude.{◌≡◌, ◌++◌, [], OnOk, map};
 ghost use Rattle.gltf_json_record.specs.Place.{place_of, named};
 ghost use Rattle.gltf_inspect.specs.Refusals.{last_of};
 ghost use Rattle.gltf_inspect_files.specs.Texts.{kind_code, record_code, text_findings};
+ghost use Rattle.gltf_inspect_files.specs.Texts.{absent_code, is_needed_here};
 
 use gltf_findings::code::Code;
 use gltf_findings::findings::Findings;
@@ -42,8 +43,29 @@ fn record_code(step: &Step, fault: RecordFault) -> Code
     ensures { result ≡ record_code (place_of step.now) fault }
 {
     match fault {
-        RecordFault::MissingMember => Code::UndefinedProperty,
+        RecordFault::MissingMember => absent_code(step),
         RecordFault::WrongKind => kind_code(step),
+    }
+}
+
+fn absent_code(step: &Step) -> Code
+    ensures { result ≡ absent_code (place_of step.now) }
+{
+    if is_needed_here(step) {
+        Code::NeededByReader
+    } else {
+        Code::UndefinedProperty
+    }
+}
+
+/// Whether the standard lets a member of this name be absent, without which nothing is loaded: the
+/// source of a texture, and the node of a channel's target (glTF 2.0, sections 5.29.2 and 5.7.1).
+fn is_needed_here(step: &Step) -> bool
+    ensures { result ≡ is_needed_here (place_of step.now) }
+{
+    match step {
+        Step::Member(name) => *name == "source" || *name == "node",
+        Step::Item(_) | Step::Attribute(_) => false,
     }
 }
 

@@ -2,15 +2,16 @@
 -- common.
 use Rattle.std.proofs.Common.{◌≡◌, ◌<◌, ◌≤◌, ℕ, zero, suc, false, ◌⊎◌, inl}
 use Rattle.std.proofs.Common.{inr}
-use Rattle.std.proofs.Common.{refl, sym, ◌∙◌, ap, arith, List, length}
-use Rattle.std.specs.Prelude.{is_some}
-use Rattle.std.proofs.lemmas.Bool.{eqb-false}
+use Rattle.std.proofs.Common.{refl, sym, ◌∙◌, ap, arith, List, [], ◌∷◌, length, Bool, true}
+use Rattle.std.specs.Prelude.{is_some, nat_lt, ◌&&◌, ◌||◌}
+use Rattle.std.proofs.lemmas.Bool.{eqb-false, ltb-true}
 use Rattle.gltf_json_scene.specs.declared.scene.Node.{Node}
-use Rattle.gltf_inspect_nodes.specs.Roots.{led, ends_of, lead_together}
+use Rattle.gltf_inspect_nodes.specs.Roots.{led, ends_of, lead_together, leads_to_loop}
+use Rattle.gltf_inspect_nodes.specs.Roots.{is_child_of}
 use Rattle.gltf_inspect_loops.specs.Ancestors.{IsParent, IsAncestor, AreApart, HasNoLoop}
 use Rattle.gltf_inspect_loops.proofs.Walks.{after, after_both, after_still}
 use Rattle.gltf_inspect_loops.proofs.Tables.{last_in}
-use Rattle.gltf_inspect_loops.proofs.Parents.{parent_or_none, parent_some}
+use Rattle.gltf_inspect_loops.proofs.Parents.{parent_or_none, parent_some, child-is}
 use Rattle.gltf_inspect_loops.proofs.Ends.{ends_steps}
 use Rattle.gltf_inspect_loops.proofs.Loops.{Most, up, stays_after, on_loop, round_above}
 use Rattle.gltf_inspect_loops.proofs.Loops.{above_after}
@@ -106,3 +107,45 @@ apart_found ns joints h =
     let other = ancestor ns Most (after (up ns) Most h.one) h.other h.other_is_node
     (sym (ends.each h.other) ∙ sym same ∙ ends.each h.one) in
     h.none (after (up ns) Most h.one) one.0 other.0 one.1 other.1)
+
+-- ---- where no node is on a loop, no joint leads to one
+
+root_by : (ns : List Node) (j : ℕ) → length ns ≤ Most → HasNoLoop ns → j < length ns
+    → IsParent ns (up ns (after (up ns) Most j)) (after (up ns) Most j)
+    ⊎ ((is_some (last_in (after (up ns) Most j) 0 ns) ≡ false)
+    × (up ns (after (up ns) Most j) ≡ after (up ns) Most j))
+    → is_some (last_in (after (up ns) Most j) 0 ns) ≡ false
+root_by ns j few no_loop below (inr none) = none.0
+root_by ns j few no_loop below (inl parent) =
+    let loop = on_loop ns j (after (up ns) Most j) few below refl in
+    let child = parent_some ns (up ns (after (up ns) Most j)) (after (up ns) Most j) parent in
+    absurd (no_loop (after (up ns) Most j) loop.0
+    (round_above ns (after (up ns) Most j) loop.0 (stays_after ns Most j below) child loop.1))
+
+-- the end of a node is no child
+end_is_root : (ns : List Node) (j : ℕ) → length ns ≤ Most → HasNoLoop ns → j < length ns
+    → is_child_of ns (led (ends_of ns) j) ≡ false
+end_is_root ns j few no_loop below =
+    let ends = ends_steps ns in
+    ap (λ k. is_child_of ns k) (ends.each j)
+    ∙ child-is ns (after (up ns) Most j) (stays_after ns Most j below)
+    ∙ root_by ns j few no_loop below
+    (parent_or_none ns (after (up ns) Most j) (stays_after ns Most j below))
+
+no_loop_by : (ns : List Node) (j : ℕ) (b rest : Bool) → length ns ≤ Most → HasNoLoop ns
+    → nat_lt j (length (ends_of ns)) ≡ b → rest ≡ false
+    → (b && is_child_of ns (led (ends_of ns) j) || rest) ≡ false
+no_loop_by ns j false rest few no_loop e none = none
+no_loop_by ns j true rest few no_loop e none =
+    let ends = ends_steps ns in
+    let inside : j < length (ends_of ns) = ltb-true j (length (ends_of ns)) e in
+    let below : j < length ns = let l = ends.long in omega arith in
+    rw (end_is_root ns j few no_loop below) none
+
+pub no_loops : (ns : List Node) (joints : List ℕ) → length ns ≤ Most → HasNoLoop ns
+    → leads_to_loop (is_child_of ns) (ends_of ns) joints ≡ false
+no_loops ns [] few no_loop = refl
+no_loops ns (joint ∷ joints) few no_loop =
+    no_loop_by ns joint (nat_lt joint (length (ends_of ns)))
+    (leads_to_loop (is_child_of ns) (ends_of ns) joints) few no_loop refl
+    (no_loops ns joints few no_loop)

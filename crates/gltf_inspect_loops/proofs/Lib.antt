@@ -8,5 +8,6 @@ pub mod Joints
 pub mod Apart
 pub mod Skins
 pub mod Found
+pub mod Below
 pub mod Rooted
 pub mod Skeletons

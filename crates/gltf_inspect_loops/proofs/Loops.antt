@@ -113,7 +113,7 @@ rest_of n (suc m) =
           = omega arith in s),
     )
 
-from_before : (f : ℕ → ℕ) (n i m : ℕ) → after f (suc n) i ≡ i
+pub from_before : (f : ℕ → ℕ) (n i m : ℕ) → after f (suc n) i ≡ i
     → (k : ℕ) × (after f m (after f k i) ≡ i)
 from_before f n i m round =
     let rest = rest_of n m in (

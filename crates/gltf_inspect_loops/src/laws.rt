@@ -1,8 +1,8 @@
 //! Laws of loops among nodes, and of joints and skeletons where there is none. Each is the contract
 //! of a function that does nothing.
-ghost use Rattle.std.specs.Prelude.{List, Some, [], ◌∷◌, ◌≡◌, ◌↔◌, ◌≤◌};
-ghost use Rattle.std.specs.Prelude.{ℕ, suc, length, codes};
-ghost use Rattle.std.specs.List.{Contains};
+ghost use Rattle.std.specs.Prelude.{List, Some, [], ◌∷◌, ◌≡◌, ◌↔◌, ◌≤◌, ◌<◌};
+ghost use Rattle.std.specs.Prelude.{ℕ, suc, length, codes, nat_eq, true};
+ghost use Rattle.std.specs.List.{Contains, list_any};
 ghost use Rattle.gltf_json.specs.declared.root.Root.{Root};
 ghost use Rattle.gltf_json_record.specs.Place.{Place, named, numbered};
 ghost use Rattle.gltf_findings.specs.declared.code.Code.TheVariants.{NodeLoop, SkinNoCommonRoot};
@@ -36,6 +36,19 @@ pub fn joints_are_found_exactly_where_two_are_apart()
         ↔ (i : ℕ) × (skin : Skin)
         × (path ≡ named (codes "skins") ∷ numbered i ∷ named (codes "joints") ∷ [])
         × (skin_at r.skins.items i ≡ Some skin) × AreApart r.nodes.items (joints_of skin) }
+{
+    gltf_findings::laws::a_finding_is_a_condition_that_fails()
+}
+
+/// Joints of which one is a node that has an ancestor, or is one, that is among its own ancestors
+/// are not found to have no common root, however long the loop is.
+pub fn of_joints_that_lead_to_a_loop_nothing_is_found()
+    ensures { (r : Root) (i joint above n m : ℕ) (skin : Skin)
+        → skin_at r.skins.items i ≡ Some skin
+        → list_any (nat_eq joint) (joints_of skin) ≡ true → joint < length r.nodes.items
+        → IsAncestor r.nodes.items n above joint → IsAncestor r.nodes.items (suc m) above above
+        → ¬ Contains (findings_of [] (roots_checks r))
+        (named (codes "skins") ∷ numbered i ∷ named (codes "joints") ∷ [], SkinNoCommonRoot) }
 {
     gltf_findings::laws::a_finding_is_a_condition_that_fails()
 }

@@ -1,7 +1,12 @@
 -- The sets of texture coordinates that a material takes from a primitive (glTF 2.0, sections 3.9.2
 -- and 5.30): "an integer value [..] n in TEXCOORD_n".
-use Rattle.std.specs.Prelude.{ℕ, ◌==◌, ◌&&◌, ◌||◌, Bool, true, false, is_some, slice_get, codes}
-use Rattle.std.specs.Prelude.{List, [], ◌∷◌, Option, Some, None, unwrap_or}
+use Rattle.std.specs.Prelude.{ℕ, ◌==◌, ◌&&◌, ◌||◌, Bool, true, false, slice_get, codes}
+use Rattle.std.specs.Prelude.{List, [], ◌∷◌, Option, Some, None, unwrap_or, option_map}
+use Rattle.std.specs.BTreeMap.{get_by_text}
+use Rattle.std.specs.Option.{option_and_then}
+use Rattle.serde_json.specs.Data.{Data}
+use Rattle.serde_json.specs.Find.{get, as_number, as_u64}
+use Rattle.serde_json.specs.View.{view}
 use Rattle.gltf_json.specs.declared.root.Root.{Root}
 use Rattle.gltf_json_geometry.specs.declared.mesh.Primitive.{Primitive}
 use Rattle.gltf_json_geometry.specs.declared.semantic.Semantic.{Semantic}
@@ -19,6 +24,7 @@ use Rattle.gltf_json_material.specs.declared.material.NormalTexture.{NormalTextu
 use Rattle.gltf_json_material.specs.declared.material.OcclusionTexture.{OcclusionTexture}
 use Rattle.gltf_json_material.specs.declared.material.PbrMetallicRoughness.{PbrMetallicRoughness}
 use Rattle.gltf_json_material.specs.declared.texture.Info.{Info}
+use Rattle.gltf_json_record.specs.declared.extensions.Others.{Others}
 use Rattle.gltf_findings.specs.declared.code.Code.TheVariants.{TooFewTexcoords}
 use Rattle.gltf_findings.specs.Checks.{Checks, Condition, member, optional_checks}
 use Rattle.gltf_inspect_meshes.specs.Meanings.{meaning_number, set_number}
@@ -50,12 +56,26 @@ info_set i = moved_set i.tex_coord i.extensions
 abbrev pub fits_info : List (Semantic × ℕ) → Info → Bool
 fits_info entries i = has_coords entries (info_set i)
 
--- extensions of these two may name another set, which is not looked for
+-- the set that a JSON value is: none, where it is no whole number
+abbrev pub set_of : Data → Option ℕ
+set_of d = option_and_then as_u64 (as_number d)
+
+-- texCoord of KHR_texture_transform among extensions that are kept as JSON
+abbrev pub kept_coord : Option Others → Option Data
+kept_coord extensions =
+    option_and_then (get (codes "texCoord")) (option_map view (option_and_then
+    (λ e. get_by_text e.others (codes "KHR_texture_transform")) extensions))
+
+-- it counts where it is there. Of one that is no set nothing is found
+abbrev pub fits_moved : List (Semantic × ℕ) → ℕ → Option Data → Bool
+fits_moved entries set None = has_coords entries set
+fits_moved entries set (Some d) = holds_of (has_coords entries) (set_of d)
+
 abbrev pub fits_normal : List (Semantic × ℕ) → NormalTexture → Bool
-fits_normal entries t = is_some t.extensions || has_coords entries t.tex_coord
+fits_normal entries t = fits_moved entries t.tex_coord (kept_coord t.extensions)
 
 abbrev pub fits_occlusion : List (Semantic × ℕ) → OcclusionTexture → Bool
-fits_occlusion entries t = is_some t.extensions || has_coords entries t.tex_coord
+fits_occlusion entries t = fits_moved entries t.tex_coord (kept_coord t.extensions)
 
 abbrev pub fits_metallic : List (Semantic × ℕ) → PbrMetallicRoughness → Bool
 fits_metallic entries p =

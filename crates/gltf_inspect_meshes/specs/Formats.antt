@@ -9,7 +9,7 @@ use Rattle.gltf_json_record.specs.declared.validation.Checked.TheVariants.{Valid
 use Rattle.gltf_json_geometry.specs.Semantics.{semantic_name}
 use Rattle.gltf_json_geometry.specs.declared.accessor.ComponentType.{ComponentType}
 use Rattle.gltf_json_geometry.specs.declared.accessor.ComponentType.TheVariants.{I8, U8, I16, U16}
-use Rattle.gltf_json_geometry.specs.declared.accessor.ComponentType.TheVariants.{F32}
+use Rattle.gltf_json_geometry.specs.declared.accessor.ComponentType.TheVariants.{U32, F32}
 use Rattle.gltf_json_geometry.specs.declared.accessor.«Type».{«Type»}
 use Rattle.gltf_json_geometry.specs.declared.accessor.«Type».TheVariants.{Scalar, Vec2, Vec3, Vec4}
 use Rattle.gltf_json_geometry.specs.declared.accessor.Accessor.{Accessor}
@@ -18,6 +18,7 @@ use Rattle.gltf_json_geometry.specs.declared.semantic.Semantic.{Semantic}
 use Rattle.gltf_json_geometry.specs.declared.semantic.Semantic.TheVariants as meaning
 use Rattle.gltf_findings.specs.declared.code.Code.TheVariants.{AttributeInvalidFormat}
 use Rattle.gltf_findings.specs.declared.code.Code.TheVariants.{AttributeUnaligned}
+use Rattle.gltf_findings.specs.declared.code.Code.TheVariants.{AttributeUnsignedInt}
 use Rattle.gltf_findings.specs.Checks.{Checks, Nothing, Condition, At, ◌&◌, optional_checks}
 use Rattle.gltf_inspect_meshes.specs.Facts.{or_zero}
 use Rattle.gltf_inspect_meshes.specs.Items.{stride_in}
@@ -49,7 +50,16 @@ is_whole (Valid U8) normalized = not normalized
 is_whole (Valid U16) normalized = not normalized
 is_whole _ normalized = false
 
--- the table of attributes; those of an application may have any format
+-- "application-specific attribute semantics MUST NOT use unsigned int component type"
+abbrev pub is_wide : Checked ComponentType → Bool
+is_wide (Valid U32) = true
+is_wide _ = false
+
+abbrev pub fits_application : Semantic → Checked ComponentType → Bool
+fits_application (meaning.Extras name) c = not (is_wide c)
+fits_application _ c = true
+
+-- the table of attributes; it has none of an application
 abbrev pub is_allowed : Semantic → ℕ → Checked ComponentType → Bool → Bool
 is_allowed (meaning.Extras name) w c normalized = true
 is_allowed meaning.Positions w c normalized = w == 3 && is_float c normalized
@@ -107,6 +117,7 @@ abbrev pub format_checks : Root → Bool → Semantic → Accessor → Checks
 format_checks r quantized semantic a =
     Condition (is_format quantized semantic (width a.type_) a.component_type a.normalized)
     AttributeInvalidFormat
+    & Condition (fits_application semantic a.component_type) AttributeUnsignedInt
     & optional_checks (aligned_index_checks r a) a.buffer_view
 
 abbrev pub formats_checks : Root → Bool → List (Semantic × ℕ) → Checks

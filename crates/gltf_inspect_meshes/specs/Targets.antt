@@ -22,14 +22,17 @@ displaced_checks accessors base i =
     & optional_checks (displaced_count_checks (count_of_index accessors base))
     (slice_get accessors i)
 
+-- a target, where these are the accessors of the positions, the normals and the tangents that it
+-- displaces
+abbrev pub displacing_checks : List Accessor → Option ℕ → Option ℕ → Option ℕ → MorphTarget → Checks
+displacing_checks accessors positions normals tangents t =
+    member (codes "POSITION") (optional_checks (displaced_checks accessors positions) t.positions)
+    & member (codes "NORMAL") (optional_checks (displaced_checks accessors normals) t.normals)
+    & member (codes "TANGENT") (optional_checks (displaced_checks accessors tangents) t.tangents)
+
 abbrev pub target_checks : List Accessor → List (Semantic × ℕ) → MorphTarget → Checks
 target_checks accessors entries t =
-    member (codes "POSITION")
-    (optional_checks (displaced_checks accessors (first_of 1 entries)) t.positions)
-    & member (codes "NORMAL")
-    (optional_checks (displaced_checks accessors (first_of 2 entries)) t.normals)
-    & member (codes "TANGENT")
-    (optional_checks (displaced_checks accessors (first_of 3 entries)) t.tangents)
+    displacing_checks accessors (first_of 1 entries) (first_of 2 entries) (first_of 3 entries) t
 
 abbrev pub targets_checks : List Accessor → Primitive → Checks
 targets_checks accessors p =

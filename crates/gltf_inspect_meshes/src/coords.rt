@@ -1,7 +1,8 @@
 //! The sets of texture coordinates that a material takes from a primitive (glTF 2.0, sections 3.9.2
 //! and 5.30).
-ghost use Rattle.std.specs.Prelude.{◌≡◌, OnOk, unwrap_or};
+ghost use Rattle.std.specs.Prelude.{◌≡◌, OnOk, unwrap_or, option_map};
 ghost use Rattle.std.specs.Option.{option_copied};
+ghost use Rattle.serde_json.specs.View.{view};
 ghost use Rattle.gltf_validation.specs.Locations.{places_of};
 ghost use Rattle.gltf_findings.specs.Checks.{told_after};
 ghost use Rattle.gltf_inspect_meshes.specs.Coords.{has_coords, holds_of, info_set, moved_set};
@@ -9,7 +10,7 @@ ghost use Rattle.gltf_inspect_meshes.specs.Coords.{fits_info, fits_normal, fits_
 ghost use Rattle.gltf_inspect_meshes.specs.Coords.{fits_metallic, fits_glossiness};
 ghost use Rattle.gltf_inspect_meshes.specs.Coords.{fits_specular, fits_extensions, fits_material};
 ghost use Rattle.gltf_inspect_meshes.specs.Coords.{fits_transmission, fits_volume};
-ghost use Rattle.gltf_inspect_meshes.specs.Coords.{material_checks};
+ghost use Rattle.gltf_inspect_meshes.specs.Coords.{material_checks, kept_coord, fits_moved};
 
 use crate::meaning::{TEX_COORDS, meaning_number, set_number};
 use gltf_findings::code::Code;
@@ -22,10 +23,12 @@ use gltf_json_material::material::{
     Material, NormalTexture, OcclusionTexture, PbrMetallicRoughness,
 };
 use gltf_json_material::texture::Info;
-use gltf_json_record::boxed::lent;
+use gltf_json_record::boxed::{Boxed, lent};
+use gltf_json_record::extensions::Others;
 use gltf_json_record::index::Index;
 use gltf_json_record::kinds;
 use gltf_validation::location::Location;
+use serde_json::Value;
 use std::alloc::AllocError;
 use std::collections::BTreeMap;
 
@@ -51,11 +54,11 @@ pub(crate) fn tell_coords(
     }
 }
 
-fn has_coords(attributes: &BTreeMap<Semantic, Index<kinds::Accessor>>, set: u32) -> bool
+fn has_coords(attributes: &BTreeMap<Semantic, Index<kinds::Accessor>>, set: u64) -> bool
     ensures { result ≡ has_coords attributes.now.entries set }
 {
     for (semantic, _index) in attributes {
-        if meaning_number(semantic) == TEX_COORDS && set_number(semantic) == set {
+        if meaning_number(semantic) == TEX_COORDS && set_number(semantic) as u64 == set {
             return true;
         }
     }
@@ -93,7 +96,38 @@ fn fits_info(attributes: &BTreeMap<Semantic, Index<kinds::Accessor>>, info: Opti
     ensures { result ≡ holds_of (fits_info attributes.now.entries) (option_copied info.entry) }
 {
     match info {
-        Some(info) => has_coords(attributes, info_set(info)),
+        Some(info) => has_coords(attributes, info_set(info) as u64),
+        None => true,
+    }
+}
+
+/// `texCoord` of `KHR_texture_transform`, where extensions are kept as JSON.
+fn kept_coord(extensions: &Option<Boxed<Others>>) -> Option<&Value>
+    ensures { option_map (λ v. view v.now) result ≡ kept_coord extensions.now }
+{
+    match lent(extensions) {
+        Some(extensions) => match extensions.others.get("KHR_texture_transform") {
+            Some(value) => value.get("texCoord"),
+            None => None,
+        },
+        None => None,
+    }
+}
+
+/// Whether the set is there that stands in place of another, or this one, where none does.
+fn fits_moved(
+    attributes: &BTreeMap<Semantic, Index<kinds::Accessor>>,
+    set: u32,
+    own: Option<&Value>,
+) -> bool
+    ensures { result ≡ fits_moved attributes.now.entries set
+        (option_map (λ v. view v.now) own.entry) }
+{
+    let Some(own) = own else {
+        return has_coords(attributes, set as u64);
+    };
+    match own.as_u64() {
+        Some(own) => has_coords(attributes, own),
         None => true,
     }
 }
@@ -106,7 +140,7 @@ fn fits_normal(
         ≡ holds_of (fits_normal attributes.now.entries) (option_copied normal.entry) }
 {
     match normal {
-        Some(it) => it.extensions.is_some() || has_coords(attributes, it.tex_coord),
+        Some(it) => fits_moved(attributes, it.tex_coord, kept_coord(&it.extensions)),
         None => true,
     }
 }
@@ -119,7 +153,7 @@ fn fits_occlusion(
         (option_copied occlusion.entry) }
 {
     match occlusion {
-        Some(it) => it.extensions.is_some() || has_coords(attributes, it.tex_coord),
+        Some(it) => fits_moved(attributes, it.tex_coord, kept_coord(&it.extensions)),
         None => true,
     }
 }

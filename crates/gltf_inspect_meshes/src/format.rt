@@ -7,6 +7,7 @@ ghost use Rattle.gltf_inspect_meshes.specs.Formats.{is_allowed, aligned_checks, 
 ghost use Rattle.gltf_inspect_meshes.specs.Formats.{formats_checks, aligned_index_checks};
 ghost use Rattle.gltf_inspect_meshes.specs.Formats.{is_small, is_signed_fraction, is_quantized};
 ghost use Rattle.gltf_inspect_meshes.specs.Formats.{is_format, declares_quantization};
+ghost use Rattle.gltf_inspect_meshes.specs.Formats.{is_wide, fits_application};
 
 use crate::item::{component_size, item_size, or_zero};
 use crate::names::is_among;
@@ -69,6 +70,8 @@ fn tell_format(
         accessor.normalized,
     );
     findings.tell(is_format, Code::AttributeInvalidFormat, location)?;
+    let fits = fits_application(semantic, accessor.component_type);
+    findings.tell(fits, Code::AttributeUnsignedInt, location)?;
     let Some(index) = accessor.buffer_view else {
         return Ok(());
     };
@@ -123,6 +126,23 @@ fn fits_quantized(
         Semantic::TexCoords(_) => width == 2 && is_small(component),
         _ => false,
     }
+}
+
+/// Whether an attribute is none of an application, or has components of another type than unsigned
+/// integers of four bytes.
+fn fits_application(semantic: &Semantic, component: Checked<ComponentType>) -> bool
+    ensures { result ≡ fits_application semantic.now component }
+{
+    match semantic {
+        Semantic::Extras(_) => !is_wide(component),
+        _ => true,
+    }
+}
+
+fn is_wide(component: Checked<ComponentType>) -> bool
+    ensures { result ≡ is_wide component }
+{
+    matches!(component, Checked::Valid(ComponentType::U32))
 }
 
 fn is_allowed(

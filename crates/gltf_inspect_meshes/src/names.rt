@@ -1,5 +1,5 @@
 //! Names of extensions in a list.
-ghost use Rattle.std.specs.Prelude.{◌≡◌, IfOk};
+ghost use Rattle.std.specs.Prelude.{◌≡◌, ◌||◌, ℕ, List, false, IfOk, OnOk, bytes_eq, string_bytes};
 ghost use Rattle.gltf_inspect_meshes.specs.Names.{is_among, has_name};
 
 use std::alloc::{AllocError, Global};
@@ -33,6 +33,26 @@ impl NameSet {
             set.insert(name.clone()?)?;
         }
         Ok(NameSet { names: set })
+    }
+
+    /// No names yet. Takes no memory.
+    pub fn new(alloc: Global) -> NameSet
+        ensures { (q : List ℕ) → has_name result q ≡ false }
+    {
+        NameSet {
+            names: BTreeSet::new(alloc),
+        }
+    }
+
+    /// Adds a name, and answers whether it was one of them. Fails where there is no memory.
+    pub fn add(&mut self, name: &String) -> Result<bool, AllocError>
+        ensures was { IfOk result (λ was. was ≡ has_name self.old (string_bytes name.now)) }
+        ensures now { OnOk result ((q : List ℕ) → has_name self.new q
+            ≡ (has_name self.old q || bytes_eq q (string_bytes name.now))) }
+    {
+        let was = self.has(name.as_str());
+        self.names.insert(name.clone()?)?;
+        Ok(was)
     }
 
     /// Whether a name is one of them.

@@ -3,7 +3,7 @@ ghost use Rattle.std.specs.Prelude.{◌≡◌, OnOk, length};
 ghost use Rattle.gltf_validation.specs.Locations.{places_of};
 ghost use Rattle.gltf_findings.specs.Checks.{told_after, optional_checks};
 ghost use Rattle.gltf_inspect_meshes.specs.Meanings.{first_of};
-ghost use Rattle.gltf_inspect_meshes.specs.Targets.{displaced_checks, target_checks};
+ghost use Rattle.gltf_inspect_meshes.specs.Targets.{displaced_checks, displacing_checks};
 ghost use Rattle.gltf_inspect_meshes.specs.Targets.{targets_checks};
 ghost use Rattle.gltf_inspect_meshes.specs.Targets.{have_targets, target_count};
 
@@ -27,32 +27,37 @@ pub(crate) fn tell_targets(
     ensures { OnOk result (findings.new ≡ told_after findings.old (places_of location.now)
         (targets_checks accessors.now primitive.now)) }
 {
+    let positions = first_of(POSITIONS, &primitive.attributes);
+    let normals = first_of(NORMALS, &primitive.attributes);
+    let tangents = first_of(TANGENTS, &primitive.attributes);
     for (i, target) in primitive.targets.iter().enumerate() {
         let at = Location::Item(&*location, i);
-        tell_target(accessors, primitive, target, &at, findings)?;
+        tell_target(
+            accessors, positions, normals, tangents, target, &at, findings,
+        )?;
     }
     Ok(())
 }
 
+/// The accessors are those that the target displaces.
 fn tell_target(
     accessors: &[Accessor],
-    primitive: &Primitive,
+    positions: Option<usize>,
+    normals: Option<usize>,
+    tangents: Option<usize>,
     target: &MorphTarget,
     location: &Location<'_>,
     findings: &mut Findings,
 ) -> Result<(), AllocError>
     ensures { OnOk result (findings.new ≡ told_after findings.old (places_of location.now)
-        (target_checks accessors.now primitive.now.attributes.entries target.now)) }
+        (displacing_checks accessors.now positions normals tangents target.now)) }
 {
-    let base = first_of(POSITIONS, &primitive.attributes);
     let at = Location::Member(location, "POSITION");
-    tell_displaced(accessors, base, target.positions, &at, findings)?;
-    let base = first_of(NORMALS, &primitive.attributes);
+    tell_displaced(accessors, positions, target.positions, &at, findings)?;
     let at = Location::Member(location, "NORMAL");
-    tell_displaced(accessors, base, target.normals, &at, findings)?;
-    let base = first_of(TANGENTS, &primitive.attributes);
+    tell_displaced(accessors, normals, target.normals, &at, findings)?;
     let at = Location::Member(location, "TANGENT");
-    tell_displaced(accessors, base, target.tangents, &at, findings)
+    tell_displaced(accessors, tangents, target.tangents, &at, findings)
 }
 
 fn tell_displaced(

@@ -1,7 +1,7 @@
 -- Where nodes lead to (glTF 2.0, sections 3.5.2 and 3.7.3.2): "the node hierarchy MUST be a set of
 -- disjoint strict trees. That is node hierarchy MUST NOT contain cycles", and the joints of a skin
 -- "MUST have a common root".
-use Rattle.std.specs.Prelude.{ℕ, ◌+◌, Bool, true, ◌&&◌, ◌||◌, not, nat_eq, nat_lt}
+use Rattle.std.specs.Prelude.{ℕ, ◌+◌, Bool, true, false, ◌&&◌, ◌||◌, not, nat_eq, nat_lt}
 use Rattle.std.specs.Prelude.{if◌then◌else◌, map, length, get_or, set, List, [], ◌∷◌, codes}
 use Rattle.std.specs.Prelude.{Option, Some, None}
 use Rattle.gltf_json.specs.declared.root.Root.{Root}
@@ -90,16 +90,29 @@ lead_to_first ends joints (Some end) = lead_to ends end joints
 abbrev pub lead_together : List ℕ → List ℕ → Bool
 lead_together ends joints = lead_to_first ends joints (first_end ends joints)
 
-abbrev pub skin_checks : List ℕ → Skin → Checks
-skin_checks ends s =
-    member (codes "joints") (Condition (lead_together ends (joints_of s)) SkinNoCommonRoot)
+-- one of these that is a node leads to a loop: its end is a child itself
+abbrev pub leads_to_loop : (ℕ → Bool) → List ℕ → List ℕ → Bool
+leads_to_loop is_child ends [] = false
+leads_to_loop is_child ends (joint ∷ joints) =
+    nat_lt joint (length ends) && is_child (led ends joint) || leads_to_loop is_child ends joints
 
-abbrev pub skins_checks : List ℕ → List Skin → Checks
-skins_checks ends ss = list_checks (skin_checks ends) ss
+-- nodes that lead to a loop have no root, which is found at the loop: nothing is found of joints
+-- that are such nodes
+abbrev pub have_root : (ℕ → Bool) → List ℕ → List ℕ → Bool
+have_root is_child ends joints =
+    lead_together ends joints || leads_to_loop is_child ends joints
+
+abbrev pub skin_checks : (ℕ → Bool) → List ℕ → Skin → Checks
+skin_checks is_child ends s =
+    member (codes "joints") (Condition (have_root is_child ends (joints_of s)) SkinNoCommonRoot)
+
+abbrev pub skins_checks : (ℕ → Bool) → List ℕ → List Skin → Checks
+skins_checks is_child ends ss = list_checks (skin_checks is_child ends) ss
 
 abbrev pub roots_checks : Root → Checks
 roots_checks r =
     member (codes "nodes")
     (loop_checks (is_end_in r.nodes.items (ends_of r.nodes.items)) (is_child_of r.nodes.items) 0
     r.nodes.items)
-    & member (codes "skins") (skins_checks (ends_of r.nodes.items) r.skins.items)
+    & member (codes "skins")
+    (skins_checks (is_child_of r.nodes.items) (ends_of r.nodes.items) r.skins.items)

@@ -8,6 +8,7 @@ ghost use Rattle.gltf_inspect_nodes.specs.Roots.{parents_of};
 ghost use Rattle.gltf_inspect_nodes.specs.Roots.{led, are_fixed, twice, times_16, times_65536};
 ghost use Rattle.gltf_inspect_nodes.specs.Roots.{ends_of, loop_checks, lead_to, first_end};
 ghost use Rattle.gltf_inspect_nodes.specs.Roots.{lead_together, skins_checks, roots_checks};
+ghost use Rattle.gltf_inspect_nodes.specs.Roots.{have_root, leads_to_loop};
 ghost use Rattle.gltf_inspect_nodes.specs.Roots.{is_end_in, is_child_of};
 ghost use Rattle.gltf_inspect_nodes.specs.Orders.{ends_by};
 ghost use Rattle.gltf_inspect_nodes.specs.Hierarchies.{IsHierarchyOf};
@@ -25,9 +26,10 @@ use gltf_json_scene::skin::Skin;
 use gltf_validation::location::Location;
 use std::alloc::{AllocError, Global};
 
-/// Reports each node that stands on a loop, and each skin whose joints have no common root. Takes
-/// time n for so many nodes where each parent stands before its children, or each behind them, and
-/// n log n elsewhere; 25 bytes a node, and memory for a finding; fails where there is none.
+/// Reports each node that stands on a loop, and each skin whose joints have no common root, but for
+/// those with joints that lead to a loop, of which nothing is said. Takes time n for so many nodes
+/// where each parent stands before its children, or each behind them, and n log n elsewhere; 25
+/// bytes a node, and memory for a finding; fails where there is none.
 pub fn inspect_roots(
     alloc: Global,
     root: &Root,
@@ -59,7 +61,30 @@ pub fn inspect_roots_in(
     let at = Location::Member(location, "nodes");
     tell_loops(alloc, &ends, hierarchy, nodes, &at, findings)?;
     let at = Location::Member(location, "skins");
-    tell_skins(&ends, root.skins.as_slice(), &at, findings)
+    tell_joints(
+        &ends,
+        hierarchy,
+        nodes,
+        root.skins.as_slice(),
+        &at,
+        findings,
+    )
+}
+
+/// Reports each skin whose joints lead to several roots.
+fn tell_joints(
+    ends: &[usize],
+    hierarchy: &Hierarchy,
+    nodes: &[Node],
+    skins: &[Skin],
+    location: &Location<'_>,
+    findings: &mut Findings,
+) -> Result<(), AllocError>
+    requires { IsHierarchyOf nodes.now hierarchy.now }
+    ensures { OnOk result (findings.new ≡ told_after findings.old (places_of location.now)
+        (skins_checks (is_child_of nodes.now) ends.now skins.now)) }
+{
+    tell_skins(ends, &hierarchy.are_children, skins, location, findings)
 }
 
 fn tell_loops(
@@ -119,22 +144,41 @@ fn tell_marked(
     Ok(())
 }
 
-/// Reports each skin whose joints lead to several roots.
+/// The same by the marks of the nodes that are children.
 fn tell_skins(
     ends: &[usize],
+    are_children: &[bool],
     skins: &[Skin],
     location: &Location<'_>,
     findings: &mut Findings,
 ) -> Result<(), AllocError>
     ensures { OnOk result (findings.new ≡ told_after findings.old (places_of location.now)
-        (skins_checks ends.now skins.now)) }
+        (skins_checks (is_marked are_children.now) ends.now skins.now)) }
 {
     for (i, skin) in skins.iter().enumerate() {
         let at = Location::Item(&*location, i);
-        let have_root = lead_together(ends, skin.joints.as_slice());
+        let have_root = have_root(are_children, ends, skin.joints.as_slice());
         findings.tell_member(have_root, Code::SkinNoCommonRoot, "joints", &at)?;
     }
     Ok(())
+}
+
+/// Whether joints lead to one end, or one of them to a loop, which has no root.
+fn have_root(are_children: &[bool], ends: &[usize], joints: &[Index<kinds::Node>]) -> bool
+    ensures { result ≡ have_root (is_marked are_children.now) ends.now joints.now }
+{
+    lead_together(ends, joints) || leads_to_loop(are_children, ends, joints)
+}
+
+fn leads_to_loop(are_children: &[bool], ends: &[usize], joints: &[Index<kinds::Node>]) -> bool
+    ensures { result ≡ leads_to_loop (is_marked are_children.now) ends.now joints.now }
+{
+    for joint in joints {
+        if joint.value() < ends.len() && is_marked(are_children, led(ends, joint.value())) {
+            return true;
+        }
+    }
+    false
 }
 
 fn lead_together(ends: &[usize], joints: &[Index<kinds::Node>]) -> bool

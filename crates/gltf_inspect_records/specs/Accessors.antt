@@ -1,6 +1,6 @@
 -- Accessors and their sparse parts (glTF 2.0, section 3.6.2).
 use Rattle.std.specs.Prelude.{ℕ, ◌+◌, ◌%◌, ◌==◌, ◌||◌, not, nat_le, nat_lt, Bool, true, false}
-use Rattle.std.specs.Prelude.{slice_get, codes}
+use Rattle.std.specs.Prelude.{slice_get, codes, is_none, is_some}
 use Rattle.gltf_json.specs.declared.root.Root.{Root}
 use Rattle.gltf_json_record.specs.declared.validation.Checked.{Checked}
 use Rattle.gltf_json_record.specs.declared.validation.Checked.TheVariants.{Valid}
@@ -14,6 +14,7 @@ use Rattle.gltf_findings.specs.declared.code.Code.TheVariants.{OffsetAlignment}
 use Rattle.gltf_findings.specs.declared.code.Code.TheVariants.{TotalOffsetAlignment}
 use Rattle.gltf_findings.specs.declared.code.Code.TheVariants.{AccessorTooLong, SmallByteStride}
 use Rattle.gltf_findings.specs.declared.code.Code.TheVariants.{SparseCountOutOfRange}
+use Rattle.gltf_findings.specs.declared.code.Code.TheVariants.{UnsatisfiedDependency}
 use Rattle.gltf_findings.specs.Checks.{Checks, Condition, ◌&◌, member, optional_checks}
 use Rattle.gltf_inspect_meshes.specs.Facts.{or_zero}
 use Rattle.gltf_inspect_meshes.specs.Items.{component_size, last_size, fit, size_of, packed}
@@ -63,13 +64,19 @@ sparse_checks r a s =
 abbrev pub base_checks : Root → Accessor → ℕ → Checks
 base_checks r a i = optional_checks (in_view_checks a) (slice_get r.buffer_views.items i)
 
--- count is at least 1 (5.1.5)
-abbrev pub accessor_checks : Root → Accessor → Checks
-accessor_checks r a =
+-- count is at least 1 (5.1.5), and byteOffset "MUST NOT be defined when bufferView is undefined"
+-- (5.1.2)
+abbrev pub member_checks : Accessor → Checks
+member_checks a =
     member (codes "count") (Condition (nat_le 1 a.count) ValueNotInRange)
     & member (codes "normalized")
     (Condition (not a.normalized || may_be_normalized a.component_type) NormalizedInvalid)
     & member (codes "byteOffset")
-    (Condition (or_zero a.byte_offset % size_of a == 0) OffsetAlignment)
+    (Condition (or_zero a.byte_offset % size_of a == 0) OffsetAlignment
+    & Condition (is_none a.byte_offset || is_some a.buffer_view) UnsatisfiedDependency)
+
+abbrev pub accessor_checks : Root → Accessor → Checks
+accessor_checks r a =
+    member_checks a
     & optional_checks (base_checks r a) a.buffer_view
     & member (codes "sparse") (optional_checks (sparse_checks r a) a.sparse)

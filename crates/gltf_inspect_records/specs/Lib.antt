@@ -3,6 +3,7 @@ pub mod Accessors
 pub mod Cameras
 pub mod Materials
 pub mod Attributes
+pub mod Variants
 pub mod Meshes
 pub mod Scenes
 pub mod Animations

@@ -18,6 +18,7 @@ use Rattle.gltf_findings.specs.declared.code.Code.TheVariants.{IndicesWithByteSt
 use Rattle.gltf_findings.specs.Checks.{Checks, Condition, ◌&◌, member, optional_checks, list_checks}
 use Rattle.gltf_inspect_meshes.specs.Facts.{has_elements}
 use Rattle.gltf_inspect_records.specs.Attributes.{attributes_checks}
+use Rattle.gltf_inspect_records.specs.Variants.{extensions_checks}
 use Rattle.gltf_inspect_meshes.specs.Meanings.{first_of}
 
 abbrev pub is_unsigned : Checked ComponentType → Bool
@@ -62,6 +63,7 @@ abbrev pub primitive_checks : Root → Primitive → Checks
 primitive_checks r p =
     member (codes "attributes") (all_attributes_checks r p)
     & member (codes "indices") (optional_checks (indices_index_checks r) p.indices)
+    & member (codes "extensions") (optional_checks (extensions_checks r) p.extensions)
 
 -- a mesh has one primitive at least (5.23.1)
 abbrev pub mesh_checks : Root → Mesh → Checks

@@ -8,6 +8,7 @@ use Rattle.gltf_json_scene.specs.declared.image.Image.{Image}
 use Rattle.gltf_findings.specs.declared.code.Code.TheVariants.{ValueNotInRange, ValueMultipleOf}
 use Rattle.gltf_findings.specs.declared.code.Code.TheVariants.{ViewTooBigByteStride, ViewTooLong}
 use Rattle.gltf_findings.specs.declared.code.Code.TheVariants.{ImageViewWithByteStride}
+use Rattle.gltf_findings.specs.declared.code.Code.TheVariants.{OneOfMismatch}
 use Rattle.gltf_findings.specs.Checks.{Checks, Condition, ◌&◌, member, optional_checks}
 use Rattle.gltf_inspect_meshes.specs.Facts.{or_zero}
 
@@ -43,6 +44,8 @@ image_view_checks v = Condition (is_none v.byte_stride) ImageViewWithByteStride
 abbrev pub image_index_checks : Root → ℕ → Checks
 image_index_checks r i = optional_checks image_view_checks (slice_get r.buffer_views.items i)
 
+-- uri "MUST NOT be defined when bufferView is defined" (5.18.1)
 abbrev pub image_checks : Root → Image → Checks
 image_checks r i =
-    member (codes "bufferView") (optional_checks (image_index_checks r) i.buffer_view)
+    Condition (is_none i.uri || is_none i.buffer_view) OneOfMismatch
+    & member (codes "bufferView") (optional_checks (image_index_checks r) i.buffer_view)

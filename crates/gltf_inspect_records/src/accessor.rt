@@ -4,7 +4,7 @@ ghost use Rattle.gltf_validation.specs.Locations.{places_of};
 ghost use Rattle.gltf_findings.specs.Checks.{told_after, optional_checks};
 ghost use Rattle.gltf_inspect_records.specs.Accessors.{may_be_normalized, in_view_checks};
 ghost use Rattle.gltf_inspect_records.specs.Accessors.{part_checks, sparse_checks, accessor_checks};
-ghost use Rattle.gltf_inspect_records.specs.Accessors.{base_checks};
+ghost use Rattle.gltf_inspect_records.specs.Accessors.{base_checks, member_checks};
 
 use crate::list::Inspect;
 use gltf_findings::code::Code;
@@ -28,20 +28,53 @@ impl Inspect for Accessor {
         location: &Location<'_>,
         findings: &mut Findings,
     ) -> Result<(), AllocError> {
-        findings.tell_member(1 <= self.count, Code::ValueNotInRange, "count", location)?;
-        let is_allowed = !self.normalized || may_be_normalized(self.component_type);
-        findings.tell_member(is_allowed, Code::NormalizedInvalid, "normalized", location)?;
-        let is_aligned = or_zero(self.byte_offset) % component_size(self.component_type) == 0;
-        findings.tell_member(is_aligned, Code::OffsetAlignment, "byteOffset", location)?;
+        tell_members(self, location, findings)?;
         tell_base(self, root, location, findings)?;
-        match lent(&self.sparse) {
-            None => Ok(()),
-            Some(sparse) => {
-                let at = Location::Member(location, "sparse");
-                tell_sparse(self, sparse, root, &at, findings)
-            }
-        }
+        let at = Location::Member(location, "sparse");
+        tell_sparse_of(self, root, &at, findings)
     }
+}
+
+fn tell_sparse_of(
+    accessor: &Accessor,
+    root: &Root,
+    location: &Location<'_>,
+    findings: &mut Findings,
+) -> Result<(), AllocError>
+    ensures { OnOk result (findings.new ≡ told_after findings.old (places_of location.now)
+        (optional_checks (sparse_checks root.now accessor.now) accessor.now.sparse)) }
+{
+    match lent(&accessor.sparse) {
+        None => Ok(()),
+        Some(sparse) => tell_sparse(accessor, sparse, root, location, findings),
+    }
+}
+
+fn tell_members(
+    accessor: &Accessor,
+    location: &Location<'_>,
+    findings: &mut Findings,
+) -> Result<(), AllocError>
+    ensures { OnOk result (findings.new ≡ told_after findings.old (places_of location.now)
+        (member_checks accessor.now)) }
+{
+    findings.tell_member(
+        1 <= accessor.count,
+        Code::ValueNotInRange,
+        "count",
+        location,
+    )?;
+    let is_allowed = !accessor.normalized || may_be_normalized(accessor.component_type);
+    findings.tell_member(is_allowed, Code::NormalizedInvalid, "normalized", location)?;
+    let is_aligned = or_zero(accessor.byte_offset) % component_size(accessor.component_type) == 0;
+    findings.tell_member(is_aligned, Code::OffsetAlignment, "byteOffset", location)?;
+    let has_view = accessor.byte_offset.is_none() || accessor.buffer_view.is_some();
+    findings.tell_member(
+        has_view,
+        Code::UnsatisfiedDependency,
+        "byteOffset",
+        location,
+    )
 }
 
 fn may_be_normalized(component: Checked<ComponentType>) -> bool

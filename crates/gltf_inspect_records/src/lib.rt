@@ -8,6 +8,8 @@ mod camera;
 mod list;
 mod material;
 mod mesh;
+mod number;
 pub mod records;
 mod scene;
+mod variants;
 mod view;

@@ -5,12 +5,15 @@ ghost use Rattle.gltf_findings.specs.Checks.{told_after, optional_checks};
 ghost use Rattle.gltf_inspect_records.specs.Meshes.{is_unsigned, is_scalar, indices_checks};
 ghost use Rattle.gltf_inspect_records.specs.Meshes.{primitive_checks, mesh_checks, has_attributes};
 ghost use Rattle.gltf_inspect_records.specs.Meshes.{all_attributes_checks, indices_index_checks};
+ghost use Rattle.gltf_inspect_records.specs.Variants.{extensions_checks};
 
 use crate::attributes::tell_attributes;
 use crate::list::{Inspect, inspect_each};
+use crate::variants::tell_extensions;
 use gltf_findings::code::Code;
 use gltf_findings::findings::Findings;
 use gltf_inspect_meshes::meaning::{POSITIONS, first_of};
+use gltf_json::boxed::lent;
 use gltf_json::root::Root;
 use gltf_json_geometry::accessor::{Accessor, ComponentType, Type};
 use gltf_json_geometry::mesh::{Mesh, Primitive};
@@ -45,8 +48,22 @@ impl Inspect for Primitive {
         let at = Location::Member(location, "attributes");
         tell_attributes_of(self, root, &at, findings)?;
         let at = Location::Member(location, "indices");
-        tell_indices_of(self, root, &at, findings)
+        tell_indices_of(self, root, &at, findings)?;
+        let at = Location::Member(location, "extensions");
+        tell_extensions_of(self, root, &at, findings)
     }
+}
+
+fn tell_extensions_of(
+    primitive: &Primitive,
+    root: &Root,
+    location: &Location<'_>,
+    findings: &mut Findings,
+) -> Result<(), AllocError>
+    ensures { OnOk result (findings.new ≡ told_after findings.old (places_of location.now)
+        (optional_checks (extensions_checks root.now) primitive.now.extensions)) }
+{
+    tell_extensions(lent(&primitive.extensions), root, location, findings)
 }
 
 fn has_attributes(primitive: &Primitive) -> bool

@@ -29,7 +29,12 @@ impl Inspect for Node {
             || self.rotation.is_some()
             || self.scale.is_some();
         let is_allowed = self.matrix.is_none() || !has_parts;
-        findings.tell_member(is_allowed, Code::NodeMatrixTrs, "matrix", location)
+        findings.tell_member(is_allowed, Code::NodeMatrixTrs, "matrix", location)?;
+        let has_mesh = self.mesh.is_some();
+        let is_fine = self.skin.is_none() || has_mesh;
+        findings.tell_member(is_fine, Code::UnsatisfiedDependency, "skin", location)?;
+        let is_fine = self.weights.is_none() || has_mesh;
+        findings.tell_member(is_fine, Code::UnsatisfiedDependency, "weights", location)
     }
 }
 

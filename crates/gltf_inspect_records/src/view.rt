@@ -117,6 +117,8 @@ impl Inspect for Image {
         location: &Location<'_>,
         findings: &mut Findings,
     ) -> Result<(), AllocError> {
+        let is_one = self.uri.is_none() || self.buffer_view.is_none();
+        findings.tell(is_one, Code::OneOfMismatch, location)?;
         let Some(index) = self.buffer_view else {
             return Ok(());
         };

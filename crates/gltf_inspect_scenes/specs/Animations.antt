@@ -1,5 +1,5 @@
 -- Animations and what they animate (glTF 2.0, section 3.11).
-use Rattle.std.specs.Prelude.{◌*◌, ◌==◌, ◌||◌, not, nat_lt, slice_get, List, [], ◌∷◌, Some, codes}
+use Rattle.std.specs.Prelude.{ℕ, ◌*◌, ◌==◌, ◌||◌, not, slice_get, List, [], ◌∷◌, codes}
 use Rattle.gltf_json.specs.declared.root.Root.{Root}
 use Rattle.gltf_json_record.specs.Place.{numbered}
 use Rattle.gltf_json_animation.specs.declared.animation.Animation.{Animation}
@@ -13,13 +13,12 @@ use Rattle.gltf_findings.specs.declared.code.Code.TheVariants.{OutputInvalidCoun
 use Rattle.gltf_findings.specs.Checks.{Checks, Nothing, Condition, At, ◌&◌, member, optional_checks}
 use Rattle.gltf_findings.specs.Checks.{list_checks}
 use Rattle.gltf_inspect_scenes.specs.Outputs.{fits_path, is_weights, node_morphs, values_at_time}
-use Rattle.gltf_inspect_scenes.specs.Outputs.{items_of_value}
+use Rattle.gltf_inspect_scenes.specs.Outputs.{items_of_value, are_some}
 
 -- weights are animated only where the node has a mesh with morph targets
 abbrev pub target_checks : Root → Channel → Node → Checks
 target_checks r c n =
-    Condition (not (is_weights c.target.path) || nat_lt 0 (node_morphs r (Some n)))
-    ChannelTargetNoMorphs
+    Condition (not (is_weights c.target.path) || are_some (node_morphs r n)) ChannelTargetNoMorphs
 
 abbrev pub channel_checks : Root → Channel → Checks
 channel_checks r c =
@@ -27,10 +26,15 @@ channel_checks r c =
     (optional_checks (target_checks r c) (slice_get r.nodes.items c.target.node)))
 
 -- as many items as the times call for
+abbrev pub product_checks : Sampler → Accessor → Accessor → ℕ → Checks
+product_checks s output input items =
+    Condition (output.count == input.count * values_at_time s.interpolation * items)
+    OutputInvalidCount
+
 abbrev pub count_checks : Root → Channel → Sampler → Accessor → Accessor → Checks
 count_checks r c s output input =
-    Condition (output.count == input.count * values_at_time s.interpolation
-    * items_of_value r c.target.path (slice_get r.nodes.items c.target.node)) OutputInvalidCount
+    optional_checks (product_checks s output input)
+    (items_of_value r c.target.path (slice_get r.nodes.items c.target.node))
 
 abbrev pub output_checks : Root → Channel → Sampler → Accessor → Checks
 output_checks r c s output =

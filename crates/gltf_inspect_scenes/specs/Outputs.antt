@@ -1,6 +1,7 @@
 -- The values of samplers (glTF 2.0, section 3.11): their formats, and how many there are.
 use Rattle.std.specs.Prelude.{ℕ, ◌==◌, ◌&&◌, if◌then◌else◌, Bool, true, false, not, slice_get}
-use Rattle.std.specs.Prelude.{Option, Some, None}
+use Rattle.std.specs.Prelude.{Option, Some, None, option_map, nat_lt}
+use Rattle.std.specs.Option.{option_and_then}
 use Rattle.gltf_json.specs.declared.root.Root.{Root}
 use Rattle.gltf_json_record.specs.declared.validation.Checked.{Checked}
 use Rattle.gltf_json_record.specs.declared.validation.Checked.TheVariants.{Valid, Invalid}
@@ -43,23 +44,29 @@ abbrev pub is_spline : Checked Interpolation → Bool
 is_spline (Valid CubicSpline) = true
 is_spline _ = false
 
-abbrev pub mesh_morphs : Option Mesh → ℕ
-mesh_morphs None = 0
-mesh_morphs (Some m) = target_count m.primitives.items
+abbrev pub mesh_morphs : Mesh → ℕ
+mesh_morphs m = target_count m.primitives.items
 
-abbrev pub index_morphs : Root → Option ℕ → ℕ
-index_morphs r None = 0
-index_morphs r (Some i) = mesh_morphs (slice_get r.meshes.items i)
+abbrev pub index_morphs : Root → Option ℕ → Option ℕ
+index_morphs r None = Some 0
+index_morphs r (Some i) = option_map (λ m. mesh_morphs m) (slice_get r.meshes.items i)
 
--- how many morph targets the mesh of a node has
-abbrev pub node_morphs : Root → Option Node → ℕ
-node_morphs r None = 0
-node_morphs r (Some n) = index_morphs r n.mesh
+-- how many morph targets the mesh of a node has: none is known where the node names a mesh that is
+-- not there
+abbrev pub node_morphs : Root → Node → Option ℕ
+node_morphs r n = index_morphs r n.mesh
+
+-- there are some, or none is known
+abbrev pub are_some : Option ℕ → Bool
+are_some None = true
+are_some (Some count) = nat_lt 0 count
 
 -- the values at a time: an in-tangent, a value and an out-tangent for a spline
 abbrev pub values_at_time : Checked Interpolation → ℕ
 values_at_time interpolation = if is_spline interpolation then 3 else 1
 
--- the items of a value: a weight for each morph target
-abbrev pub items_of_value : Root → Checked Property → Option Node → ℕ
-items_of_value r path node = if is_weights path then node_morphs r node else 1
+-- the items of a value: a weight for each morph target; none is known where the node or its mesh is
+-- not there
+abbrev pub items_of_value : Root → Checked Property → Option Node → Option ℕ
+items_of_value r path node =
+    if is_weights path then option_and_then (node_morphs r) node else Some 1

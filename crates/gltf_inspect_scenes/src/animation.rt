@@ -10,7 +10,7 @@ ghost use Rattle.gltf_inspect_scenes.specs.Outputs.{items_of_value};
 
 use crate::list::{Inspect, inspect_each};
 pub use crate::output::{is_spline, is_weights};
-use crate::output::{fits_path, is_product, node_morphs, values_at_time};
+use crate::output::{are_some, fits_path, is_product, node_morphs, values_at_time};
 use gltf_findings::code::Code;
 use gltf_findings::findings::Findings;
 use gltf_json::root::Root;
@@ -53,7 +53,7 @@ impl Inspect for Channel {
         let Some(node) = root.nodes.as_slice().get(self.target.node.value()) else {
             return Ok(());
         };
-        let is_allowed = !is_weights(self.target.path) || 0 < node_morphs(root, node);
+        let is_allowed = !is_weights(self.target.path) || are_some(node_morphs(root, node));
         let target = Location::Member(location, "target");
         findings.tell_member(is_allowed, Code::ChannelTargetNoMorphs, "path", &target)
     }
@@ -129,24 +129,40 @@ fn tell_output(
     findings.tell(fits, Code::OutputInvalidFormat, location)?;
     match root.accessors.as_slice().get(sampler.input.value()) {
         None => Ok(()),
-        Some(input) => {
-            let values = values_at_time(sampler.interpolation);
-            let items = items_of_value(root, &channel.target) as u64;
-            let fits = is_product(output.count, input.count, values, items);
-            findings.tell(fits, Code::OutputInvalidCount, location)
-        }
+        Some(input) => tell_count(root, channel, sampler, output, input, location, findings),
     }
 }
 
-fn items_of_value(root: &Root, target: &Target) -> usize
+fn tell_count(
+    root: &Root,
+    channel: &Channel,
+    sampler: &Sampler,
+    output: &Accessor,
+    input: &Accessor,
+    location: &Location<'_>,
+    findings: &mut Findings,
+) -> Result<(), AllocError>
+    ensures { OnOk result (findings.new ≡ told_after findings.old (places_of location.now)
+        (count_checks root.now channel.now sampler.now output.now input.now)) }
+{
+    let Some(items) = items_of_value(root, &channel.target) else {
+        return Ok(());
+    };
+    let values = values_at_time(sampler.interpolation);
+    let fits = is_product(output.count, input.count, values, items as u64);
+    findings.tell(fits, Code::OutputInvalidCount, location)
+}
+
+/// The items of a value; `None` where weights are animated, and the node or its mesh is not there.
+fn items_of_value(root: &Root, target: &Target) -> Option<usize>
     ensures { result ≡ items_of_value root.now target.now.path
         (slice_get root.now.nodes.items target.now.node) }
 {
     if !is_weights(target.path) {
-        return 1;
+        return Some(1);
     }
     match root.nodes.as_slice().get(target.node.value()) {
-        None => 0,
+        None => None,
         Some(node) => node_morphs(root, node),
     }
 }

@@ -1,8 +1,8 @@
 //! The values of samplers (glTF 2.0, section 3.11): their formats, and how many there are.
-ghost use Rattle.std.specs.Prelude.{◌≡◌, ◌*◌, ◌==◌, ◌≤◌, Some};
+ghost use Rattle.std.specs.Prelude.{◌≡◌, ◌*◌, ◌==◌, ◌≤◌};
 ghost use Rattle.std.specs.Option.{option_copied};
 ghost use Rattle.gltf_inspect_scenes.specs.Outputs.{is_number, fits_path, node_morphs};
-ghost use Rattle.gltf_inspect_scenes.specs.Outputs.{values_at_time, is_spline, is_weights};
+ghost use Rattle.gltf_inspect_scenes.specs.Outputs.{values_at_time, is_spline, is_weights, are_some};
 
 use gltf_inspect_meshes::format::{is_float, width};
 use gltf_inspect_meshes::target::target_count;
@@ -55,16 +55,27 @@ pub fn is_spline(interpolation: Checked<Interpolation>) -> bool
     matches!(interpolation, Checked::Valid(Interpolation::CubicSpline))
 }
 
-/// How many morph targets the mesh of a node has.
-pub(crate) fn node_morphs(root: &Root, node: &Node) -> usize
-    ensures { result ≡ node_morphs root.now (Some node.now) }
+/// How many morph targets the mesh of a node has; `None` where the node names a mesh that is not
+/// there.
+pub(crate) fn node_morphs(root: &Root, node: &Node) -> Option<usize>
+    ensures { result ≡ node_morphs root.now node.now }
 {
     match node.mesh {
-        None => 0,
+        None => Some(0),
         Some(index) => match root.meshes.as_slice().get(index.value()) {
-            None => 0,
-            Some(mesh) => target_count(mesh.primitives.as_slice()),
+            None => None,
+            Some(mesh) => Some(target_count(mesh.primitives.as_slice())),
         },
+    }
+}
+
+/// Whether there are some, or it is not known how many there are.
+pub(crate) fn are_some(morphs: Option<usize>) -> bool
+    ensures { result ≡ are_some morphs }
+{
+    match morphs {
+        None => true,
+        Some(count) => 0 < count,
     }
 }
 

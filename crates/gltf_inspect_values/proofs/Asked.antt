@@ -16,6 +16,7 @@ use Rattle.gltf_findings.specs.declared.code.Code.{Code}
 use Rattle.gltf_findings.specs.Checks.{Checks, Nothing, ◌&◌, told_after, member}
 use Rattle.gltf_inspect_values.specs.Accessors.{infinite_checks, are_floats, are_asked_for}
 use Rattle.gltf_inspect_values.specs.Accessors.{items_checks}
+use Rattle.gltf_inspect_values.specs.Bounds.{column_count}
 use Rattle.gltf_inspect_values.specs.Bounds.{bound_checks, bounds_checks, are_looked_at}
 use Rattle.gltf_inspect_values.specs.Components.{has_infinite}
 use Rattle.gltf_inspect_values.specs.declared.bounds.Bound.TheVariants.{Least, Greatest}
@@ -39,16 +40,16 @@ no_floats (Valid U32) infinite h = refl
 no_floats (Valid F32) infinite h = absurd (true≢false h)
 
 module _ (found : List (List Place × Code)) (path : List Place) where
-  no_bounds : (t : Checked ComponentType) (items : List (List ℕ)) (looked : Bool)
+  no_bounds : (t : Checked ComponentType) (count : ℕ) (items : List (List ℕ)) (looked : Bool)
       (least greatest : Option Value) → (is_some least || is_some greatest) ≡ false
       → told_after found path (if looked
-      then member (codes "min") (bound_checks Least t items least)
-      & member (codes "max") (bound_checks Greatest t items greatest) else Nothing)
+      then member (codes "min") (bound_checks Least t count items least)
+      & member (codes "max") (bound_checks Greatest t count items greatest) else Nothing)
       ≡ found
-  no_bounds t items true None None h = refl
-  no_bounds t items false None None h = refl
-  no_bounds t items looked None (Some v) h = absurd (true≢false h)
-  no_bounds t items looked (Some v) greatest h = absurd (true≢false h)
+  no_bounds t count items true None None h = refl
+  no_bounds t count items false None None h = refl
+  no_bounds t count items looked None (Some v) h = absurd (true≢false h)
+  no_bounds t count items looked (Some v) greatest h = absurd (true≢false h)
 
   pub unasked : (a : Accessor) (items : List (List ℕ)) → are_asked_for a ≡ false
       → found ≡ told_after found path (items_checks a items)
@@ -58,4 +59,5 @@ module _ (found : List (List Place × Code)) (path : List Place) where
       let bounds = not_second (are_floats a.component_type) stated h in
       sym (ap (λ checks. told_after found path (checks & bounds_checks a items))
       (no_floats a.component_type (list_any has_infinite items) floats)
-      ∙ no_bounds a.component_type items (are_looked_at a items) a.min a.max bounds)
+      ∙ no_bounds a.component_type (column_count a.type_) items (are_looked_at a items) a.min a.max
+      bounds)

@@ -16,13 +16,14 @@ use Rattle.gltf_json_record.specs.declared.validation.Checked.TheVariants.{Inval
 use Rattle.gltf_json_geometry.specs.declared.accessor.Accessor.{Accessor}
 use Rattle.gltf_json_geometry.specs.declared.accessor.ComponentType.{ComponentType}
 use Rattle.gltf_json_geometry.specs.declared.accessor.ComponentType.TheVariants as code
+use Rattle.gltf_json_geometry.specs.declared.accessor.«Type» as shape
 use Rattle.gltf_findings.specs.declared.code.Code.TheVariants.{MinMismatch, MaxMismatch}
 use Rattle.gltf_findings.specs.declared.code.Code.TheVariants.{ElementOutOfMinBound}
 use Rattle.gltf_findings.specs.declared.code.Code.TheVariants.{ElementOutOfMaxBound}
 use Rattle.gltf_findings.specs.Checks.{Checks, Condition, At, ◌&◌, optional_checks}
 use Rattle.gltf_inspect_values.specs.Accessors.{infinite_checks, floats_checks}
 use Rattle.gltf_inspect_values.specs.Bounds.{stated, elements, values_in, each_checks}
-use Rattle.gltf_inspect_values.specs.Bounds.{number_checks}
+use Rattle.gltf_inspect_values.specs.Bounds.{number_checks, column_count}
 use Rattle.gltf_inspect_values.specs.Bounds.{is_least, is_greatest, column_checks}
 use Rattle.gltf_inspect_values.specs.Bounds.{bound_checks, bounds_checks}
 use Rattle.gltf_inspect_values.specs.Components.{component}
@@ -103,22 +104,37 @@ of_each f g i (d ∷ ds) h same =
     ap (λ checks. At (numbered i) checks & each_checks f (i + 1) ds) (same i d (omega (arith, h)))
     ∙ ap (λ rest. At (numbered i) (g i d) & rest) (of_each f g (i + 1) ds (omega (arith, h)) same)
 
-few : (v : Option Value) → 0 + length (elements v) ≤ 16
-few None = omega arith
-few (Some v) = omega (arith, length-take 16 (values_in (as_array (view v))))
+few : (count : ℕ) (v : Option Value) → count ≤ 16 → 0 + length (elements count v) ≤ 16
+few count None h = omega arith
+few count (Some v) h = omega (arith, h, length-take count (values_in (as_array (view v))))
 
-of_bound : (bound : Bound) (t : Checked ComponentType) (items : List (List ℕ)) (v : Option Value)
-    → stated_checks bound t (listed (summary_of t items).columns) v ≡ bound_checks bound t items v
-of_bound bound t items v =
+few_columns : (s : Checked shape.«Type») → column_count s ≤ 16
+few_columns Invalid = omega arith
+few_columns (Valid shape.TheVariants.Scalar) = omega arith
+few_columns (Valid shape.TheVariants.Vec2) = omega arith
+few_columns (Valid shape.TheVariants.Vec3) = omega arith
+few_columns (Valid shape.TheVariants.Vec4) = omega arith
+few_columns (Valid shape.TheVariants.Mat2) = omega arith
+few_columns (Valid shape.TheVariants.Mat3) = omega arith
+few_columns (Valid shape.TheVariants.Mat4) = omega arith
+
+of_bound : (bound : Bound) (t : Checked ComponentType) (s : Checked shape.«Type»)
+    (items : List (List ℕ)) (v : Option Value)
+    → stated_checks bound t (column_count s) (listed (summary_of t items).columns) v
+    ≡ bound_checks bound t (column_count s) items v
+of_bound bound t s items v =
     of_each (extents_checks bound t (listed (summary_of t items).columns))
-    (column_checks bound t items) 0 (elements v) (few v) (of_column bound t items)
+    (column_checks bound t items) 0 (elements (column_count s) v)
+    (few (column_count s) v (few_columns s)) (of_column bound t items)
 
 -- of an accessor
 pub of_bounds : (a : Accessor) (items : List (List ℕ))
     → found_checks a (summary_of a.component_type items) ≡ bounds_checks a items
 of_bounds a items =
-    rw (of_bound Least a.component_type items a.min, of_bound Greatest a.component_type items a.max)
-    refl
+    rw (
+      of_bound Least a.component_type a.type_ items a.min,
+      of_bound Greatest a.component_type a.type_ items a.max,
+    ) refl
 
 pub of_floats : (t : Checked ComponentType) (items : List (List ℕ))
     → infinite_checks t (summary_of t items).infinite ≡ floats_checks t items

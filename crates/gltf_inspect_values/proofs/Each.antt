@@ -28,13 +28,13 @@ of_list : (o : Option Items) (vs : List Value) → o ≡ Some (items_view vs)
 of_list o vs e = sym (ap values_in e ∙ values_of-items (map view vs))
 
 -- where there are few, these are the first
-pub of_few : (vs : List Value) → length vs ≤ 16 → vs ≡ take 16 vs
-of_few vs few = sym (take_all 16 vs few)
+pub of_few : (vs : List Value) (n : ℕ) → length vs ≤ n → vs ≡ take n vs
+of_few vs n few = sym (take_all n vs few)
 
 -- the first values of a list are those of what it was made of
-pub front_of_list : (o : Option Items) (vs : List Value) → o ≡ Some (items_view vs)
-    → map view (take 16 vs) ≡ take 16 (values_in o)
-front_of_list o vs e = sym (take-map view 16 vs) ∙ ap (take 16) (of_list o vs e)
+pub front_of_list : (o : Option Items) (vs : List Value) (n : ℕ) → o ≡ Some (items_view vs)
+    → map view (take n vs) ≡ take n (values_in o)
+front_of_list o vs n e = sym (take-map view n vs) ∙ ap (take n) (of_list o vs e)
 
 -- a walk that has passed element i too has what is left of it after that
 pub next_of_each : {T : Type 0} (f : ℕ → T → Checks) (xs : List T) (i : ℕ) (x : T)

@@ -18,6 +18,7 @@ use Rattle.gltf_inspect_items.specs.Reading.{Bytes, items_at}
 use Rattle.gltf_inspect_values.specs.Accessors.{infinite_checks, floats_checks}
 use Rattle.gltf_inspect_values.specs.Bounds.{stated, elements, each_checks, number_checks}
 use Rattle.gltf_inspect_values.specs.Bounds.{column_checks, bound_checks, bounds_checks}
+use Rattle.gltf_inspect_values.specs.Bounds.{column_count}
 use Rattle.gltf_inspect_values.specs.Components.{component, has_infinite, is_below, is_above}
 use Rattle.gltf_inspect_values.specs.Components.{is_equal}
 use Rattle.gltf_inspect_values.specs.Summaries.{IsSummaryOf, found_checks}
@@ -59,18 +60,18 @@ module _ (xs ys : List (List ℕ)) (same : HaveSameItems xs ys) where
         same.any (λ item. is_equal x (component t c item)),
       ) refl
 
-  same_bound : (bound : Bound) (t : Checked ComponentType) (v : Option Value)
-      → bound_checks bound t xs v ≡ bound_checks bound t ys v
-  same_bound bound t v =
-      each_same (column_checks bound t xs) (column_checks bound t ys) 0 (elements v)
+  same_bound : (bound : Bound) (t : Checked ComponentType) (count : ℕ) (v : Option Value)
+      → bound_checks bound t count xs v ≡ bound_checks bound t count ys v
+  same_bound bound t count v =
+      each_same (column_checks bound t xs) (column_checks bound t ys) 0 (elements count v)
       (λ c d. optional_same (λ x. number_checks bound t xs c x) (λ x. number_checks bound t ys c x)
       (stated t d) (λ x. same_number bound t c x))
 
   same_bounds : (a : Accessor) → bounds_checks a xs ≡ bounds_checks a ys
   same_bounds a =
       rw (
-        same_bound Least a.component_type a.min,
-        same_bound Greatest a.component_type a.max,
+        same_bound Least a.component_type (column_count a.type_) a.min,
+        same_bound Greatest a.component_type (column_count a.type_) a.max,
         same.any (λ item. true),
       ) refl
 

@@ -11,7 +11,7 @@ use Rattle.serde_json.specs.View.{view}
 use Rattle.serde_json.specs.declared.value.Value.{Value}
 use Rattle.gltf_json_record.specs.Place.{numbered}
 use Rattle.gltf_json_record.specs.declared.validation.Checked.{Checked}
-use Rattle.gltf_json_record.specs.declared.validation.Checked.TheVariants.{Valid}
+use Rattle.gltf_json_record.specs.declared.validation.Checked.TheVariants.{Valid, Invalid}
 use Rattle.gltf_json_geometry.specs.declared.accessor.Accessor.{Accessor}
 use Rattle.gltf_json_geometry.specs.declared.accessor.ComponentType.{ComponentType}
 use Rattle.gltf_json_geometry.specs.declared.accessor.ComponentType.TheVariants.{I8, U8, I16, U16}
@@ -40,11 +40,22 @@ abbrev pub values_in : Option Items → List Data
 values_in None = []
 values_in (Some ds) = values_of ds
 
--- the values of a list, of which each is stated for the component of that number: no item has more
--- than sixteen; none of another value
-abbrev pub elements : Option Value → List Data
-elements None = []
-elements (Some v) = take 16 (values_in (as_array (view v)))
+-- the columns of items: as many as an item has components (section 3.6.2.3, "Accessor Data Types")
+abbrev pub column_count : Checked shape.«Type» → ℕ
+column_count Invalid = 0
+column_count (Valid shape.TheVariants.Scalar) = 1
+column_count (Valid shape.TheVariants.Vec2) = 2
+column_count (Valid shape.TheVariants.Vec3) = 3
+column_count (Valid shape.TheVariants.Vec4) = 4
+column_count (Valid shape.TheVariants.Mat2) = 4
+column_count (Valid shape.TheVariants.Mat3) = 9
+column_count (Valid shape.TheVariants.Mat4) = 16
+
+-- the values of a list, of which each is stated for the column of that number, of so many columns;
+-- what stands behind them is stated for none. None of another value
+abbrev pub elements : ℕ → Option Value → List Data
+elements count None = []
+elements count (Some v) = take count (values_in (as_array (view v)))
 
 -- some number in column c of the items is below x; above it; the same
 abbrev pub any_below : Checked ComponentType → List (List ℕ) → ℕ → Float → Bool
@@ -81,8 +92,9 @@ abbrev pub each_checks : {T : Type 0} → (ℕ → T → Checks) → ℕ → Lis
 each_checks checks i [] = Nothing
 each_checks checks i (x ∷ xs) = At (numbered i) (checks i x) & each_checks checks (i + 1) xs
 
-abbrev pub bound_checks : Bound → Checked ComponentType → List (List ℕ) → Option Value → Checks
-bound_checks bound t items v = each_checks (column_checks bound t items) 0 (elements v)
+abbrev pub bound_checks : Bound → Checked ComponentType → ℕ → List (List ℕ) → Option Value → Checks
+bound_checks bound t count items v =
+    each_checks (column_checks bound t items) 0 (elements count v)
 
 -- there are items
 abbrev pub has_items : List (List ℕ) → Bool
@@ -113,6 +125,7 @@ are_looked_at a items = not (is_padded a.component_type a.type_) && has_items it
 abbrev pub bounds_checks : Accessor → List (List ℕ) → Checks
 bounds_checks a items =
     if are_looked_at a items
-    then member (codes "min") (bound_checks Least a.component_type items a.min)
-    & member (codes "max") (bound_checks Greatest a.component_type items a.max)
+    then member (codes "min") (bound_checks Least a.component_type (column_count a.type_) items a.min)
+    & member (codes "max")
+    (bound_checks Greatest a.component_type (column_count a.type_) items a.max)
     else Nothing

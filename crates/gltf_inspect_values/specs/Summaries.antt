@@ -13,6 +13,7 @@ use Rattle.gltf_json_geometry.specs.declared.accessor.ComponentType.TheVariants.
 use Rattle.gltf_findings.specs.Checks.{Checks, Nothing, ◌&◌, member}
 use Rattle.gltf_inspect_items.specs.Members.{HaveSameItems}
 use Rattle.gltf_inspect_values.specs.Bounds.{each_checks, elements, is_padded}
+use Rattle.gltf_inspect_values.specs.Bounds.{column_count}
 use Rattle.gltf_inspect_values.specs.Components.{component, has_infinite}
 use Rattle.gltf_inspect_values.specs.Extents.{extent, columns, nothing, listed, extents_checks}
 use Rattle.gltf_inspect_values.specs.Extents.{widened_columns}
@@ -67,14 +68,16 @@ abbrev pub IsSummaryOf : Checked ComponentType → List (List ℕ) → Summary �
 IsSummaryOf t items found = IsSummary (component t) (any_infinite t) items found
 
 -- the checks of what a member states of them
-abbrev pub stated_checks : Bound → Checked ComponentType → List Extent → Option Value → Checks
-stated_checks bound t extents v = each_checks (extents_checks bound t extents) 0 (elements v)
+abbrev pub stated_checks : Bound → Checked ComponentType → ℕ → List Extent → Option Value → Checks
+stated_checks bound t count extents v =
+    each_checks (extents_checks bound t extents) 0 (elements count v)
 
 -- the checks of both bounds of an accessor whose columns have these extents
 abbrev pub both_checks : Accessor → List Extent → Checks
 both_checks a extents =
-    member (codes "min") (stated_checks Least a.component_type extents a.min)
-    & member (codes "max") (stated_checks Greatest a.component_type extents a.max)
+    member (codes "min") (stated_checks Least a.component_type (column_count a.type_) extents a.min)
+    & member (codes "max")
+    (stated_checks Greatest a.component_type (column_count a.type_) extents a.max)
 
 -- its bounds are looked at, where there are items or not
 abbrev pub has_bounds : Accessor → Bool → Bool

@@ -4,7 +4,7 @@ ghost use Rattle.serde_json.specs.View.{view};
 ghost use Rattle.gltf_validation.specs.Locations.{places_of};
 ghost use Rattle.gltf_findings.specs.Checks.{told_after};
 ghost use Rattle.gltf_inspect_values.specs.Bounds.{rounded, stated, elements, each_checks};
-ghost use Rattle.gltf_inspect_values.specs.Bounds.{are_bytes, are_halves, is_padded};
+ghost use Rattle.gltf_inspect_values.specs.Bounds.{are_bytes, are_halves, is_padded, column_count};
 ghost use Rattle.gltf_inspect_values.specs.Extents.{extent_checks, value_checks, extents_checks};
 ghost use Rattle.gltf_inspect_values.specs.Summaries.{stated_checks, both_checks};
 ghost use Rattle.gltf_inspect_values.specs.Summaries.{has_bounds, found_checks};
@@ -49,29 +49,43 @@ fn stated(kind: Checked<ComponentType>, value: &Value) -> Option<f64>
     Some(rounded(kind, number))
 }
 
-/// The first sixteen values.
+/// The first of some values, as many as are asked for.
 #[tactic(auto, using(crate::proofs::Each::of_few))]
-fn front(values: &[Value]) -> &[Value]
-    ensures { result.now ≡ take 16 values.now }
+fn front(values: &[Value], count: usize) -> &[Value]
+    ensures { result.now ≡ take count values.now }
 {
-    if values.len() <= 16 {
+    if values.len() <= count {
         values
     } else {
-        &values[..16]
+        &values[..count]
     }
 }
 
-/// The values of a list, at most one for each component that an item can have; none of another
-/// value.
+/// The components of an item: so many columns have items of this type.
+fn column_count(shape: Checked<Type>) -> usize
+    ensures { result ≡ column_count shape }
+{
+    match shape {
+        Checked::Invalid => 0,
+        Checked::Valid(Type::Scalar) => 1,
+        Checked::Valid(Type::Vec2) => 2,
+        Checked::Valid(Type::Vec3) => 3,
+        Checked::Valid(Type::Vec4 | Type::Mat2) => 4,
+        Checked::Valid(Type::Mat3) => 9,
+        Checked::Valid(Type::Mat4) => 16,
+    }
+}
+
+/// The values of a list, at most one for each of so many columns; none of another value.
 #[tactic(auto, using(crate::proofs::Each::front_of_list))]
-fn elements(bound: &Option<Value>) -> &[Value]
-    ensures { map view result.now ≡ elements bound.now }
+fn elements(bound: &Option<Value>, count: usize) -> &[Value]
+    ensures { map view result.now ≡ elements count bound.now }
 {
     match bound {
         None => &[],
         Some(value) => match value.as_array() {
             None => &[],
-            Some(values) => front(values.as_slice()),
+            Some(values) => front(values.as_slice(), count),
         },
     }
 }
@@ -169,15 +183,17 @@ fn tell_columns(
 fn tell_bound(
     bound: Bound,
     kind: Checked<ComponentType>,
+    count: usize,
     extents: &[Extent],
     member: &Option<Value>,
     location: &Location<'_>,
     findings: &mut Findings,
 ) -> Result<(), AllocError>
     ensures { OnOk result (findings.new ≡ told_after findings.old (places_of location.now)
-        (stated_checks bound kind extents.now member.now)) }
+        (stated_checks bound kind count extents.now member.now)) }
 {
-    tell_columns(bound, kind, extents, elements(member), location, findings)
+    let values = elements(member, count);
+    tell_columns(bound, kind, extents, values, location, findings)
 }
 
 fn are_bytes(kind: Checked<ComponentType>) -> bool
@@ -217,10 +233,27 @@ fn tell_stated(
         (both_checks accessor.now extents.now)) }
 {
     let kind = accessor.component_type;
+    let count = column_count(accessor.type_);
     let at = Location::Member(location, "min");
-    tell_bound(Bound::Least, kind, extents, &accessor.min, &at, findings)?;
+    tell_bound(
+        Bound::Least,
+        kind,
+        count,
+        extents,
+        &accessor.min,
+        &at,
+        findings,
+    )?;
     let at = Location::Member(location, "max");
-    tell_bound(Bound::Greatest, kind, extents, &accessor.max, &at, findings)
+    tell_bound(
+        Bound::Greatest,
+        kind,
+        count,
+        extents,
+        &accessor.max,
+        &at,
+        findings,
+    )
 }
 
 fn has_bounds(accessor: &Accessor, exist: bool) -> bool

@@ -1,5 +1,6 @@
 //! Values that hold no records, and lists, read from the tokens of a text.
-ghost use Rattle.std.specs.Prelude.{◌∷◌, IfSome};
+ghost use Rattle.std.specs.Prelude.{◌∷◌, ◌≤◌, IfSome};
+ghost use Rattle.serde_json.specs.Read.{max_depth};
 ghost use Rattle.gltf_json_pull.specs.Pulls.{IsMemberPulled};
 
 use gltf_json_record::boxed::Boxed;
@@ -15,8 +16,9 @@ use std::alloc::Global;
 
 /// A type that is read from the tokens of a text.
 pub trait FromToken: FromValue {
-    ghost use Rattle.std.specs.Prelude.{◌∷◌, IfSome};
+    ghost use Rattle.std.specs.Prelude.{◌∷◌, ◌≤◌, IfSome};
     ghost use Rattle.json.specs.Reads.{token_of};
+    ghost use Rattle.serde_json.specs.Read.{max_depth};
     ghost use Rattle.gltf_json_pull.specs.Pulls.{IsPulled};
 
     /// The reading of the value that begins with the token `first` and nests at most `depth` deep.
@@ -30,6 +32,7 @@ pub trait FromToken: FromValue {
     ) -> Option<Self>
     where
         Self: Sized,
+        requires { depth ≤ max_depth }
         ensures { IfSome result
             (λ x. IsPulled Self.kind depth (token_of first.entry ∷ rest.old) x rest.new) }
     {
@@ -43,6 +46,7 @@ pub trait FromToken: FromValue {
 /// The reading of a member whose value comes next. It is absent where the value is null.
 #[inline(always)]
 pub fn member<T: FromToken>(alloc: Global, rest: &mut Reader<'_>, depth: usize) -> Option<Option<T>>
+    requires { depth ≤ max_depth }
     ensures { IfSome result (λ x. IsMemberPulled T.kind depth rest.old x rest.new) }
 {
     let first = rest.next()?;

@@ -27,9 +27,10 @@ pub trait PullRow: Row {
 
 /// Rows, one after another.
 pub trait PullRows: Rows {
-    ghost use Rattle.std.specs.Prelude.{◌≡◌, ◌≢◌, [], ℕ, List, true, false, map, IfSome};
+    ghost use Rattle.std.specs.Prelude.{◌≡◌, ◌≢◌, ◌≤◌, [], ℕ, List, true, false, map, IfSome};
     ghost use Rattle.std.specs.Bool.{MatchBool};
     ghost use Rattle.serde_json.specs.Data.{Data, Members, object, no_members, put};
+    ghost use Rattle.serde_json.specs.Read.{max_depth};
     ghost use Rattle.gltf_json_record.specs.Kind.{Kind};
     ghost use Rattle.gltf_json_record.specs.Member.{is_one_of};
     ghost use Rattle.gltf_json_pull.specs.Pulls.{Takes, are_distinct};
@@ -57,6 +58,7 @@ pub trait PullRows: Rows {
     ) -> Option<bool>
         requires distinct { are_distinct (map (λ n. n.now) names.now) ≡ true }
         requires some { name.now ≢ [] }
+        requires deep { depth ≤ max_depth }
         ensures { IfSome result (λ took. MatchBool took
             (Takes (found_kind self.now (map (λ n. n.now) names.now)) name.now depth
             found.old rest.old found.new rest.new)

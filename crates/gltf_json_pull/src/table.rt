@@ -1,7 +1,8 @@
 //! Records, read by their tables from the tokens of a text.
-ghost use Rattle.std.specs.Prelude.{◌≡◌, ◌∷◌, map, true, Some, IfSome};
+ghost use Rattle.std.specs.Prelude.{◌≡◌, ◌∷◌, ◌≤◌, map, true, Some, IfSome};
 ghost use Rattle.json.specs.Reads.{token_of};
 ghost use Rattle.serde_json.specs.Data.{Data};
+ghost use Rattle.serde_json.specs.Read.{max_depth};
 ghost use Rattle.gltf_json_record.specs.Table.{table};
 ghost use Rattle.gltf_json_tokens.specs.Tokens.{data_at};
 ghost use Rattle.gltf_json_pull.specs.Pulls.{IsPulled, Takes, are_distinct};
@@ -22,7 +23,8 @@ pub fn pull_table<R: PullRows>(
     names: &[&'static str],
     rows: R,
 ) -> Option<R::Read>
-    requires { are_distinct (map (λ n. n.now) names.now) ≡ true }
+    requires distinct { are_distinct (map (λ n. n.now) names.now) ≡ true }
+    requires deep { depth ≤ max_depth }
     ensures { IfSome result
         (λ x. IsPulled (table (R.rows_kind rows (map (λ n. n.now) names.now))) depth
         (token_of first.entry ∷ rest.old) x rest.new) }
@@ -57,7 +59,8 @@ fn take<R: PullRows>(
     rest: &mut Reader<'_>,
     depth: usize,
 ) -> Option<()>
-    requires { are_distinct (map (λ n. n.now) names.now) ≡ true }
+    requires distinct { are_distinct (map (λ n. n.now) names.now) ≡ true }
+    requires deep { depth ≤ max_depth }
     ensures { IfSome result
         (λ _. Takes (R.found_kind rows.now (map (λ n. n.now) names.now)) name.now depth
         found.old rest.old found.new rest.new) }
@@ -77,6 +80,7 @@ fn take<R: PullRows>(
 #[cold]
 #[inline(never)]
 fn pass(alloc: Global, rest: &mut Reader<'_>, depth: usize) -> Option<()>
+    requires { depth ≤ max_depth }
     ensures { IfSome result
         (λ _. (d : Data) × (data_at depth rest.old ≡ Some (d, rest.new))) }
 {

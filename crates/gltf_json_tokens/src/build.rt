@@ -1,7 +1,8 @@
 //! Values, built from the tokens of a text.
-ghost use Rattle.std.specs.Prelude.{◌∷◌, IfOk};
+ghost use Rattle.std.specs.Prelude.{◌∷◌, ◌≤◌, IfOk};
 ghost use Rattle.json.specs.Token.{begin_array, begin_object};
 ghost use Rattle.json.specs.Reads.{token_of};
+ghost use Rattle.serde_json.specs.Read.{max_depth};
 ghost use Rattle.gltf_json_tokens.specs.Tokens.{IsNext};
 
 use crate::number::number;
@@ -11,7 +12,8 @@ use std::alloc::{AllocError, Global};
 
 /// The value that begins with the token `first`, as `serde_json` reads it. None where none does:
 /// where a token does not fit the grammar, where a number is out of range, or where arrays and
-/// objects nest deeper than `depth`. The tokens after it stay in `rest`.
+/// objects nest deeper than `depth`. The tokens after it stay in `rest`. It calls itself as deep, and
+/// so takes a depth that is at most that of `serde_json`.
 #[cycle(build)]
 #[inline(always)]
 pub fn build(
@@ -20,6 +22,7 @@ pub fn build(
     rest: &mut Reader<'_>,
     depth: usize,
 ) -> Result<Option<Value>, AllocError>
+    requires { depth ≤ max_depth }
     ensures { IfOk result
         (λ value. IsNext depth (token_of first.entry ∷ rest.old) value rest.new) }
 {
@@ -41,6 +44,7 @@ pub fn build(
 #[cycle(build)]
 #[inline(never)]
 fn array(alloc: Global, rest: &mut Reader<'_>, depth: usize) -> Result<Option<Value>, AllocError>
+    requires { depth ≤ max_depth }
     ensures { IfOk result (λ value. IsNext depth (begin_array ∷ rest.old) value rest.new) }
 {
     if depth == 0 {
@@ -63,6 +67,7 @@ fn array(alloc: Global, rest: &mut Reader<'_>, depth: usize) -> Result<Option<Va
 #[cycle(build)]
 #[inline(never)]
 fn object(alloc: Global, rest: &mut Reader<'_>, depth: usize) -> Result<Option<Value>, AllocError>
+    requires { depth ≤ max_depth }
     ensures { IfOk result (λ value. IsNext depth (begin_object ∷ rest.old) value rest.new) }
 {
     if depth == 0 {

@@ -4,7 +4,6 @@ use Rattle.std.proofs.Common.{ap, subst, map, ◌∙◌}
 use Rattle.std.specs.Prelude.{Option, IfOk, IfErr}
 use Rattle.gltf_glb.specs.declared.error.Error.{Error}
 use Rattle.gltf_glb.specs.declared.error.Error.TheVariants as error
-use Rattle.gltf_json.specs.Documents.{root}
 use Rattle.gltf_json.specs.declared.root.Root.{Root}
 use Rattle.gltf.specs.Errors.{OutOfMemoryOr}
 use Rattle.gltf.specs.Shown.{blob_bytes}

@@ -24,7 +24,8 @@ AreOnlyParts bytes text blob = (other : List ℕ) (rest : Option (List ℕ))
 
 -- ---- what becomes of an error
 
-pub refuses_parts : (mends : Mends) (bytes : List ℕ) (e : Error) → RefusesContainer bytes e
+pub refuses_parts : (mends : Mends) (bytes : List ℕ) (e : Error)
+    → OutOfMemoryOr (RefusesContainer bytes) e
     → OutOfMemoryOr (RefusesMendedRecords mends bytes) e
 refuses_parts mends bytes error.Memory refused = tt
 refuses_parts mends bytes e refused = inl refused

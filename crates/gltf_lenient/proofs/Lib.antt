@@ -2,3 +2,7 @@ mod Layers
 mod Documents
 mod WithBuffers
 mod Files
+mod Readers
+mod InOrder
+mod Unmended
+mod Unchanged

@@ -1,5 +1,5 @@
 -- From a mended document and its buffers to the import.
-use Rattle.std.proofs.Common.{◌≡◌, ◌≢◌, ℕ, List, Result, Ok, Err, length, refl, inr, sym, subst}
+use Rattle.std.proofs.Common.{◌≢◌, ℕ, List, Result, Ok, Err, length, refl, inr, sym, subst}
 use Rattle.std.specs.Prelude.{Option, IfErr}
 use Rattle.gltf_glb.specs.declared.error.Error.{Error}
 use Rattle.gltf_glb.specs.declared.error.Error.TheVariants as error
@@ -13,7 +13,7 @@ use Rattle.gltf_buffers.specs.Names.{Names, Nowhere, AreKnown}
 use Rattle.gltf.specs.Files.{IsNotIo}
 use Rattle.gltf_options.specs.Alike.{HaveOneBuffers, HaveNoBuffers}
 use Rattle.gltf_lenient.specs.Files.{FailsOrRefusesMended}
-use Rattle.gltf_lenient.specs.Import.{IsValidMended, IsOnlyMended, IsNoValidMended, AcceptsMended}
+use Rattle.gltf_lenient.specs.Import.{IsValidMended, IsOnlyMended, IsNoValidMended}
 use Rattle.gltf_lenient.specs.Import.{IsOnlyMendedImport, IsNotAcceptedMended}
 use Rattle.gltf_lenient.specs.declared.options.Options.{Options}
 

@@ -1,2 +1,5 @@
 pub mod Import
 pub mod Files
+pub mod Reader
+pub mod Nothing
+pub mod Laws

@@ -1,5 +1,6 @@
 //! The records of a file as they are mended.
 ghost use Rattle.std.specs.Prelude.{◌≡◌, ◌≢◌, IfOk, IfErr};
+ghost use Rattle.std.specs.Cow.{cow_slice_items};
 ghost use Rattle.gltf_glb.specs.declared.error.Error.TheVariants.{Memory};
 ghost use Rattle.serde_json.specs.Data.{Data};
 ghost use Rattle.gltf_json.specs.Documents.{root};
@@ -12,24 +13,27 @@ ghost use Rattle.gltf_mend.specs.Mended.{mended};
 ghost use Rattle.gltf_lenient.specs.Import.{IsMendedDocument, IsOnlyMendedDocument};
 ghost use Rattle.gltf_lenient.specs.Import.{IsNoMendedDocument, RefusesMendedRecords, RefusesValue};
 
-use gltf::{Document, RawGltf, Result, owned_blob, text_and_blob};
+use gltf::{Document, RawGltf, Result, owned_blob, text_and_blob_of};
 use gltf_json::Error;
 use gltf_json::root::Root;
 use gltf_json_deserialize::deserialize::from_value;
 use gltf_mend::{Mends, mended};
 use serde_json::Value;
 use std::alloc::Global;
+use std::borrow::CowSlice;
 
-/// The records of a file as they are mended, and its blob.
-pub(crate) fn raw_of(alloc: Global, bytes: &[u8], mends: &Mends<'_>) -> Result<RawGltf>
-    ensures document { IfOk result (λ raw. IsMendedDocument mends.now bytes.now raw.document
-        (blob_bytes raw.blob)) }
-    ensures only { IfOk result (λ raw. IsOnlyMendedDocument mends.now bytes.now raw.document
-        (blob_bytes raw.blob)) }
-    ensures refused { IfErr result (OutOfMemoryOr (RefusesMendedRecords mends.now bytes.now)) }
-    ensures exact { IfErr result (λ e. e ≢ Memory → IsNoMendedDocument mends.now bytes.now) }
+/// The records of a file as they are mended, and its blob, owned.
+pub(crate) fn raw_of(alloc: Global, bytes: CowSlice<'_, u8>, mends: &Mends<'_>) -> Result<RawGltf>
+    ensures document { IfOk result (λ raw. IsMendedDocument mends.now
+        (cow_slice_items bytes.entry) raw.document (blob_bytes raw.blob)) }
+    ensures only { IfOk result (λ raw. IsOnlyMendedDocument mends.now
+        (cow_slice_items bytes.entry) raw.document (blob_bytes raw.blob)) }
+    ensures refused { IfErr result
+        (OutOfMemoryOr (RefusesMendedRecords mends.now (cow_slice_items bytes.entry))) }
+    ensures exact { IfErr result (λ e. e ≢ Memory
+        → IsNoMendedDocument mends.now (cow_slice_items bytes.entry)) }
 {
-    let (text, blob) = text_and_blob(bytes)?;
+    let (text, blob) = text_and_blob_of(alloc, bytes)?;
     let root = root_of(alloc, text.as_slice(), mends)?;
     let blob = owned_blob(alloc, blob)?;
     Ok(RawGltf {

@@ -214,6 +214,13 @@ impl<'a, D: Records> Texture<'a, D> {
         unknown_extensions(&self.inner.json.extensions)
     }
 
+    /// The document that it is of.
+    pub fn document(&self) -> &'a D
+        ensures { D.root result.now ≡ (texture_handle self.now).document }
+    {
+        self.inner.document
+    }
+
     /// The extension of this name.
     pub fn extension_value(&self, name: &str) -> Option<&'a Value>
         ensures { option_copied result ≡ extension_named name.now

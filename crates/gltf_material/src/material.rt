@@ -147,6 +147,13 @@ impl<'a, D: Records> Material<'a, D> {
         Some(&self.known()?.others)
     }
 
+    /// The document that it is of.
+    pub fn document(&self) -> &'a D
+        ensures { D.root result.now ≡ (material_handle self.now).document }
+    {
+        self.document
+    }
+
     /// The extension of this name, where it is not known at a material.
     pub fn extension_value(&self, name: &str) -> Option<&'a Value>
         ensures { option_copied result

@@ -340,28 +340,16 @@ fn count_of(
     primitive: &Primitive,
     name: &str,
 ) -> Result<Option<u64>, AllocError> {
-    let mut room = String::new(alloc);
-    for (semantic, index) in &primitive.attributes {
-        room.clear();
-        write!(room, "{semantic}")?;
-        if room.as_str() == name {
-            return Ok(match root.accessors.get(index.value()) {
-                Some(accessor) => Some(accessor.count),
-                None => None,
-            });
-        }
-    }
-    Ok(None)
+    Ok(match Semantic::of_name(alloc, name)? {
+        Some(semantic) => count_at(root, primitive, &semantic),
+        None => None,
+    })
 }
 
-/// The number of positions.
-fn positions(root: &Root, primitive: &Primitive) -> Option<u64> {
-    for (semantic, index) in &primitive.attributes {
-        if matches!(semantic, Semantic::Positions) {
-            return Some(root.accessors.get(index.value())?.count);
-        }
-    }
-    None
+/// The number of items of the accessor of an attribute.
+fn count_at(root: &Root, primitive: &Primitive, semantic: &Semantic) -> Option<u64> {
+    let index = primitive.attributes.get(semantic)?;
+    Some(root.accessors.get(index.value())?.count)
 }
 
 fn of_attribute(
@@ -375,8 +363,10 @@ fn of_attribute(
         return Ok(None);
     }
     let count = count_of(alloc, root, primitive, name)?;
-    Ok(match (count, positions(root, primitive)) {
-        (Some(found), Some(wanted)) => compared(found, Wanted::Exactly(wanted)),
-        _ => None,
-    })
+    Ok(
+        match (count, count_at(root, primitive, &Semantic::Positions)) {
+            (Some(found), Some(wanted)) => compared(found, Wanted::Exactly(wanted)),
+            _ => None,
+        },
+    )
 }

@@ -119,7 +119,7 @@ module _ (buffers images : List (List ℕ)) (r s : Root) (m : IsMoved buffers im
   same_content = root.alike after (over r s) s is_over m.after
 
   module _ (law : AllHold) where
-    views : (i : ℕ) → i < length r.buffer_views.items
+    pub views : (i : ℕ) → i < length r.buffer_views.items
         → MovesAt buffers images (view_at r i) (view_at (over r s) i)
     unfolding root
     views =

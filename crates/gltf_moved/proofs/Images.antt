@@ -51,12 +51,12 @@ mapped_at f (item d ds) zero e there = cc
 mapped_at f (item d ds) (suc j) e there = mapped_at f ds j e there
 
 -- what is read at an index
-record ReadAt {T : Type 0} (P : Data → T → Type 0) (e : Data) (xs : List T) (j : ℕ) : Type 0 where
-  value : T
-  there : slice_get xs j ≡ Some value
-  reads : P e value
+pub record ReadAt {T : Type 0} (P : Data → T → Type 0) (e : Data) (xs : List T) (j : ℕ) : Type 0 where
+  pub value : T
+  pub there : slice_get xs j ≡ Some value
+  pub reads : P e value
 
-read_at : {T : Type 0} (P : Data → T → Type 0) (ds : Items) (xs : List T) (j : ℕ) (e : Data)
+pub read_at : {T : Type 0} (P : Data → T → Type 0) (ds : Items) (xs : List T) (j : ℕ) (e : Data)
     → AllRead P ds xs → get_item j ds ≡ Some e → ReadAt P e xs j
 read_at P no_items [] j e is there = cc
 read_at P no_items (x ∷ xs) j e is there = absurd is
@@ -242,18 +242,18 @@ module _ (n : ℕ) (p : Picture) (e : Data) (x : Image) where
 
 -- ---- what lists are read as
 
-abbrev ReadsImages : Option Data → List Image → Type 0
+abbrev pub ReadsImages : Option Data → List Image → Type 0
 ReadsImages o xs = MatchOption (option_and_then unless_null o) (xs ≡ [])
     (λ e. MatchOption (as_array e) ⊥ (λ ds. AllRead image.is ds xs))
 
 abbrev items_in : Option Data → Items
 items_in o = unwrap_or (option_and_then as_array o) no_items
 
-abbrev images_at : List (Option Picture) → ℕ → Option Data → Option Data
+abbrev pub images_at : List (Option Picture) → ℕ → Option Data → Option Data
 images_at [] n o = None
 images_at (p ∷ ps) n o = option_map (pictured_in n (p ∷ ps)) o
 
-images_at_of : (ps : List (Option Picture)) (d : Data)
+pub images_at_of : (ps : List (Option Picture)) (d : Data)
     → images_after ps d ≡ images_at ps (count_at (codes "bufferViews") d) (get (codes "images") d)
 images_at_of [] d = refl
 images_at_of (p ∷ ps) d = refl

@@ -6,3 +6,5 @@ pub mod Parts
 pub mod Items
 pub mod Alike
 pub mod Images
+pub mod Kept
+pub mod Others

@@ -1,4 +1,5 @@
--- The views and the buffers that a document names are there, where no rule is broken.
+-- The views and the buffers that a document names are there, where no rule is broken but those of
+-- required extensions.
 use Rattle.std.proofs.Common.{◌≡◌, ◌<◌, ℕ, zero, suc, ◌+◌, List, [], ◌∷◌, length, Option, Some}
 use Rattle.std.proofs.Common.{None, subst}
 use Rattle.std.proofs.lemmas.Bool.{ltb-true}
@@ -13,6 +14,7 @@ use Rattle.gltf_validation.specs.Documents.{Faults, counts_of, root_rules}
 use Rattle.gltf_validation.specs.Members.{elements_rules, index_rules, optional_rules}
 use Rattle.gltf_validation.specs.Rules.{Rules, Hold}
 use Rattle.gltf_validation.specs.declared.counts.Counts.{Counts}
+use Rattle.gltf_moved.specs.Laws.{BreaksNoOther}
 
 -- the rules of a list hold of each element
 each_holds : {T : Type 0} (rules : T → Rules) (i : ℕ) (xs : List T) (k : ℕ) (x : T)
@@ -58,17 +60,34 @@ accessor_named c a hold = record {
 abbrev pub AllHold : Type 0
 AllHold = (r : Root) → (Faults r ≡ []) ↔ Hold (root_rules (counts_of r) r)
 
-module _ (law : AllHold) (r : Root) (rules : Faults r ≡ []) where
+module _ (law : AllHold) (r : Root) (rules : BreaksNoOther r) where
+  abbrev left : Root
+  left = rules.0
+
+  holds : Hold (root_rules (counts_of left) left)
+  holds = (law left).0 rules.1
+
+  of_accessors : Hold (elements_rules (accessor_rules (counts_of r)) 0 r.accessors.items)
+  of_accessors =
+      subst (λ (x : Root).
+      Hold (elements_rules (accessor_rules (counts_of x)) 0 x.accessors.items)) rules.2 holds.0.0
+
+  of_views : Hold (elements_rules (view_rules (counts_of r)) 0 r.buffer_views.items)
+  of_views =
+      subst (λ (x : Root).
+      Hold (elements_rules (view_rules (counts_of x)) 0 x.buffer_views.items)) rules.2
+      holds.0.1.1.1.0
+
   pub named : (k : ℕ) (a : Accessor) → slice_get r.accessors.items k ≡ Some a
       → IsNamed (length r.buffer_views.items) a a.sparse
   named k a there =
       accessor_named (counts_of r) a
       (each_holds (accessor_rules (counts_of r)) 0 r.accessors.items k a
-      ((law r).0 rules).0.0 there)
+      of_accessors there)
 
   pub buffer_named : (k : ℕ) (v : View) → slice_get r.buffer_views.items k ≡ Some v
       → v.buffer < length r.buffers.items
   buffer_named k v there =
       below (length r.buffers.items) v.buffer
       (each_holds (view_rules (counts_of r)) 0 r.buffer_views.items k v
-      ((law r).0 rules).0.1.1.1.0 there).0
+      of_views there).0

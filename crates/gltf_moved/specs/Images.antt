@@ -2,10 +2,12 @@
 -- (glTF 2.0, section 3.8.3).
 use Rattle.std.specs.Prelude.{◌≡◌, ◌≤◌, ◌+◌, ℕ, zero, suc, List, [], ◌∷◌, ◌++◌, length, take, drop}
 use Rattle.std.specs.Prelude.{Option, Some, None, option_map, slice_get, string_bytes, codes}
+use Rattle.std.specs.Prelude.{option_and_then}
 use Rattle.serde_json.specs.Data.{Data}
 use Rattle.serde_json.specs.Find.{get_item}
 use Rattle.gltf_json.specs.declared.root.Root.{Root}
 use Rattle.gltf_json_geometry.specs.declared.buffer.View.{View}
+use Rattle.gltf_json_scene.specs.Images.{image}
 use Rattle.gltf_json_scene.specs.declared.image.Image.{Image}
 use Rattle.gltf_data.specs.Parts.{view_at, view_offset}
 use Rattle.gltf_edit.specs.Embedded.{items_at, seats}
@@ -44,3 +46,21 @@ ShowsImages =
     → (bytes : List ℕ) → slice_get images (seats_before i m.pictures) ≡ Some bytes
     → p.length ≡ length bytes
     → IsInView (one_list (buffers ++ images)) s i (string_bytes p.media) bytes
+
+-- the picture of image i, where it has one
+abbrev pub picture_at : ℕ → List (Option Picture) → Option Picture
+picture_at i ps = option_and_then (λ p. p) (slice_get ps i)
+
+-- there is an image that shows what x shows, and names the same view
+pub record StaysImage (x : Image) (after : Option Image) : Type 0 where
+  pub image_ : Image
+  pub there : after ≡ Some image_
+  pub shows : image.content image_ ≡ image.content x
+  pub view : image_.buffer_view ≡ x.buffer_view
+
+-- each image that has no picture shows what it showed
+abbrev pub KeepsImages : Type 0
+KeepsImages =
+    (buffers images : List (List ℕ)) (r s : Root) (m : IsMoved buffers images r s)
+    (i : ℕ) (x : Image) → slice_get r.images.items i ≡ Some x → picture_at i m.pictures ≡ None
+    → StaysImage x (slice_get s.images.items i)

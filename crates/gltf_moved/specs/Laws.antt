@@ -21,13 +21,20 @@ one_list (bytes ∷ more) = joined (bytes ∷ more) ∷ []
 abbrev pub moved_value : List (List ℕ) → List (Option Picture) → Data → Data
 moved_value all ps value = bundled (spans_from 0 all) (length (joined all)) (embedded ps value)
 
+-- no rule is broken but those of the names in `extensionsRequired`: with some other names there,
+-- none is
+abbrev pub BreaksNoOther : Root → Type 0
+BreaksNoOther r =
+    (left : Root) × (Faults left ≡ [])
+    × (left ≡ record r { extensions_required = left.extensions_required })
+
 -- s is the document r, which has these buffers, with pictures for its images, whose bytes are those
 -- behind, where all buffers became one
 pub record IsMoved (buffers images : List (List ℕ)) (r s : Root) : Type 0 where
   pub value : Data
   pub pictures : List (Option Picture)
   pub before : root.is value r
-  pub rules : Faults r ≡ []
+  pub rules : BreaksNoOther r
   pub count : length buffers ≡ length r.buffers.items
   pub after : root.is (moved_value (buffers ++ images) pictures value) s
   pub placed : ArePlaced (spans_from 0 (buffers ++ images)) (embedded pictures value)

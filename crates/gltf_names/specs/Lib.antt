@@ -2,3 +2,4 @@ pub mod Named
 pub mod Answers
 pub mod Paths
 pub mod Sources
+pub mod Inside

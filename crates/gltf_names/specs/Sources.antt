@@ -1,4 +1,4 @@
--- What contracts see of the two sources.
+-- What contracts see of the sources.
 use Rattle.std.specs.Prelude.{◌≡◌, ℕ, List, Option, Some, None, option_map, ◌==◌, ◌-◌}
 use Rattle.std.specs.Prelude.{if◌then◌else◌}
 use Rattle.std.specs.BTreeMap.{BTreeMap, get_by_text}
@@ -7,6 +7,8 @@ use Rattle.std.specs.declared.string.String.{String}
 use Rattle.std.specs.declared.vec.Vec.{Vec}
 use Rattle.gltf_names.specs.declared.shelf.Shelf.{Shelf}
 use Rattle.gltf_names.specs.declared.folder.Folder.{Folder}
+use Rattle.gltf_names.specs.declared.inside.Inside.{Inside}
+use Rattle.gltf_names.specs.declared.own_folder.OwnFolder.{OwnFolder}
 use Rattle.gltf_names.specs.Named.{Named, File, Relative, is_same}
 
 -- the text that a folder puts before relative references
@@ -51,3 +53,17 @@ unless_due (Some reads) bytes = if reads == 0 then None else bytes
 abbrev pub due_after : Option ℕ → Option ℕ
 due_after None = None
 due_after (Some reads) = if reads == 0 then None else Some (reads - 1)
+
+-- the source that is asked for what stays inside
+abbrev pub inside_source : {S : Type 0} → Inside S → S
+inside_source inside = inside.source
+
+-- the path of the document
+abbrev pub inside_document : {S : Type 0} → Inside S → List ℕ
+inside_document inside = inside.document.now
+
+abbrev pub inside_failures : {S : Type 0} → Inside S → List Named
+inside_failures inside = inside.log.failures.names
+
+abbrev pub own_failures : {R F D : Type 0} → OwnFolder R F D → List Named
+own_failures folder = folder.log.failures.names

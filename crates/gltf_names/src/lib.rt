@@ -3,10 +3,18 @@
 
 mod failures;
 mod folder;
+mod inside;
+mod links;
 mod log;
 mod name;
+mod outside;
+mod own_folder;
 mod shelf;
 
 pub use folder::Folder;
+pub use inside::Inside;
+pub use links::stays_inside;
 pub use name::{Name, NamedBytes, NamedFault};
+pub use outside::{Outside, leads_outside, outside_of};
+pub use own_folder::{OwnFolder, link_error};
 pub use shelf::Shelf;

@@ -10,7 +10,7 @@ use Rattle.serde_json.specs.Data.{Data, Items}
 use Rattle.serde_json.specs.Find.{as_array}
 use Rattle.serde_json.specs.View.{view, items_of, items_view}
 use Rattle.serde_json.specs.declared.value.Value.{Value}
-use Rattle.gltf_numbers.specs.Numbers.{values_of, numbers_in, exactly}
+use Rattle.gltf_numbers.specs.Numbers.{values_of, numbers_in, exactly, any_number_of}
 
 values_of-items : (ds : List Data) → values_of (items_of ds) ≡ ds
 values_of-items [] = refl
@@ -42,3 +42,10 @@ of_others n d vs e l = of_items n d vs e ∙ ⊎_elim
     (λ same. absurd (l (sym (length-map vs view) ∙ same.1)))
     (λ other. ap (λ b. if b then numbers_in (map view vs) else None) other.0)
     (eqb_tells (length (map view vs)) n)
+
+-- of any number
+pub of_any : (d : Data) (vs : List Value) → as_array d ≡ Some (items_view vs)
+    → any_number_of d ≡ numbers_in (map view vs)
+of_any d vs e =
+    ap (λ (o : Option Items). option_and_then numbers_in (option_map values_of o)) e
+    ∙ ap numbers_in (values_of-items (map view vs))

@@ -1,5 +1,5 @@
 -- The numbers of materials (glTF 2.0, section 3.9, "Materials") and of their extensions.
-use Rattle.std.specs.Prelude.{Option, Some}
+use Rattle.std.specs.Prelude.{Option, Some, Float, option_and_then}
 use Rattle.gltf_json_material.specs.declared.material.Material.{Material as MaterialRecord}
 use Rattle.gltf_json_material.specs.declared.material.PbrMetallicRoughness.{
   PbrMetallicRoughness as PbrMetallicRoughnessRecord,
@@ -18,6 +18,7 @@ use Rattle.gltf_json_material.specs.declared.extensions.material.Volume.{Volume 
 use Rattle.gltf_json_material.specs.declared.extensions.material.Specular.{
   Specular as SpecularRecord,
 }
+use Rattle.gltf_material.specs.Materials.{extension}
 use Rattle.gltf_numbers.specs.Numbers.{given, number_if, number_or, numbers_or}
 use Rattle.gltf_numbers.specs.declared.defaults.TheConstants.{
   ALPHA_CUTOFF,
@@ -25,8 +26,10 @@ use Rattle.gltf_numbers.specs.declared.defaults.TheConstants.{
   BASE_COLOR_FACTOR,
   DIFFUSE_FACTOR,
   EMISSIVE_FACTOR,
+  EMISSIVE_STRENGTH,
   GLOSSINESS_FACTOR,
   GLOSSY_SPECULAR_FACTOR,
+  IOR,
   METALLIC_FACTOR,
   NORMAL_SCALE,
   OCCLUSION_STRENGTH,
@@ -51,6 +54,16 @@ material_numbers m =
     given (number_or ALPHA_CUTOFF m.alpha_cutoff) (λ cutoff.
     given (numbers_or 3 EMISSIVE_FACTOR m.emissive_factor) (λ emissive.
     Some (record { alpha_cutoff = cutoff; emissive_factor = emissive })))
+
+-- its index of refraction (`KHR_materials_ior`)
+abbrev pub ior_number : MaterialRecord → Option Float
+ior_number m = number_or IOR (option_and_then (λ e. e.ior) (extension (λ e. e.ior) m))
+
+-- and the strength of its light (`KHR_materials_emissive_strength`)
+abbrev pub emissive_strength_number : MaterialRecord → Option Float
+emissive_strength_number m =
+    number_or EMISSIVE_STRENGTH
+    (option_and_then (λ e. e.emissive_strength) (extension (λ e. e.emissive_strength) m))
 
 -- of metalness and roughness (section 5.22)
 abbrev pub pbr_numbers : PbrMetallicRoughnessRecord → Option PbrMetallicRoughness

@@ -21,6 +21,10 @@ abbrev pub values_of : Items → List Data
 values_of no_items = []
 values_of (item d ds) = d ∷ values_of ds
 
+-- the numbers of a list of any length; none of any other value
+abbrev pub any_number_of : Data → Option (List Float)
+any_number_of d = option_and_then numbers_in (option_map values_of (as_array d))
+
 -- the numbers of a list of exactly n numbers; none of any other value
 abbrev pub exactly : ℕ → Data → Option (List Float)
 exactly n d =

@@ -31,6 +31,12 @@ pub const NORMAL_SCALE: f64 = 1.0;
 /// `strength` of an occlusion texture (glTF 2.0, section 5.21, "Material Occlusion Texture Info").
 pub const OCCLUSION_STRENGTH: f64 = 1.0;
 
+/// `ior` of a material (`KHR_materials_ior`).
+pub const IOR: f64 = 1.5;
+
+/// `emissiveStrength` of a material (`KHR_materials_emissive_strength`).
+pub const EMISSIVE_STRENGTH: f64 = 1.0;
+
 /// `diffuseFactor` (`KHR_materials_pbrSpecularGlossiness`).
 pub const DIFFUSE_FACTOR: [f64; 4] = [1.0, 1.0, 1.0, 1.0];
 

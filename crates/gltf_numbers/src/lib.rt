@@ -16,4 +16,4 @@ pub mod texture;
 mod value;
 
 pub use of_handles::Numbers;
-pub use value::{number, number_if, number_or, numbers, numbers_or};
+pub use value::{number, number_if, number_list, number_or, numbers, numbers_or};

@@ -1,5 +1,6 @@
 //! The numbers of materials (glTF 2.0, section 3.9, "Materials") and of their extensions.
 
+ghost use Rattle.std.specs.Prelude.{◌≡◌};
 ghost use Rattle.gltf_material.specs.Materials.{material_handle};
 ghost use Rattle.gltf_material.specs.Parts.{pbr_handle, glossiness_handle, normal_handle};
 ghost use Rattle.gltf_material.specs.Parts.{occlusion_handle, transmission_handle};
@@ -7,13 +8,14 @@ ghost use Rattle.gltf_material.specs.Parts.{volume_handle, specular_handle};
 ghost use Rattle.gltf_numbers.specs.Materials.{material_numbers, pbr_numbers, glossiness_numbers};
 ghost use Rattle.gltf_numbers.specs.Materials.{normal_numbers, occlusion_numbers};
 ghost use Rattle.gltf_numbers.specs.Materials.{transmission_numbers, volume_numbers};
-ghost use Rattle.gltf_numbers.specs.Materials.{specular_numbers};
+ghost use Rattle.gltf_numbers.specs.Materials.{specular_numbers, ior_number};
+ghost use Rattle.gltf_numbers.specs.Materials.{emissive_strength_number};
 
 use crate::defaults::{
     ALPHA_CUTOFF, ATTENUATION_COLOR, BASE_COLOR_FACTOR, DIFFUSE_FACTOR, EMISSIVE_FACTOR,
-    GLOSSINESS_FACTOR, GLOSSY_SPECULAR_FACTOR, METALLIC_FACTOR, NORMAL_SCALE, OCCLUSION_STRENGTH,
-    ROUGHNESS_FACTOR, SPECULAR_COLOR_FACTOR, SPECULAR_FACTOR, THICKNESS_FACTOR,
-    TRANSMISSION_FACTOR,
+    EMISSIVE_STRENGTH, GLOSSINESS_FACTOR, GLOSSY_SPECULAR_FACTOR, IOR, METALLIC_FACTOR,
+    NORMAL_SCALE, OCCLUSION_STRENGTH, ROUGHNESS_FACTOR, SPECULAR_COLOR_FACTOR, SPECULAR_FACTOR,
+    THICKNESS_FACTOR, TRANSMISSION_FACTOR,
 };
 use crate::of_handles::Numbers;
 use crate::value::{number_if, number_or, numbers_or};
@@ -41,6 +43,23 @@ impl<D: Records> Numbers for handles::Material<'_, D> {
             emissive_factor: numbers_or(self.emissive_factor(), EMISSIVE_FACTOR)?,
         })
     }
+}
+
+/// The index of refraction of a material: `ior` of the extension `KHR_materials_ior`, by default
+/// 1.5, also where the extension is absent. None where it is there and is no number.
+pub fn ior<D: Records>(material: &handles::Material<'_, D>) -> Option<f64>
+    ensures { result ≡ ior_number (material_handle material.now).json }
+{
+    number_or(material.ior(), IOR)
+}
+
+/// The strength of the light that the surface gives off: `emissiveStrength` of the extension
+/// `KHR_materials_emissive_strength`, by default 1, also where the extension is absent. None where
+/// it is there and is no number.
+pub fn emissive_strength<D: Records>(material: &handles::Material<'_, D>) -> Option<f64>
+    ensures { result ≡ emissive_strength_number (material_handle material.now).json }
+{
+    number_or(material.emissive_strength(), EMISSIVE_STRENGTH)
 }
 
 /// The numbers of a base colour, metalness and roughness (glTF 2.0, section 5.22, "Material PBR

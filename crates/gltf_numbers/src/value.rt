@@ -1,11 +1,12 @@
 //! Numbers and lists of numbers.
-ghost use Rattle.std.specs.Prelude.{◌≡◌, length, map};
-ghost use Rattle.std.specs.Option.{option_copied};
-ghost use Rattle.gltf_numbers.specs.Numbers.{number_of, numbers_in, exactly, number_if};
-ghost use Rattle.gltf_numbers.specs.Numbers.{number_or, numbers_or};
+ghost use Rattle.std.specs.Prelude.{◌≡◌, IfOk, length, map};
+ghost use Rattle.std.specs.Option.{option_copied, option_map};
+ghost use Rattle.gltf_numbers.specs.Numbers.{number_of, numbers_in, exactly, any_number_of};
+ghost use Rattle.gltf_numbers.specs.Numbers.{number_if, number_or, numbers_or};
 ghost use Rattle.serde_json.specs.View.{view};
 
 use serde_json::Value;
+use std::alloc::{AllocError, Global};
 
 /// The number that a value is, as the nearest double; None of any other value.
 pub fn number(value: &Value) -> Option<f64>
@@ -24,6 +25,19 @@ pub fn numbers<const N: usize>(value: &Value) -> Option<[f64; N]>
         all_numbers(values)
     } else {
         None
+    }
+}
+
+/// The numbers of a list of any length, each as the nearest double; None of any other value. So are
+/// `weights` of a mesh or a node, of which there are as many as its mesh has morph targets (glTF
+/// 2.0, section 3.7.2.2). The error says that there is no memory for the list.
+pub fn number_list(alloc: Global, value: &Value) -> Result<Option<Vec<f64>>, AllocError>
+    ensures { IfOk result (λ list. option_map (λ l. l.items) list
+        ≡ any_number_of (view value.now)) }
+{
+    match value.as_array() {
+        Some(values) => list_of_all(alloc, values.as_slice()),
+        None => Ok(None),
     }
 }
 
@@ -73,4 +87,19 @@ fn all_numbers<const N: usize>(values: &[Value]) -> Option<[f64; N]>
         found[i] = value;
     }
     Some(found)
+}
+
+/// The numbers of these values, in a list that is reserved once.
+fn list_of_all(alloc: Global, values: &[Value]) -> Result<Option<Vec<f64>>, AllocError>
+    ensures { IfOk result (λ list. option_map (λ l. l.items) list
+        ≡ numbers_in (map view values.now)) }
+{
+    let mut found = Vec::with_capacity(alloc, values.len())?;
+    for value in values {
+        let Some(number) = number(value) else {
+            return Ok(None);
+        };
+        found.push(number)?;
+    }
+    Ok(Some(found))
 }

@@ -9,4 +9,5 @@ mod Buffers
 mod WithBuffers
 mod Files
 mod Left
+mod Room
 mod Handled

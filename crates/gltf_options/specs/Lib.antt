@@ -6,5 +6,6 @@ pub mod Opened
 pub mod Import
 pub mod Files
 pub mod Reader
+pub mod Room
 pub mod Laws
 pub mod Alike

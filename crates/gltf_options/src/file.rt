@@ -1,9 +1,10 @@
 //! A document and its blob, with the names of `extensionsRequired` that the caller handles.
-ghost use Rattle.std.specs.Prelude.{◌≢◌, IfOk, IfErr, MatchResult};
+ghost use Rattle.std.specs.Prelude.{◌≡◌, ◌≢◌, IfOk, IfErr, IfSome, MatchResult, vec_capacity};
 ghost use Rattle.std.specs.Cow.{cow_slice_items};
 ghost use Rattle.gltf_glb.specs.declared.error.Error.TheVariants.{Memory};
 ghost use Rattle.gltf.specs.Errors.{OutOfMemoryOr};
 ghost use Rattle.gltf.specs.Reader.{Gives};
+ghost use Rattle.gltf.specs.Room.{IsInRoomOf};
 ghost use Rattle.gltf.specs.Shown.{blob_bytes};
 ghost use Rattle.gltf_options.specs.Besides.{listed};
 ghost use Rattle.gltf_options.specs.Import.{IsValidBesides, IsOnlyBesides, IsNoValidBesides};
@@ -54,7 +55,7 @@ pub fn from_slice_with(alloc: Global, slice: &[u8], options: &Options<'_>) -> Re
 }
 
 /// [`from_slice_with`] of bytes that are lent or given up. The blob of a container is copied where
-/// they are lent, and handed on in the memory that they had where they are given up.
+/// they are lent, and handed on in the room that they had where they are given up.
 pub fn from_bytes_with(
     alloc: Global,
     bytes: CowSlice<'_, u8>,
@@ -70,6 +71,7 @@ pub fn from_bytes_with(
         (RefusesDocumentBesides (listed options.now) (cow_slice_items bytes.entry))) }
     ensures exact { IfErr result (λ e. e ≢ Memory
         → IsNoValidBesides (listed options.now) (cow_slice_items bytes.entry)) }
+    ensures moved { IfOk result (λ file. IfSome file.gltf.blob (IsInRoomOf bytes.entry)) }
 {
     match bytes {
         CowSlice::Borrowed(slice) => from_slice_with(alloc, slice, options),
@@ -87,6 +89,8 @@ fn from_vec_with(alloc: Global, bytes: Vec<u8>, options: &Options<'_>) -> Result
         (OutOfMemoryOr (RefusesDocumentBesides (listed options.now) bytes.items)) }
     ensures exact { IfErr result (λ e. e ≢ Memory
         → IsNoValidBesides (listed options.now) bytes.items) }
+    ensures moved { IfOk result (λ file. IfSome file.gltf.blob
+        (λ blob. vec_capacity blob ≡ vec_capacity bytes)) }
 {
     // Laws that the proof stands on; the calls do nothing.
     what_shows_the_same_is_alike_in_each_member();

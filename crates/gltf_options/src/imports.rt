@@ -2,6 +2,7 @@
 //! handles.
 ghost use Rattle.std.specs.Prelude.{◌≡◌, ◌≢◌, [], List, IfOk, IfErr, OnOk};
 ghost use Rattle.std.specs.Cow.{cow_slice_items};
+ghost use Rattle.gltf_buffers.specs.Buffers.{sources_of};
 ghost use Rattle.gltf_buffers.specs.Names.{Nowhere, Anywhere, AreKnown, names_of};
 ghost use Rattle.gltf_glb.specs.declared.error.Error.TheVariants.{Memory};
 ghost use Rattle.gltf_names.specs.Named.{Named};
@@ -15,10 +16,12 @@ ghost use Rattle.gltf_options.specs.Files.{IsNotAcceptedFileBesides};
 ghost use Rattle.gltf_options.specs.Import.{AcceptsBesides, IsOnlyImportBesides};
 ghost use Rattle.gltf_options.specs.Import.{RefusesImportBesides, IsNotAcceptedBesides};
 ghost use Rattle.gltf_options.specs.Names.{texts};
+ghost use Rattle.gltf_options.specs.Room.{BlobStays};
 
 use crate::file::{Opened, from_bytes_with};
 use crate::options::Options;
 use gltf::buffer::Data;
+use gltf::laws::one_text_and_blob;
 use gltf::{Document, Folder, Gltf, Name, NamedBytes, Result, base_of};
 use gltf_buffers::{Ask, NoNames, read_buffers};
 use gltf_json::laws::what_shows_the_same_is_alike_in_each_member;
@@ -58,7 +61,8 @@ pub fn import_slice_with(alloc: Global, bytes: &[u8], options: &Options<'_>) -> 
 }
 
 /// [`import_slice_with`] of bytes that are lent or given up. The blob of a container is copied where
-/// they are lent, and handed on in the memory that they had where they are given up.
+/// they are lent. Where they are given up, it is handed on in the room that they had, if it has as
+/// many bytes as a multiple of four.
 pub fn import_bytes_with(
     alloc: Global,
     bytes: CowSlice<'_, u8>,
@@ -74,6 +78,8 @@ pub fn import_bytes_with(
         (RefusesImportBesides (listed options.now) Nowhere (cow_slice_items bytes.entry))) }
     ensures exact { IfErr result (λ e. e ≢ Memory
         → IsNotAcceptedBesides (listed options.now) Nowhere (cow_slice_items bytes.entry)) }
+    ensures moved { IfOk result (λ read.
+        BlobStays bytes.entry (sources_of read.document) read.buffers.items) }
 {
     import_bytes(alloc, bytes, &mut NoNames, options)
 }
@@ -83,8 +89,7 @@ pub fn import_bytes_with(
 /// The same names are asked of the source, in the same order. The answer is that of
 /// [`import_slice_with`] over the bytes of the file, with the bytes that the source gives for the
 /// names; [`gltf::Error::Io`] says that the source failed at the last name that was asked for, and
-/// each other answer that it failed at none. The bytes of the file are handed on, so that a blob is
-/// not copied.
+/// each other answer that it failed at none.
 pub fn import_from_with<S: NamedBytes>(
     alloc: Global,
     source: &mut S,
@@ -151,9 +156,12 @@ fn import_bytes<N: Ask>(
         (cow_slice_items bytes.entry)) }
     ensures fine { OnOk result (N.failures names.new ≡ N.failures names.old) }
     ensures kept { N.names names.new ≡ N.names names.old }
+    ensures moved { IfOk result (λ read.
+        BlobStays bytes.entry (sources_of read.document) read.buffers.items) }
 {
-    // A law that the proof stands on; the call does nothing.
+    // Laws that the proof stands on; the calls do nothing.
     what_shows_the_same_is_alike_in_each_member();
+    one_text_and_blob();
     let opened = from_bytes_with(alloc, bytes, options)?;
     let Opened {
         gltf: Gltf { document, blob },

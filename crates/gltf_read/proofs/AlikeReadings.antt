@@ -5,7 +5,7 @@
 -- table's part is its lemma in `Rows`, from the law `alike_documents_are_read_alike` at the item
 -- type of each row (`row_turned`).
 use Rattle.std.proofs.Common.{◌≡◌, ℕ, List, refl, sym, ap, subst, ◌∙◌}
-use Rattle.std.specs.Prelude.{Option, Some, None, slice_get, option_map}
+use Rattle.std.specs.Prelude.{Option, Some, None, slice_get, option_map, MatchOption}
 use Rattle.std.proofs.lemmas.Option.{slice_get-map}
 use Rattle.gltf_json.specs.Alike.{AreAlikeInEachMember}
 use Rattle.gltf_json.specs.declared.root.Root.{Root}
@@ -27,6 +27,7 @@ use Rattle.gltf_casting.specs.declared.weights.ReadWeights.TheVariants as joint_
 use Rattle.gltf_read.specs.Colors.{AreColors, AreColorsOf}
 use Rattle.gltf_read.specs.Indices.{AreIndices, AreIndicesOf}
 use Rattle.gltf_read.specs.Joints.{AreJoints, AreJointsOf}
+use Rattle.gltf_read.specs.Kinds.{Kinds, OfKind, kind_of}
 use Rattle.gltf_read.specs.Laws.{IsAlike}
 use Rattle.gltf_read.specs.Outputs.{AreOutputs, AreOutputsOf}
 use Rattle.gltf_read.specs.Reading.{Table, ReadingAt, AreItems, meant, type_of}
@@ -34,7 +35,7 @@ use Rattle.gltf_read.specs.Reading.{dimensions_of}
 use Rattle.gltf_read.specs.TexCoords.{AreTexCoords, AreTexCoordsOf}
 use Rattle.gltf_read.specs.Weights.{AreWeights, AreWeightsOf}
 use Rattle.gltf_read.proofs.Rows.{Turns, colors_turned, indices_turned, joints_turned}
-use Rattle.gltf_read.proofs.Rows.{outputs_turned, tex_coords_turned, weights_turned}
+use Rattle.gltf_read.proofs.Rows.{outputs_turned, tex_coords_turned, weights_turned, kind_turned}
 
 -- ---- accessors that show the same
 
@@ -46,6 +47,12 @@ same_dimensions : (a b : Accessor) → accessor.content a ≡ accessor.content b
     → dimensions_of a ≡ dimensions_of b
 unfolding accessor
 same_dimensions a b same = ap (meant dimensions) (ap (λ p. p.1.1.1.1.1.0) same)
+
+same_kind : (kinds : Kinds) (a b : Accessor) → accessor.content a ≡ accessor.content b
+    → kind_of kinds a ≡ kind_of kinds b
+same_kind kinds a b same =
+    ap (λ d. kinds d (type_of a)) (same_dimensions a b same)
+    ∙ ap (λ t. kinds (dimensions_of b) t) (same_type a b same)
 
 -- where the one document has an accessor, the other has one that shows the same
 also_there : (x y : Option Accessor) → option_map accessor.content x ≡ option_map accessor.content y
@@ -186,3 +193,26 @@ outputs_alike v i8 u8 i16 u16 f32 wi8 wu8 wi16 wu16 wf32 property =
     (row_turned target_weight.I16 wi16 r s alike answer i)
     (row_turned target_weight.U16 wu16 r s alike answer i)
     (row_turned target_weight.F32 wf32 r s alike answer i) h))
+
+-- ---- where the items are of a type that is asked for
+
+pub typed_items_alike : {X : Type 0} {t : Ghosts X} → ReadAlike t → (kinds : Kinds)
+    → IsAlike (OfKind kinds (AreItems {X = X} {t = t}))
+typed_items_alike {X} {t} row kinds =
+    member_alike (OfKind kinds (AreItems {X = X} {t = t})) (λ r s alike answer i a b same result h.
+    subst (λ kind. MatchOption kind (result ≡ None)
+    (λ size. AreItems {X = X} {t = t} (ReadingAt s answer i) b result)) (same_kind kinds a b same)
+    (kind_turned (kind_of kinds a) (result ≡ None) (λ read. row r s alike answer i _ read) h))
+
+pub typed_indices_alike : RowAlike index_.U8 → RowAlike index_.U16 → RowAlike index_.U32
+    → (kinds : Kinds) → IsAlike (OfKind kinds AreIndices)
+typed_indices_alike u8 u16 u32 kinds =
+    member_alike (OfKind kinds AreIndices) (λ r s alike answer i a b same result h.
+    subst (λ kind. MatchOption kind (result ≡ None)
+    (λ size. AreIndices (ReadingAt s answer i) b result)) (same_kind kinds a b same)
+    (kind_turned (kind_of kinds a) (result ≡ None) (λ read.
+    subst (λ type. AreIndicesOf (ReadingAt s answer i) type result) (same_type a b same)
+    (indices_turned (ReadingAt r answer i) (ReadingAt s answer i) (type_of a) result
+    (row_turned index_.U8 u8 r s alike answer i)
+    (row_turned index_.U16 u16 r s alike answer i)
+    (row_turned index_.U32 u32 r s alike answer i) read)) h))

@@ -10,6 +10,7 @@ use Rattle.gltf_data.specs.Answers.{Results, AlwaysAnswers}
 use Rattle.gltf_data.specs.Documents.{accessor_at, IsReadable, items_of}
 use Rattle.gltf_read.specs.Colors.{AreColors}
 use Rattle.gltf_read.specs.Indices.{AreIndices}
+use Rattle.gltf_read.specs.Kinds.{Kinds, OfKind, kind_of}
 use Rattle.gltf_read.specs.Joints.{AreJoints}
 use Rattle.gltf_read.specs.Laws.{IsByAnswers}
 use Rattle.gltf_read.specs.Outputs.{AreOutputs}
@@ -18,7 +19,7 @@ use Rattle.gltf_read.specs.Reading.{dimensions_of}
 use Rattle.gltf_read.specs.TexCoords.{AreTexCoords}
 use Rattle.gltf_read.specs.Weights.{AreWeights}
 use Rattle.gltf_read.proofs.Rows.{colors_turned, indices_turned, joints_turned, outputs_turned}
-use Rattle.gltf_read.proofs.Rows.{tex_coords_turned, weights_turned}
+use Rattle.gltf_read.proofs.Rows.{tex_coords_turned, weights_turned, kind_turned}
 
 -- whatever the one reading says, the other says
 abbrev pub TurnsAll : Reading → Reading → Type 1
@@ -82,3 +83,19 @@ outputs_by_answers Gives property =
     by_answers (AreOutputs property) (λ R S a result turns.
     outputs_turned property R S (type_of a) result (turns _ _) (turns _ _) (turns _ _) (turns _ _)
     (turns _ _) (turns _ _) (turns _ _) (turns _ _) (turns _ _) (turns _ _) (turns _ _)) Gives
+
+-- ---- where the items are of a type that is asked for
+
+pub typed_items_by_answers : {X : Type 0} {t : Ghosts X} (Gives : Results) (kinds : Kinds)
+    → IsByAnswers (OfKind kinds (AreItems {X = X} {t = t})) Gives
+typed_items_by_answers {X} {t} Gives kinds =
+    by_answers (OfKind kinds (AreItems {X = X} {t = t})) (λ R S a result turns h.
+    kind_turned (kind_of kinds a) (result ≡ None) (λ read. turns X t _ read) h) Gives
+
+pub typed_indices_by_answers : (Gives : Results) (kinds : Kinds)
+    → IsByAnswers (OfKind kinds AreIndices) Gives
+typed_indices_by_answers Gives kinds =
+    by_answers (OfKind kinds AreIndices) (λ R S a result turns h.
+    kind_turned (kind_of kinds a) (result ≡ None)
+    (λ read. indices_turned R S (type_of a) result (turns _ _) (turns _ _) (turns _ _) read) h)
+    Gives

@@ -6,3 +6,4 @@ pub mod Targets
 pub mod Samplers
 pub mod SameIndices
 pub mod Nexts
+pub mod Tables

@@ -4,7 +4,7 @@
 -- by the table. There is one lemma for each table, by cases on the type; what has no row stays as
 -- it is. `Answered` and `AlikeReadings` use them for the laws `tables_are_by_answers` and
 -- `colors_are_alike` to `outputs_are_alike`.
-use Rattle.std.specs.Prelude.{Option, Some, None}
+use Rattle.std.specs.Prelude.{ℕ, Option, Some, None, MatchOption}
 use Rattle.gltf_handles.specs.declared.accessor.DataType.{DataType}
 use Rattle.gltf_handles.specs.declared.accessor.DataType.TheVariants.{I8, U8, I16, U16, F32}
 use Rattle.gltf_handles.specs.declared.accessor.DataType.TheVariants.{U32}
@@ -44,6 +44,12 @@ use Rattle.gltf_casting.specs.declared.morph_target_weights.MorphTargetWeights.T
 -- of items of the type of that variant, the one reading says what the other says
 abbrev pub Turns : {X E : Type 0} → {t : Ghosts X} → (Iter X t → E) → Reading → Reading → Type 0
 Turns {X} {E} {t} variant R S = (read : Option (CountedItems X)) → R X t read → S X t read
+
+-- what is said of an accessor where its items are of a type that is asked for
+pub kind_turned : {A B : Type 0} (kind : Option ℕ) (none : Type 0) → (A → B)
+    → MatchOption kind none (λ size. A) → MatchOption kind none (λ size. B)
+kind_turned None none turns h = h
+kind_turned (Some size) none turns h = turns h
 
 pub items_turned : {X E : Type 0} {t : Ghosts X} (variant : Iter X t → E) (R S : Reading)
     (result : Option E) → Turns variant R S → ItemsAs variant R result → ItemsAs variant S result

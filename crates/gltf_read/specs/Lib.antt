@@ -13,3 +13,4 @@ pub mod Skins
 pub mod MorphTargets
 pub mod Channels
 pub mod Members
+pub mod Kinds

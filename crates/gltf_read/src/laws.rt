@@ -9,6 +9,7 @@ ghost use Rattle.gltf_json_animation.specs.declared.animation.Property.{Property
 ghost use Rattle.gltf_read.specs.Colors.{AreColors};
 ghost use Rattle.gltf_read.specs.Indices.{AreIndices};
 ghost use Rattle.gltf_read.specs.Joints.{AreJoints};
+ghost use Rattle.gltf_read.specs.Kinds.{Kinds, OfKind};
 ghost use Rattle.gltf_read.specs.Laws.{IsByAnswers, IsAlike, IsRepeatedNext};
 ghost use Rattle.gltf_read.specs.Members.{HaveSameIndices};
 ghost use Rattle.gltf_read.specs.MorphTargets.{GivesTarget};
@@ -39,6 +40,20 @@ pub fn tables_are_by_answers<'s, F: Fn(Buffer) -> Option<&'s [u8]>>(get_buffer_d
         → IsByAnswers (AreOutputs property) (λ b o. F.post get_buffer_data.now b o) }
 {}
 
+/// So is what is read of items of a type that the standard has for them.
+pub fn typed_items_are_by_answers<'s, T: Item, F: Fn(Buffer) -> Option<&'s [u8]>>(
+    get_buffer_data: &F,
+)
+    ensures { (kinds : Kinds) → IsByAnswers (OfKind kinds (AreItems {X = T} {t = ⟦<T as Item>⟧}))
+        (λ b o. F.post get_buffer_data.now b o) }
+{}
+
+/// So are indices of such a type.
+pub fn typed_indices_are_by_answers<'s, F: Fn(Buffer) -> Option<&'s [u8]>>(get_buffer_data: &F)
+    ensures { (kinds : Kinds) → IsByAnswers (OfKind kinds AreIndices)
+        (λ b o. F.post get_buffer_data.now b o) }
+{}
+
 /// `nth(n)` on the morph targets of a primitive reads what the last of n + 1 calls of `next` reads,
 /// and leaves what they leave.
 pub fn nth_target_is_next<'s, T: Item, F: Fn(Buffer) -> Option<&'s [u8]>>(get_buffer_data: &F)
@@ -49,6 +64,13 @@ pub fn nth_target_is_next<'s, T: Item, F: Fn(Buffer) -> Option<&'s [u8]>>(get_bu
 /// Documents that show the same have the same items, by the same answers for their buffers.
 pub fn items_are_alike<T: Item>()
     ensures { IsAlike (AreItems {X = T} {t = ⟦<T as Item>⟧}) }
+{
+    alike_documents_are_read_alike::<T>();
+}
+
+/// They have the same items of a type that the standard has for them.
+pub fn typed_items_are_alike<T: Item>()
+    ensures { (kinds : Kinds) → IsAlike (OfKind kinds (AreItems {X = T} {t = ⟦<T as Item>⟧})) }
 {
     alike_documents_are_read_alike::<T>();
 }
@@ -68,6 +90,15 @@ pub fn colors_are_alike()
 /// They have the same indices.
 pub fn indices_are_alike()
     ensures { IsAlike AreIndices }
+{
+    alike_documents_are_read_alike::<u8>();
+    alike_documents_are_read_alike::<u16>();
+    alike_documents_are_read_alike::<u32>();
+}
+
+/// They have the same indices of such a type.
+pub fn typed_indices_are_alike()
+    ensures { (kinds : Kinds) → IsAlike (OfKind kinds AreIndices) }
 {
     alike_documents_are_read_alike::<u8>();
     alike_documents_are_read_alike::<u16>();

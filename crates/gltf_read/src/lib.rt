@@ -7,3 +7,4 @@ pub mod mesh;
 mod morph_targets;
 pub mod skin;
 mod table;
+pub mod typed;

@@ -2,9 +2,14 @@
 #![tactic(auto)]
 
 pub mod json;
+pub mod laws;
 mod layout;
 pub mod page;
 mod picture;
+mod primitives;
+pub mod printable;
+mod shapes;
+mod shown;
 mod table;
 mod tables;
 pub mod text;

@@ -1,21 +1,16 @@
 //! The data of the picture of a page: what the script draws, as JSON.
-use gltf::mesh::util::{ReadIndices, ReadPositions};
-use gltf::mesh::{Primitive, Reader};
-use gltf::{Buffer, Document};
-use gltf_items::F32;
+use crate::primitives::{Source, Thinned};
+use crate::shown::{Shown, roots};
+use gltf::Document;
 use gltf_json::root::Root;
-use gltf_json_record::validation::Checked;
 use gltf_json_scene::scene::Node;
 use serde_json::Value;
 use std::alloc::{AllocError, Global};
 
-/// How many positions and indices a page has at most, so that a large file makes no page that a
-/// browser cannot show.
-const MOST: usize = 400_000;
-
-/// The data as JSON text: the roots of the scene, the nodes with their transforms as they stand,
-/// and of each primitive its mode, its positions (the four bytes of each number as an unsigned
-/// number) and its indices; and how many positions and indices are left out.
+/// The data as JSON text: the roots of the scene; the nodes below them with their transforms as
+/// they stand; the primitives of the meshes that these name, as [`Thinned`] writes them; and
+/// whether they are points alone. A 0 stands for a node, and an empty list for a mesh, that is not
+/// shown.
 pub(crate) fn picture(
     alloc: Global,
     document: &Document,
@@ -33,53 +28,69 @@ fn add_picture(
     data: &mut Vec<u8>,
 ) -> Result<(), AllocError> {
     let root = document.as_json();
+    let roots = roots(alloc, root)?;
+    let shown = Shown::below(alloc, root, roots.as_slice())?;
     add(data, "{\"roots\":[")?;
-    add_roots(root, data)?;
+    for (i, node) in roots.iter().enumerate() {
+        add_comma(i, data)?;
+        add_number(*node as u64, data)?;
+    }
     add(data, "],\n\"nodes\":[")?;
+    add_nodes(alloc, root, &shown, data)?;
+    add(data, "],\n\"meshes\":[")?;
+    add_meshes(&Source { document, buffers }, &shown, data)
+}
+
+fn add_nodes(
+    alloc: Global,
+    root: &Root,
+    shown: &Shown,
+    data: &mut Vec<u8>,
+) -> Result<(), AllocError> {
     for (i, node) in root.nodes.iter().enumerate() {
         add_comma(i, data)?;
-        add_node(alloc, node, data)?;
+        if shown.has_node(i) {
+            add_node(alloc, node, data)?;
+        } else {
+            add(data, "0")?;
+        }
     }
-    add(data, "],\n\"meshes\":[")?;
-    let mut room = Room { left: MOST, out: 0 };
-    for i in 0..root.meshes.len() {
+    Ok(())
+}
+
+/// Adds the meshes, and what is behind them.
+fn add_meshes(
+    source: &Source<'_, '_>,
+    shown: &Shown,
+    data: &mut Vec<u8>,
+) -> Result<(), AllocError> {
+    let mut thinned = Thinned::of(source, shown);
+    for (i, mesh) in source.document.as_json().meshes.iter().enumerate() {
         add_comma(i, data)?;
-        add_mesh(document, buffers, i, &mut room, data)?;
+        add(data, "[")?;
+        if shown.has_mesh(i) {
+            for (j, primitive) in mesh.primitives.iter().enumerate() {
+                add_comma(j, data)?;
+                thinned.add_primitive(source, i, j, primitive, data)?;
+            }
+        }
+        add(data, "]")?;
     }
-    add(data, "],\n\"leftOut\":")?;
-    add_number(room.out, data)?;
+    let is_points = if thinned.is_points() { "true" } else { "false" };
+    add(data, "],\n\"isPoints\":")?;
+    add(data, is_points)?;
     add(data, "}")
 }
 
 /// Adds a comma in front of every element but the first.
-fn add_comma(i: usize, data: &mut Vec<u8>) -> Result<(), AllocError> {
+pub(crate) fn add_comma(i: usize, data: &mut Vec<u8>) -> Result<(), AllocError> {
     if i > 0 {
         data.push(b',')?;
     }
     Ok(())
 }
 
-/// How many numbers may still be written, and how many were left out.
-#[derive(Drop)]
-struct Room {
-    left: usize,
-    out: u64,
-}
-
-impl Room {
-    /// Takes the room of so many, or counts them as left out.
-    fn take(&mut self, count: usize) -> bool {
-        if count <= self.left {
-            self.left -= count;
-            true
-        } else {
-            self.out = self.out.saturating_add(count as u64);
-            false
-        }
-    }
-}
-
-fn add(data: &mut Vec<u8>, text: &str) -> Result<(), AllocError> {
+pub(crate) fn add(data: &mut Vec<u8>, text: &str) -> Result<(), AllocError> {
     data.extend_from_slice(text.as_bytes())?;
     Ok(())
 }
@@ -99,29 +110,6 @@ pub(crate) fn add_number(n: u64, data: &mut Vec<u8>) -> Result<(), AllocError> {
         }
         if !is_leading {
             data.push(*digit)?;
-        }
-    }
-    Ok(())
-}
-
-/// The roots of the scene that is shown first, else of the first one; else all nodes.
-fn add_roots(root: &Root, data: &mut Vec<u8>) -> Result<(), AllocError> {
-    let shown = match root.scene {
-        Some(index) => index.value(),
-        None => 0,
-    };
-    match root.scenes.get(shown) {
-        Some(scene) => {
-            for (i, node) in scene.nodes.iter().enumerate() {
-                add_comma(i, data)?;
-                add_number(node.value() as u64, data)?;
-            }
-        }
-        None => {
-            for i in 0..root.nodes.len() {
-                add_comma(i, data)?;
-                add_number(i as u64, data)?;
-            }
         }
     }
     Ok(())
@@ -157,137 +145,4 @@ fn add_value(
         add(data, text.as_str())?;
     }
     Ok(())
-}
-
-fn add_mesh(
-    document: &Document,
-    buffers: &[&[u8]],
-    mesh: usize,
-    room: &mut Room,
-    data: &mut Vec<u8>,
-) -> Result<(), AllocError> {
-    add(data, "[")?;
-    if let Some(record) = document.as_json().meshes.get(mesh) {
-        for (i, primitive) in record.primitives.iter().enumerate() {
-            add_comma(i, data)?;
-            let mode = match primitive.mode {
-                Checked::Valid(mode) => mode.as_str(),
-                Checked::Invalid => "",
-            };
-            add(data, "{\"mode\":\"")?;
-            add(data, mode)?;
-            add(data, "\",\"positions\":[")?;
-            add_positions(document, buffers, mesh, i, room, data)?;
-            add(data, "]")?;
-            add_indices(document, buffers, mesh, i, room, data)?;
-            add(data, "}")?;
-        }
-    }
-    add(data, "]")
-}
-
-fn add_positions(
-    document: &Document,
-    buffers: &[&[u8]],
-    mesh: usize,
-    primitive: usize,
-    room: &mut Room,
-    data: &mut Vec<u8>,
-) -> Result<(), AllocError> {
-    let Some(mut positions) = positions_of(document, buffers, mesh, primitive) else {
-        return Ok(());
-    };
-    let count = positions.len();
-    if !room.take(count) {
-        return Ok(());
-    }
-    for i in 0..count {
-        add_position(i, positions.next(), data)?;
-    }
-    Ok(())
-}
-
-fn primitive_of(document: &Document, mesh: usize, primitive: usize) -> Option<Primitive<'_>> {
-    document.meshes().nth(mesh)?.primitives().nth(primitive)
-}
-
-/// The bytes of a buffer, among those of all.
-fn bytes_of<'s>(buffers: &[&'s [u8]], buffer: Buffer) -> Option<&'s [u8]> {
-    let bytes = buffers.get(buffer.index())?;
-    Some(*bytes)
-}
-
-/// The positions of the vertices of a primitive; None where it has none that can be read.
-fn positions_of<'s>(
-    document: &Document,
-    buffers: &[&'s [u8]],
-    mesh: usize,
-    primitive: usize,
-) -> Option<ReadPositions<'s>> {
-    let bytes = |buffer: Buffer| bytes_of(buffers, buffer);
-    let primitive = primitive_of(document, mesh, primitive)?;
-    Reader::new(&primitive, &bytes).read_positions()
-}
-
-/// The indices of the vertices of a primitive, as [`positions_of`].
-fn indices_of<'s>(
-    document: &Document,
-    buffers: &[&'s [u8]],
-    mesh: usize,
-    primitive: usize,
-) -> Option<ReadIndices<'s>> {
-    let bytes = |buffer: Buffer| bytes_of(buffers, buffer);
-    let primitive = primitive_of(document, mesh, primitive)?;
-    Reader::new(&primitive, &bytes).read_indices()
-}
-
-fn add_position(
-    i: usize,
-    position: Option<[F32; 3]>,
-    data: &mut Vec<u8>,
-) -> Result<(), AllocError> {
-    let Some(position) = position else {
-        return Ok(());
-    };
-    add_comma(i, data)?;
-    add_bits(position[0], data)?;
-    add(data, ",")?;
-    add_bits(position[1], data)?;
-    add(data, ",")?;
-    add_bits(position[2], data)
-}
-
-fn add_bits(number: F32, data: &mut Vec<u8>) -> Result<(), AllocError> {
-    add_number(u64::from(u32::from_le_bytes(number.to_bytes())), data)
-}
-
-fn add_indices(
-    document: &Document,
-    buffers: &[&[u8]],
-    mesh: usize,
-    primitive: usize,
-    room: &mut Room,
-    data: &mut Vec<u8>,
-) -> Result<(), AllocError> {
-    let Some(indices) = indices_of(document, buffers, mesh, primitive) else {
-        return Ok(());
-    };
-    let mut indices = indices.into_u32();
-    let count = indices.len();
-    if !room.take(count) {
-        return Ok(());
-    }
-    add(data, ",\"indices\":[")?;
-    for i in 0..count {
-        add_index(i, indices.next(), data)?;
-    }
-    add(data, "]")
-}
-
-fn add_index(i: usize, index: Option<u32>, data: &mut Vec<u8>) -> Result<(), AllocError> {
-    let Some(index) = index else {
-        return Ok(());
-    };
-    add_comma(i, data)?;
-    add_number(u64::from(index), data)
 }

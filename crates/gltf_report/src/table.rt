@@ -1,7 +1,12 @@
 //! A table of texts.
+use crate::printable::push_printable;
 use gltf_html::escape::add_text;
 use std::alloc::{AllocError, Global};
 use std::io::{self, Write};
+
+/// A column is not wider than so many characters, so that one long text makes no long rows: it moves
+/// what is behind it in its own row alone.
+const WIDEST: usize = 80;
 
 /// A table: its title, the names of its columns, and its cells, row by row.
 #[derive(Debug, Drop)]
@@ -27,10 +32,11 @@ impl Table {
         }
     }
 
-    /// One more cell: a text, with control characters as `\\u00XX`; one that is empty is `-`.
+    /// One more cell: a text, with control characters as `\uXXXX`; one that is empty is `-`.
     pub(crate) fn add(&mut self, text: &str) -> Result<(), AllocError> {
-        let text = if text.is_empty() { "-" } else { text };
-        self.cells.push(printable(self.alloc, text)?)?;
+        let mut cell = String::new(self.alloc);
+        push_printable(if text.is_empty() { "-" } else { text }, &mut cell)?;
+        self.cells.push(cell)?;
         Ok(())
     }
 
@@ -49,7 +55,8 @@ impl Table {
     }
 
     /// Writes the table as text: a line with its title, one with the names of its columns, and one
-    /// for each row, in columns as wide as their widest text. A table without rows is one line.
+    /// for each row, in columns as wide as their widest text, or as [`WIDEST`] is. A table without rows
+    /// is one line.
     pub(crate) fn write_text<O: Write>(&self, out: &mut O) -> io::Result<()> {
         let title = self.title;
         if self.cells.is_empty() {
@@ -74,7 +81,7 @@ impl Table {
         if next < self.columns.len() { next } else { 0 }
     }
 
-    /// The number of characters of the widest text of each column.
+    /// The number of characters of the widest text of each column, and [`WIDEST`] at most.
     fn widths(&self) -> Result<Vec<usize>, AllocError> {
         let mut widths = vec![in self.alloc; 0usize; self.columns.len()]?;
         for (i, name) in self.columns.iter().enumerate() {
@@ -140,24 +147,10 @@ impl Table {
 }
 
 fn widen(widths: &mut Vec<usize>, column: usize, text: &str) {
-    let width = text.chars().count();
+    let width = text.chars().count().min(WIDEST);
     if let Some(widest) = widths.get_mut(column) {
         if *widest < width {
             *widest = width;
         }
     }
-}
-
-/// A text with control characters as `\\u00XX`.
-fn printable(alloc: Global, text: &str) -> Result<String, AllocError> {
-    let mut shown = String::new(alloc);
-    for c in text.chars() {
-        let code = c as u32;
-        if code < 32 || code == 127 {
-            write!(shown, "\\u{code:04x}")?;
-        } else {
-            shown.push(c)?;
-        }
-    }
-    Ok(shown)
 }

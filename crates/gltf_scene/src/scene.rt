@@ -161,6 +161,13 @@ impl<'a, D: Records> Node<'a, D> {
         Some(&lent(&self.inner.json.extensions)?.others)
     }
 
+    /// The document that it is of.
+    pub fn document(&self) -> &'a D
+        ensures { D.root result.now ≡ (node_handle self.now).document }
+    {
+        self.inner.document
+    }
+
     /// The extension of this name, where it is not known at a node.
     pub fn extension_value(&self, name: &str) -> Option<&'a Value>
         ensures { option_copied result ≡ extension_named name.now

@@ -2,5 +2,7 @@
 #![tactic(auto)]
 
 mod import;
+mod inside;
 
 pub use import::import_shared;
+pub use inside::{InsideUpTo, Outsider};

@@ -1,4 +1,5 @@
 //! What is found in files.
+use crate::kept::{Kept, Part};
 use crate::looked::{Looked, look_at, look_at_alone};
 use gltf::Error;
 use gltf_findings::report::Report;
@@ -6,7 +7,8 @@ use gltf_json::root::Root;
 use gltf_report::json::json_text;
 use gltf_report::page::lent_page;
 use gltf_report::text::write_text;
-use gltf_shared::{RegularFolder, slices};
+use gltf_shared::{AskUpTo, RegularFolder, slices};
+use gltf_shared_files::{InsideUpTo, Outsider};
 use serde_json::Value;
 use std::alloc::{AllocError, Global};
 use std::io::Write;
@@ -23,6 +25,8 @@ struct Asked {
     html: bool,
     /// Without the files that buffers name: `--no-files`.
     no_files: bool,
+    /// With files from outside the folder of the file too: `--outside`.
+    outside: bool,
 }
 
 impl Asked {
@@ -32,6 +36,7 @@ impl Asked {
             pretty: words.contains(&"--pretty"),
             html: words.contains(&"--html"),
             no_files: words.contains(&"--no-files"),
+            outside: words.contains(&"--outside"),
         }
     }
 
@@ -45,6 +50,9 @@ impl Asked {
         }
         if self.pretty && !self.json {
             return Some("--pretty: only with --json");
+        }
+        if self.outside && self.no_files {
+            return Some("--outside: not with --no-files");
         }
         None
     }
@@ -73,7 +81,10 @@ fn is_option(word: &str) -> bool {
 }
 
 fn is_known(word: &str) -> bool {
-    word == "--json" || word == "--pretty" || word == "--html" || word == "--no-files"
+    matches!(
+        word,
+        "--json" | "--pretty" | "--html" | "--no-files" | "--outside"
+    )
 }
 
 /// Writes what is found in each of the files that the words name, in order, and gives the greatest
@@ -124,15 +135,39 @@ fn greater(worst: Option<u8>, status: u8) -> Option<u8> {
     }
 }
 
-fn inspect_file<O: Write, E: Write>(
-    rt: &HostRuntime,
+/// Files that buffers name are looked for in the folder of the file. Those outside of it are read
+/// only with `--outside`; without, `err` has a line for each that is not.
+fn inspect_file<'a, O: Write, E: Write>(
+    rt: &'a HostRuntime,
     alloc: Global,
+    path: &'a str,
+    asked: Asked,
+    out: &mut O,
+    err: &mut E,
+) -> u8 {
+    let base = gltf::base_of(path);
+    let folder = RegularFolder::new(rt, alloc, base);
+    if asked.outside {
+        let mut source = Kept::new(folder, Part::Text);
+        return inspect_from(alloc, &mut source, path, asked, out, err);
+    }
+    let inside = InsideUpTo::new(rt, alloc, base, path, folder);
+    let mut source = Kept::new(inside, Part::Text);
+    let status = inspect_from(alloc, &mut source, path, asked, out, err);
+    write_outsiders(path, source.source().outsiders(), err);
+    status
+}
+
+/// The same out of a source.
+fn inspect_from<S: AskUpTo + Drop, O: Write, E: Write>(
+    alloc: Global,
+    source: &mut Kept<S>,
     path: &str,
     asked: Asked,
     out: &mut O,
     err: &mut E,
 ) -> u8 {
-    match file_at(rt, alloc, path, asked) {
+    match file_from(alloc, source, path, asked) {
         Ok(looked) => write_report(alloc, &looked, path, asked, out, err),
         Err(cause) => {
             let _ = writeln!(err, "{path}: {cause}");
@@ -141,13 +176,26 @@ fn inspect_file<O: Write, E: Write>(
     }
 }
 
-/// Files that buffers name are looked for in the folder of the file.
-fn file_at(rt: &HostRuntime, alloc: Global, path: &str, asked: Asked) -> Result<Looked, Error> {
-    let mut folder = RegularFolder::new(rt, alloc, gltf::base_of(path));
+/// The file, and what its buffers name, out of a source.
+fn file_from<S: AskUpTo + Drop>(
+    alloc: Global,
+    source: &mut Kept<S>,
+    path: &str,
+    asked: Asked,
+) -> Result<Looked, Error> {
     if asked.no_files {
-        look_at_alone(alloc, &mut folder, path)
+        look_at_alone(alloc, source, path)
     } else {
-        look_at(alloc, folder, path)
+        look_at(alloc, source, path)
+    }
+}
+
+/// Writes a line for each file that was not read, since it stands outside.
+fn write_outsiders<E: Write>(path: &str, outsiders: &[Outsider], err: &mut E) {
+    for outsider in outsiders {
+        let name = outsider.name.as_str();
+        let cause = &outsider.cause;
+        let _ = writeln!(err, "{path}: {name}: {cause}; --outside reads it");
     }
 }
 

@@ -37,6 +37,11 @@ impl<S: AskUpTo + Drop> Kept<S> {
         }
     }
 
+    /// The source.
+    pub(crate) fn source(&self) -> &S {
+        &self.source
+    }
+
     /// The part of the first file; `None` where it has none or is too long. Fails where there was
     /// no memory for it.
     pub(crate) fn part(&self) -> Result<Option<&[u8]>, AllocError> {

@@ -1,5 +1,5 @@
 //! Files that are looked at, and what the messages about them need.
-use crate::kept::{Kept, Part, text_of};
+use crate::kept::{Kept, text_of};
 use gltf::{Error, Name};
 use gltf_findings::code::Code;
 use gltf_findings::report::Report;
@@ -24,11 +24,10 @@ pub(crate) struct Looked {
 /// Looks at a file, and at those that its buffers name.
 pub(crate) fn look_at<S: AskUpTo + Drop>(
     alloc: Global,
-    source: S,
+    source: &mut Kept<S>,
     path: &str,
 ) -> Result<Looked, Error> {
-    let mut source = Kept::new(source, Part::Text);
-    let file = inspect_lent_from(alloc, &mut source, path, Some(SHARE))?;
+    let file = inspect_lent_from(alloc, source, path, Some(SHARE))?;
     let value = value_for(alloc, &file.report, source.part())?;
     Ok(Looked { file, value })
 }

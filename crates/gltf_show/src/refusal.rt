@@ -65,8 +65,11 @@ impl fmt::Display for Refusal {
             Refusal::Usage => {
                 write!(f, "usage: gltf_show chunks PATH | check PATH | ")?;
                 write!(f, "indices PATH MESH PRIMITIVE | ")?;
-                write!(f, "inspect PATH.. [--json [--pretty]] [--no-files] | ")?;
-                write!(f, "inspect PATH --html [--no-files]")
+                write!(
+                    f,
+                    "inspect PATH.. [--json [--pretty]] [--no-files|--outside] | "
+                )?;
+                write!(f, "inspect PATH --html [--no-files|--outside]")
             }
             Refusal::File(error) => write!(f, "{error}"),
             Refusal::NoMesh => write!(f, "no such mesh"),

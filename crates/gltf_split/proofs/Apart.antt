@@ -16,6 +16,7 @@ use Rattle.gltf_bundle.specs.Media.{begun_media}
 use Rattle.gltf_split.specs.Images.{AreParts, AreImages}
 use Rattle.gltf_split.specs.Laws.{names_of_buffers, names_of_images}
 use Rattle.gltf_split.specs.Laws.{IsNoneOf, AreApart, HasNamesApart}
+use Rattle.gltf_required.specs.declared.required.Required.{Required}
 use Rattle.gltf_split.specs.Splits.{IsSplit, AreNamed}
 use Rattle.gltf_split.specs.declared.splitting.Pieces.{Pieces}
 
@@ -298,8 +299,8 @@ buffers_apart stem ps false is named h =
 few : {X : Type 0} (v : Vec X Global) → length v.items < 2 ^ 64
 few v = omega (arith, v.ok.0, v.ok.1, v.small)
 
-module _ (names : Names) (path stem : List ℕ) (keep drop : Bool) (set : Pieces)
-    (is : IsSplit names path stem keep drop set) where
+module _ (required : Required) (names : Names) (path stem : List ℕ) (keep drop : Bool)
+    (set : Pieces) (is : IsSplit required names path stem keep drop set) where
   abbrev buffers : List (List ℕ)
   buffers = names_of_buffers set.buffers.items
 
@@ -338,5 +339,7 @@ module _ (names : Names) (path stem : List ℕ) (keep drop : Bool) (set : Pieces
       (λ j y small y_is same. text_image stem j y_is.ending (same ∙ y_is.is)) 0 images images_are)
 
 pub names_apart : HasNamesApart
-names_apart names path stem keep drop set is =
-    (text_apart names path stem keep drop set is, files_apart names path stem keep drop set is)
+names_apart required names path stem keep drop set is = (
+  text_apart required names path stem keep drop set is,
+  files_apart required names path stem keep drop set is,
+)

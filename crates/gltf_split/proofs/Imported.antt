@@ -21,7 +21,9 @@ use Rattle.gltf_buffers.specs.Buffers.{BufferFault, long_enough, TooShort, meant
 use Rattle.gltf_buffers.specs.Names.{Names, Held, MayBeGiven, name_of}
 use Rattle.gltf_buffers.specs.Padding.{padded}
 use Rattle.gltf_buffers.specs.Uri as uri
-use Rattle.gltf.specs.Import.{IsValidDocument}
+use Rattle.gltf.specs.Import.{IsDocument}
+use Rattle.gltf_required.specs.Import.{IsRead, IsValidAs}
+use Rattle.gltf_required.specs.declared.required.Required.{Required}
 use Rattle.gltf_detach.specs.Naming.{buffer_uris, image_uris, image_uri, uri_of_part}
 use Rattle.gltf_detach.specs.declared.part.Part.{Part}
 use Rattle.gltf_detached.specs.Laws.{IsDetached, NamesBuffers, NamesImages, LeadToNames, ReadsFiles}
@@ -40,15 +42,14 @@ of_some same = cc
 
 -- ---- the records
 
-module _ (names : Names) (path stem : List ℕ) (keep drop : Bool) (set : Pieces)
-    (is : IsSplit names path stem keep drop set) (s : Root) (blob : Option (List ℕ))
-    (valid : IsValidDocument (string_bytes set.json) s blob) where
+module _ (required : Required) (names : Names) (path stem : List ℕ) (keep drop : Bool)
+    (set : Pieces) (is : IsSplit required names path stem keep drop set) (s : Root)
+    (blob : Option (List ℕ)) (document : IsDocument (string_bytes set.json) s blob) where
   abbrev left : Data
   left = value_left drop is.value is.whole
 
-  the_value : valid.document.value ≡ split_value set left
+  the_value : document.value ≡ split_value set left
   the_value =
-      let document = valid.document in
       let same = the_text (string_bytes set.json) document.text blob (split_value set left)
       is.reads.1 document.parts in
       let reads = subst (λ (t : List ℕ). Reads t document.value) same document.reads in
@@ -59,7 +60,7 @@ module _ (names : Names) (path stem : List ℕ) (keep drop : Bool) (set : Pieces
   is_detached r read = record {
     value = left;
     before = read;
-    after = subst (λ (d : Data). root.is d s) the_value valid.document.records;
+    after = subst (λ (d : Data). root.is d s) the_value document.records;
   }
 
 -- ---- the buffers
@@ -149,9 +150,10 @@ not_less : (a b : ℕ) → b ≤ a → nat_lt a b ≡ false
 not_less a b h = grind arith
 
 -- the file is read over the bytes of its buffers
-source_over : (names : Names) (path : List ℕ) (value : Data) (r : Root) (buffers : List (List ℕ))
-    → IsSource names path value r buffers → IsReadOver value r buffers
-source_over names path value r buffers source = record {
+source_over : (required : Required) (names : Names) (path : List ℕ) (value : Data) (r : Root)
+    (buffers : List (List ℕ)) → IsSource required names path value r buffers
+    → IsReadOver value r buffers
+source_over required names path value r buffers source = record {
   is = source.records;
   count = source.data_.count ∙ length_of_map source_of r.buffers.items;
   each =
@@ -186,19 +188,20 @@ left_over trimmed true value r whole over =
     record { root_ = found.0; over = found.1; images = found.2 }
 left_over trimmed false value r whole over = record { root_ = r; over = over; images = refl }
 
-pub split_over : (names : Names) (path stem : List ℕ) (keep drop : Bool) (set : Pieces)
-    (is : IsSplit names path stem keep drop set) → IsReadOver is.value is.root_ is.whole
-split_over names path stem keep drop set is =
-    source_over names path is.value is.root_ is.whole is.source
+pub split_over : (required : Required) (names : Names) (path stem : List ℕ) (keep drop : Bool)
+    (set : Pieces) (is : IsSplit required names path stem keep drop set)
+    → IsReadOver is.value is.root_ is.whole
+split_over required names path stem keep drop set is =
+    source_over required names path is.value is.root_ is.whole is.source
 
 -- what is left of the file that a set is of
-pub split_left : IsReadTrimmed → (names : Names) (path stem : List ℕ) (keep drop : Bool)
-    (set : Pieces) (is : IsSplit names path stem keep drop set)
+pub split_left : IsReadTrimmed → (required : Required) (names : Names) (path stem : List ℕ)
+    (keep drop : Bool) (set : Pieces) (is : IsSplit required names path stem keep drop set)
     → IsLeftOver drop is.value is.root_ is.whole (bytes_of_parts set.buffers.items)
-split_left trimmed names path stem keep drop set is =
+split_left trimmed required names path stem keep drop set is =
     subst (λ (xs : List (List ℕ)). IsLeftOver drop is.value is.root_ is.whole xs) (sym is.bytes)
     (left_over trimmed drop is.value is.root_ is.whole
-    (split_over names path stem keep drop set is))
+    (split_over required names path stem keep drop set is))
 
 module _ (value : Data) (r : Root) (ps : List Part) (over : IsReadOver value r (bytes_of_parts ps))
   where
@@ -213,10 +216,12 @@ module _ (value : Data) (r : Root) (ps : List Part) (over : IsReadOver value r (
         (over.each i found.0 found.1).fours)
 
 pub has_its_buffers : NamesBuffers → ReadsFiles → IsReadTrimmed → HasItsBuffers
-has_its_buffers named files trimmed names path stem keep drop set is there holds s others accepts =
+has_its_buffers named files trimmed required names path stem keep drop set is there holds s others
+    accepts =
     let ps = set.buffers.items in
-    let detached = is_detached names path stem keep drop set is s accepts.blob accepts.valid in
-    let left = split_left trimmed names path stem keep drop set is in
+    let detached = is_detached required names path stem keep drop set is s accepts.blob
+    accepts.document in
+    let left = split_left trimmed required names path stem keep drop set is in
     let value = value_left drop is.value is.whole in
     let are = named (buffer_uris ps) (image_uris set.images.items) left.root_ s
     (detached left.root_ left.over.is) in
@@ -286,16 +291,16 @@ file_at (p ∷ ps) (suc i) h =
     let later = file_at ps i (omega arith) in
     record { part = later.part; there = later.there; is = later.is }
 
-module _ (named : NamesBuffers) (lead : LeadToNames) (trimmed : IsReadTrimmed) (names : Names)
-    (path stem : List ℕ) (keep drop : Bool) (set : Pieces)
-    (is : IsSplit names path stem keep drop set) (there : Holds)
+module _ (named : NamesBuffers) (lead : LeadToNames) (trimmed : IsReadTrimmed)
+    (required : Required) (names : Names) (path stem : List ℕ) (keep drop : Bool) (set : Pieces)
+    (is : IsSplit required names path stem keep drop set) (passing : Required) (there : Holds)
     (holds : HoldsBuffers there set) (s : Root) (blob : Option (List ℕ))
-    (valid : IsValidDocument (string_bytes set.json) s blob) where
+    (valid : IsValidAs passing (string_bytes set.json) s blob) where
   abbrev parts : List Part
   parts = set.buffers.items
 
   abbrev left_there : IsLeftOver drop is.value is.root_ is.whole (bytes_of_parts parts)
-  left_there = split_left trimmed names path stem keep drop set is
+  left_there = split_left trimmed required names path stem keep drop set is
 
   abbrev own_root : Root
   own_root = left_there.root_
@@ -303,7 +308,8 @@ module _ (named : NamesBuffers) (lead : LeadToNames) (trimmed : IsReadTrimmed) (
   are : AreNamed (buffer_uris parts) own_root s
   are =
       named (buffer_uris parts) (image_uris set.images.items) own_root s
-      (is_detached names path stem keep drop set is s blob valid own_root left_there.over.is)
+      (is_detached required names path stem keep drop set is s blob valid.document own_root
+      left_there.over.is)
 
   own : length own_root.buffers.items ≡ length parts
   own = own_count (value_left drop is.value is.whole) own_root parts left_there.over
@@ -340,7 +346,7 @@ module _ (named : NamesBuffers) (lead : LeadToNames) (trimmed : IsReadTrimmed) (
       (subst (λ (c : Source).
       IsBytesOf (Held there) (blob_for (sources_of s) blob i) i c (Ok p.bytes.items)) same read)
 
-  accepted : IsAcceptedOver there set
+  accepted : IsAcceptedOver passing there set
   accepted = (
     s,
     bytes_of_parts parts,
@@ -355,16 +361,19 @@ module _ (named : NamesBuffers) (lead : LeadToNames) (trimmed : IsReadTrimmed) (
   )
 
 pub accepted_over : NamesBuffers → LeadToNames → IsReadTrimmed → IsTakenOver
-accepted_over named lead trimmed names path stem keep drop set is text there holds =
-    accepted named lead trimmed names path stem keep drop set is there holds text.0 text.1 text.2
+accepted_over named lead trimmed required names path stem keep drop set is passing text there
+    holds =
+    accepted named lead trimmed required names path stem keep drop set is passing there holds text.0
+    text.1 text.2
 
 -- ---- images
 
 pub shows_images : NamesImages → LeadToNames → IsReadTrimmed → ShowsImages
-shows_images named lead trimmed names path stem keep drop set is there s others accepts i p at holds
-    x before =
-    let left = split_left trimmed names path stem keep drop set is in
-    let detached = is_detached names path stem keep drop set is s accepts.blob accepts.valid
+shows_images named lead trimmed required names path stem keep drop set is there s others accepts i
+    p at holds x before =
+    let left = split_left trimmed required names path stem keep drop set is in
+    let detached = is_detached required names path stem keep drop set is s accepts.blob
+    accepts.document
     left.root_ left.over.is in
     let u = uri_of_part p in
     let image : slice_get left.root_.images.items i ≡ Some x =

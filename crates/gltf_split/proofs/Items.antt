@@ -30,10 +30,10 @@ kept_left t law read false value r whole over index result = (λ reads. reads, �
 
 pub keeps_items : {X : Type 0} (t : Ghosts X) → HasItsBuffers → IsReadTrimmed
     → trimmed.KeepsItems t → detached.KeepsItems t → KeepsItems t
-keeps_items t own read law named names path stem keep drop set is there holds s others accepts index
-    result =
-    let found = own names path stem keep drop set is there holds s others accepts in
-    let over = split_over names path stem keep drop set is in
+keeps_items t own read law named required names path stem keep drop set is there holds s others
+    accepts index result =
+    let found = own required names path stem keep drop set is there holds s others accepts in
+    let over = split_over required names path stem keep drop set is in
     let left = left_over read drop is.value is.root_ is.whole over in
     let all = bytes_left drop is.value is.whole in
     subst (λ (xs : List (List ℕ)).

@@ -14,7 +14,8 @@ use Rattle.gltf_glb.specs.declared.error.Error.TheVariants as glb
 use Rattle.gltf_names.specs.Named.{Named}
 use Rattle.gltf_buffers.specs.Names.{Names}
 use Rattle.gltf.specs.Errors.{OutOfMemoryOr}
-use Rattle.gltf.specs.Files.{RefusesFileAt}
+use Rattle.gltf_required.specs.Files.{RefusesFileAs}
+use Rattle.gltf_required.specs.declared.required.Required.{Required}
 use Rattle.gltf_bundle.specs.Bundle.{IsSource}
 use Rattle.gltf_bundle.specs.Images.{IsUnread, RefusesRead, text_at}
 use Rattle.gltf_bundle.specs.Refusals.{RefusesSource}
@@ -83,9 +84,10 @@ module _ (names : Names) (buffers : List (List ℕ)) (document : Data) (old new 
 memory_of : (P : Error → Type 0) (e : Error) → e ≡ glb.Memory → OutOfMemoryOr P e
 memory_of P e is = subst (OutOfMemoryOr P) (sym is) tt
 
-module _ (names : Names) (path stem : List ℕ) (keep drop : Bool) (old new : List Named) where
-  pub source_refused : (e : BundleError) → RefusesSource names path old new e
-      → RefusesSplit names path stem keep drop old new e
+module _ (required : Required) (names : Names) (path stem : List ℕ) (keep drop : Bool)
+    (old new : List Named) where
+  pub source_refused : (e : BundleError) → RefusesSource required names path old new e
+      → RefusesSplit required names path stem keep drop old new e
   source_refused (bundle.Import e) told = told
   source_refused (bundle.View v) told = absurd told
   source_refused (bundle.Image i e) told = absurd told
@@ -94,17 +96,17 @@ module _ (names : Names) (path stem : List ℕ) (keep drop : Bool) (old new : Li
   source_refused (bundle.Answer e) told = absurd told
 
   pub memory_refused : (e : BundleError) → e ≡ bundle.Import glb.Memory
-      → RefusesSplit names path stem keep drop old new e
+      → RefusesSplit required names path stem keep drop old new e
   memory_refused e is =
-      subst (RefusesSplit names path stem keep drop old new) (sym is) tt
+      subst (RefusesSplit required names path stem keep drop old new) (sym is) tt
 
   module _ (value : Data) (r : Root) (buffers : List (List ℕ))
-      (source : IsSource names path value r buffers) (not_kept : keep ≡ false) where
+      (source : IsSource required names path value r buffers) (not_kept : keep ≡ false) where
     pub images_refused : (e : BundleError)
         → RefusesImages names buffers value (items_at (codes "images") value) old new e
-        → RefusesSplit names path stem keep drop old new e
+        → RefusesSplit required names path stem keep drop old new e
     images_refused (bundle.Import e) told =
-        memory_of (RefusesFileAt names path old new) e told
+        memory_of (RefusesFileAs required names path old new) e told
     images_refused (bundle.View v) told = record {
       value = value;
       root_ = r;

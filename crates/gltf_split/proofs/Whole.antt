@@ -14,6 +14,7 @@ use Rattle.gltf_buffers.specs.declared.data.Data.{Data as Buffer}
 use Rattle.gltf_trim.specs.Lengths.{lengths}
 use Rattle.gltf_trim.specs.Marks.{staying}
 use Rattle.gltf_trim.specs.TrimmedLaws.{trimmed_depth}
+use Rattle.gltf_required.specs.declared.required.Required.{Required}
 use Rattle.gltf_bundle.specs.Bundle.{IsSource}
 use Rattle.gltf_split.specs.Images.{AreImages}
 use Rattle.gltf_split.specs.Splits.{IsSplit, AreNamed, bytes_of_parts, value_left, bytes_left}
@@ -26,8 +27,9 @@ left_depth true value whole nests =
     trimmed_depth (staying value) (lengths (staying value) value whole) value max_depth nests
 left_depth false value whole nests = nests
 
-pub is_split : (names : Names) (path stem : List ℕ) (keep drop : Bool) (value : Data) (r : Root)
-    (buffers : List Buffer) → IsSource names path value r (bytes_of_each buffers)
+pub is_split : (required : Required) (names : Names) (path stem : List ℕ) (keep drop : Bool)
+    (value : Data) (r : Root) (buffers : List Buffer)
+    → IsSource required names path value r (bytes_of_each buffers)
     → (left : List Buffer) → bytes_of_each left ≡ bytes_left drop value (bytes_of_each buffers)
     → (set : Pieces) → bytes_of_parts set.buffers.items ≡ bytes_of_each left
     → AreNamed stem (length left) 0 set.buffers.items
@@ -37,9 +39,9 @@ pub is_split : (names : Names) (path stem : List ℕ) (keep drop : Bool) (value 
     ≡ detached (buffer_uris set.buffers.items) (image_uris set.images.items)
     (value_left drop value (bytes_of_each buffers))
     → (depth shown ≤ max_depth → Reads (string_bytes set.json) shown)
-    → IsSplit names path stem keep drop set
-is_split names path stem keep drop value r buffers source left left_is set bytes named images shown
-    is_shown reads =
+    → IsSplit required names path stem keep drop set
+is_split required names path stem keep drop value r buffers source left left_is set bytes named
+    images shown is_shown reads =
     let us = buffer_uris set.buffers.items in
     let vs = image_uris set.images.items in
     let nests : depth shown ≤ max_depth =

@@ -13,8 +13,9 @@ use Rattle.gltf_names.specs.Named.{Named}
 use Rattle.gltf_buffers.specs.Buffers.{IsMeant}
 use Rattle.gltf_buffers.specs.Names.{Names, Held}
 use Rattle.gltf_buffers.specs.Uri.{uri_of}
-use Rattle.gltf.specs.Import.{AcceptsWith}
-use Rattle.gltf_split.specs.Splits.{IsSplit, IsValidText, bytes_of_parts, value_left}
+use Rattle.gltf_required.specs.Import.{AcceptsAs, IsRead}
+use Rattle.gltf_required.specs.declared.required.Required.{Required}
+use Rattle.gltf_split.specs.Splits.{IsSplit, IsValidTextAs, bytes_of_parts, value_left}
 use Rattle.gltf_split.specs.declared.splitting.Pieces.{Pieces}
 
 abbrev pub Holds : Type 0
@@ -25,27 +26,28 @@ abbrev pub HoldsBuffers : Holds → Pieces → Type 0
 HoldsBuffers there set =
     (i : ℕ) (p : Part) → slice_get set.buffers.items i ≡ Some p → HoldsPart there p
 
--- the text of a set is imported, over a source of these files
-abbrev pub IsAcceptedOver : Holds → Pieces → Type 0
-IsAcceptedOver there set =
-    (s : Root) × (others : List (List ℕ)) × AcceptsWith (Held there)
+-- the text of a set is imported, over a source of these files, where these extensions pass
+abbrev pub IsAcceptedOver : Required → Holds → Pieces → Type 0
+IsAcceptedOver required there set =
+    (s : Root) × (others : List (List ℕ)) × AcceptsAs required (Held there)
     (string_bytes set.json) s others
 
 -- so it is over each source that has the files of its buffers
 abbrev pub IsTakenOver : Type 0
 IsTakenOver =
-    (names : Names) (path stem : List ℕ) (keep drop : Bool) (set : Pieces)
-    → IsSplit names path stem keep drop set → IsValidText (string_bytes set.json)
-    → (there : Holds) → HoldsBuffers there set → IsAcceptedOver there set
+    (required : Required) (names : Names) (path stem : List ℕ) (keep drop : Bool) (set : Pieces)
+    → IsSplit required names path stem keep drop set → (passing : Required)
+    → IsValidTextAs passing (string_bytes set.json)
+    → (there : Holds) → HoldsBuffers there set → IsAcceptedOver passing there set
 
--- whatever the text of a set is imported as, where a source has the files of its buffers: the
--- records are those of the edited value, whatever is read of what is left of the value of the file,
--- and the buffers have the bytes of the files
+-- whatever the text of a set is read as, whatever rules it breaks, where a source has the files of
+-- its buffers: the records are those of the edited value, whatever is read of what is left of the
+-- value of the file, and the buffers have the bytes of the files
 abbrev pub HasItsBuffers : Type 0
 HasItsBuffers =
-    (names : Names) (path stem : List ℕ) (keep drop : Bool) (set : Pieces)
-    (is : IsSplit names path stem keep drop set) (there : Holds) → HoldsBuffers there set
-    → (s : Root) (others : List (List ℕ)) → AcceptsWith (Held there)
+    (required : Required) (names : Names) (path stem : List ℕ) (keep drop : Bool) (set : Pieces)
+    (is : IsSplit required names path stem keep drop set) (there : Holds) → HoldsBuffers there set
+    → (s : Root) (others : List (List ℕ)) → IsRead (Held there)
     (string_bytes set.json) s others
     → ((r : Root) → root.is (value_left drop is.value is.whole) r
     → IsDetached (buffer_uris set.buffers.items) (image_uris set.images.items) r s)
@@ -54,9 +56,9 @@ HasItsBuffers =
 -- and each accessor has the items that it has in the file
 abbrev pub KeepsItems : {X : Type 0} → Ghosts X → Type 0
 KeepsItems {X} t =
-    (names : Names) (path stem : List ℕ) (keep drop : Bool) (set : Pieces)
-    (is : IsSplit names path stem keep drop set) (there : Holds) → HoldsBuffers there set
-    → (s : Root) (others : List (List ℕ)) → AcceptsWith (Held there)
+    (required : Required) (names : Names) (path stem : List ℕ) (keep drop : Bool) (set : Pieces)
+    (is : IsSplit required names path stem keep drop set) (there : Holds) → HoldsBuffers there set
+    → (s : Root) (others : List (List ℕ)) → IsRead (Held there)
     (string_bytes set.json) s others
     → (index : ℕ) (result : Option (List X))
     → ReadsAt t is.root_ (slice_get is.whole) index result
@@ -74,9 +76,10 @@ pub record IsShown (there : Holds) (p : Part) (s : Root) (i : ℕ) : Type 0 wher
 -- so is each image that has a file, where a source has this one too
 abbrev pub ShowsImages : Type 0
 ShowsImages =
-    (names : Names) (path stem : List ℕ) (keep drop : Bool) (set : Pieces)
-    (is : IsSplit names path stem keep drop set) (there : Holds) (s : Root) (others : List (List ℕ))
-    → AcceptsWith (Held there) (string_bytes set.json) s others
+    (required : Required) (names : Names) (path stem : List ℕ) (keep drop : Bool) (set : Pieces)
+    (is : IsSplit required names path stem keep drop set) (there : Holds) (s : Root)
+    (others : List (List ℕ))
+    → IsRead (Held there) (string_bytes set.json) s others
     → (i : ℕ) (p : Part) → slice_get set.images.items i ≡ Some (Some p) → HoldsPart there p
     → (x : Image) → slice_get is.root_.images.items i ≡ Some x → IsShown there p s i
 
@@ -109,5 +112,5 @@ AreApart (x ∷ xs) = IsNoneOf x xs × AreApart xs
 -- no two files of a set have the same name, and none has that of the text
 abbrev pub HasNamesApart : Type 0
 HasNamesApart =
-    (names : Names) (path stem : List ℕ) (keep drop : Bool) (set : Pieces)
-    → IsSplit names path stem keep drop set → AreApart (file_names stem set)
+    (required : Required) (names : Names) (path stem : List ℕ) (keep drop : Bool) (set : Pieces)
+    → IsSplit required names path stem keep drop set → AreApart (file_names stem set)

@@ -7,8 +7,9 @@ use Rattle.gltf_glb.specs.declared.error.Error.{Error}
 use Rattle.gltf_names.specs.Named.{Named}
 use Rattle.gltf_buffers.specs.Names.{Names}
 use Rattle.gltf.specs.Errors.{OutOfMemoryOr}
-use Rattle.gltf.specs.Files.{RefusesFileAt}
-use Rattle.gltf.specs.Import.{RefusesDocument}
+use Rattle.gltf_required.specs.Files.{RefusesFileAs}
+use Rattle.gltf_required.specs.Import.{RefusesDocumentAs}
+use Rattle.gltf_required.specs.declared.required.Required.{Required}
 use Rattle.gltf_bundle.specs.Bundle.{IsSource}
 use Rattle.gltf_bundle.specs.declared.error.BundleError.{BundleError}
 use Rattle.gltf_bundle.specs.declared.error.BundleError.TheVariants as bundle
@@ -17,31 +18,31 @@ use Rattle.gltf_split.specs.Splits.{IsSplit}
 use Rattle.gltf_split.specs.declared.splitting.Pieces.{Pieces}
 
 -- the file is accepted, and its images are not kept and are refused so
-pub record HasBadImage (names : Names) (path : List ℕ) (keep : Bool) (old new : List Named)
-    (e : BundleError) : Type 0 where
+pub record HasBadImage (required : Required) (names : Names) (path : List ℕ) (keep : Bool)
+    (old new : List Named) (e : BundleError) : Type 0 where
   pub value : Data
   pub root_ : Root
   pub buffers : List (List ℕ)
-  pub source : IsSource names path value root_ buffers
+  pub source : IsSource required names path value root_ buffers
   pub not_kept : keep ≡ false
   pub told : RefusesImages names buffers value (items_at (codes "images") value) old new e
 
 -- the text of the set is refused
-pub record HasBadText (names : Names) (path stem : List ℕ) (keep drop : Bool) (e : Error) : Type 0
-  where
-    pub set : Pieces
-    pub is : IsSplit names path stem keep drop set
-    pub fault : OutOfMemoryOr (RefusesDocument (string_bytes set.json)) e
+pub record HasBadText (required : Required) (names : Names) (path stem : List ℕ) (keep drop : Bool)
+    (e : Error) : Type 0 where
+  pub set : Pieces
+  pub is : IsSplit required names path stem keep drop set
+  pub fault : OutOfMemoryOr (RefusesDocumentAs required (string_bytes set.json)) e
 
 -- the error is that of the import, or names what does not hold
-abbrev pub RefusesSplit : Names → List ℕ → List ℕ → Bool → Bool → List Named → List Named
-    → BundleError → Type 0
-RefusesSplit names path stem keep drop old new (bundle.Import e) =
-    OutOfMemoryOr (RefusesFileAt names path old new) e
-RefusesSplit names path stem keep drop old new (bundle.View v) =
-    HasBadImage names path keep old new (bundle.View v)
-RefusesSplit names path stem keep drop old new (bundle.Image i e) =
-    HasBadImage names path keep old new (bundle.Image i e)
-RefusesSplit names path stem keep drop old new (bundle.Answer e) =
-    HasBadText names path stem keep drop e
-RefusesSplit names path stem keep drop old new _ = ⊥
+abbrev pub RefusesSplit : Required → Names → List ℕ → List ℕ → Bool → Bool → List Named
+    → List Named → BundleError → Type 0
+RefusesSplit required names path stem keep drop old new (bundle.Import e) =
+    OutOfMemoryOr (RefusesFileAs required names path old new) e
+RefusesSplit required names path stem keep drop old new (bundle.View v) =
+    HasBadImage required names path keep old new (bundle.View v)
+RefusesSplit required names path stem keep drop old new (bundle.Image i e) =
+    HasBadImage required names path keep old new (bundle.Image i e)
+RefusesSplit required names path stem keep drop old new (bundle.Answer e) =
+    HasBadText required names path stem keep drop e
+RefusesSplit required names path stem keep drop old new _ = ⊥

@@ -12,6 +12,8 @@ use Rattle.gltf_trim.specs.Trimmed.{trimmed}
 use Rattle.gltf_trimmed.specs.Laws.{trimmed_bytes}
 use Rattle.gltf_buffers.specs.Names.{Names}
 use Rattle.gltf.specs.Import.{IsValidDocument}
+use Rattle.gltf_required.specs.Import.{IsValidAs}
+use Rattle.gltf_required.specs.declared.required.Required.{Required}
 use Rattle.gltf_bundle.specs.Bundle.{IsSource}
 use Rattle.gltf_split.specs.Images.{AreImages}
 use Rattle.gltf_split.specs.declared.options.SplitOptions.{SplitOptions}
@@ -36,6 +38,11 @@ split_value set value =
 abbrev pub IsValidText : List ℕ → Type 0
 IsValidText text = (r : Root) × (blob : Option (List ℕ)) × IsValidDocument text r blob
 
+-- the same where some of the extensions that it requires pass
+abbrev pub IsValidTextAs : Required → List ℕ → Type 0
+IsValidTextAs required text =
+    (r : Root) × (blob : Option (List ℕ)) × IsValidAs required text r blob
+
 -- the views of images go where this is asked for, unless images are kept
 abbrev pub drops : SplitOptions → Bool
 drops options = if options.keep_images then false else options.drop_image_views
@@ -54,12 +61,12 @@ bytes_left false value whole = whole
 -- the files of the buffers have what is left of the bytes that the file at the path is imported
 -- with, those of the images have the bytes of the images, unless these are kept, and the text is
 -- that of what is left of the value of the file, whose buffers and images name these files
-pub record IsSplit (names : Names) (path stem : List ℕ) (keep drop : Bool) (set : Pieces)
-    : Type 0 where
+pub record IsSplit (required : Required) (names : Names) (path stem : List ℕ) (keep drop : Bool)
+    (set : Pieces) : Type 0 where
   pub value : Data
   pub root_ : Root
   pub whole : List (List ℕ)
-  pub source : IsSource names path value root_ whole
+  pub source : IsSource required names path value root_ whole
   pub bytes : bytes_of_parts set.buffers.items ≡ bytes_left drop value whole
   pub named : AreNamed stem (length set.buffers.items) 0 set.buffers.items
   pub images : AreImages names stem keep whole value set.images.items

@@ -9,4 +9,4 @@ mod splitting;
 mod views;
 
 pub use options::SplitOptions;
-pub use splitting::{Pieces, split};
+pub use splitting::{Pieces, split, split_with};

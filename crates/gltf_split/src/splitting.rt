@@ -6,16 +6,19 @@ ghost use Rattle.serde_json.specs.View.{view};
 ghost use Rattle.gltf_json.specs.Reading.{Reads};
 ghost use Rattle.gltf_buffers.specs.Names.{names_of};
 ghost use Rattle.gltf_buffers.specs.Shown.{bytes_of_each};
-ghost use Rattle.gltf_split.specs.Splits.{IsSplit, IsValidText, AreNamed, bytes_of_parts, drops};
+ghost use Rattle.gltf_required.specs.declared.required.Required.TheVariants.{Supported};
+ghost use Rattle.gltf_split.specs.Splits.{IsSplit, IsValidText, IsValidTextAs, AreNamed};
+ghost use Rattle.gltf_split.specs.Splits.{bytes_of_parts, drops};
 ghost use Rattle.gltf_split.specs.Refusals.{RefusesSplit};
 
 use crate::images::image_parts;
 use crate::left::what_is_left;
 use crate::options::SplitOptions;
 use gltf::buffer::Data;
-use gltf::{Error, Gltf, NamedBytes};
-use gltf_bundle::{BundleError, Loaded, load};
+use gltf::{Error, NamedBytes};
+use gltf_bundle::{BundleError, Loaded, load_with};
 use gltf_detach::{Part, buffer_name, detached};
+use gltf_required::{Required, from_slice_as};
 use serde_json::Value;
 use std::alloc::{AllocError, Global};
 
@@ -66,15 +69,38 @@ pub fn split<S: NamedBytes>(
     stem: &str,
     options: &SplitOptions,
 ) -> Result<Pieces, BundleError>
-    ensures split { IfOk result (IsSplit (names_of (S.bytes_by_name source.old)) path.now stem.now
-        options.now.keep_images (drops options.now)) }
+    ensures split { IfOk result (IsSplit Supported (names_of (S.bytes_by_name source.old)) path.now
+        stem.now options.now.keep_images (drops options.now)) }
     ensures accepted { IfOk result (λ set. IsValidText (string_bytes set.json)) }
-    ensures refused { IfErr result (RefusesSplit (names_of (S.bytes_by_name source.old)) path.now
-        stem.now options.now.keep_images (drops options.now) (S.failures source.old)
+    ensures refused { IfErr result (RefusesSplit Supported (names_of (S.bytes_by_name source.old))
+        path.now stem.now options.now.keep_images (drops options.now) (S.failures source.old)
         (S.failures source.new)) }
 {
-    let set = gathered(alloc, source, path, stem, options)?;
-    match Gltf::from_slice(alloc, set.json.as_bytes()) {
+    split_with(alloc, source, path, stem, options, &Required::Supported)
+}
+
+/// [`split`] of a file that may require these extensions (glTF 2.0, section 3.12, "Specifying
+/// Extensions"). The text requires what the file does, and is read with the same extensions before
+/// it is returned. Nothing that an extension says is read: what it says of views, accessors, images
+/// and textures by their indices stays true, since all keep theirs, but for views that go with
+/// [`SplitOptions::drop_image_views`], which stay where an extension may name them.
+pub fn split_with<S: NamedBytes>(
+    alloc: Global,
+    source: &mut S,
+    path: &str,
+    stem: &str,
+    options: &SplitOptions,
+    required: &Required<'_>,
+) -> Result<Pieces, BundleError>
+    ensures split { IfOk result (IsSplit required.now (names_of (S.bytes_by_name source.old))
+        path.now stem.now options.now.keep_images (drops options.now)) }
+    ensures accepted { IfOk result (λ set. IsValidTextAs required.now (string_bytes set.json)) }
+    ensures refused { IfErr result (RefusesSplit required.now
+        (names_of (S.bytes_by_name source.old)) path.now stem.now options.now.keep_images
+        (drops options.now) (S.failures source.old) (S.failures source.new)) }
+{
+    let set = gathered(alloc, source, path, stem, options, required)?;
+    match from_slice_as(alloc, set.json.as_bytes(), required) {
         Ok(_) => Ok(set),
         Err(Error::Memory) => Err(BundleError::Import(Error::Memory)),
         Err(error) => Err(BundleError::Answer(error)),
@@ -88,14 +114,15 @@ fn gathered<S: NamedBytes>(
     path: &str,
     stem: &str,
     options: &SplitOptions,
+    required: &Required<'_>,
 ) -> Result<Pieces, BundleError>
-    ensures split { IfOk result (IsSplit (names_of (S.bytes_by_name source.old)) path.now stem.now
-        options.now.keep_images (drops options.now)) }
-    ensures refused { IfErr result (RefusesSplit (names_of (S.bytes_by_name source.old)) path.now
-        stem.now options.now.keep_images (drops options.now) (S.failures source.old)
-        (S.failures source.new)) }
+    ensures split { IfOk result (IsSplit required.now (names_of (S.bytes_by_name source.old))
+        path.now stem.now options.now.keep_images (drops options.now)) }
+    ensures refused { IfErr result (RefusesSplit required.now
+        (names_of (S.bytes_by_name source.old)) path.now stem.now options.now.keep_images
+        (drops options.now) (S.failures source.old) (S.failures source.new)) }
 {
-    let Loaded { value, buffers } = load(alloc, source, path)?;
+    let Loaded { value, buffers } = load_with(alloc, source, path, required)?;
     let images = image_parts(alloc, source, &value, options.keep_images, stem, &buffers)?;
     let Loaded {
         value: left,

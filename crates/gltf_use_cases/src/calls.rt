@@ -9,7 +9,7 @@ use std::rt::HostRuntime;
 
 /// Answers a case.
 ///
-/// - `triangles`, `lines`, `points`, `spline`, `range`: as `geometry` says.
+/// - `triangles`, `lines`, `points`, `spline`, `range`, `restart`: as `geometry` says.
 /// - `name KIND`: what the code of a kind that is given is called.
 /// - `default NAME`: the numbers that are meant where the member of this name is absent.
 /// - `pointer`: the JSON Pointer of the given steps.
@@ -20,7 +20,7 @@ use std::rt::HostRuntime;
 pub(crate) fn answer(rt: &HostRuntime, asked: Asked<'_>, line: &mut String) -> Written {
     let alloc = rt.alloc();
     match asked.call {
-        "triangles" | "lines" | "points" | "spline" | "range" => {
+        "triangles" | "lines" | "points" | "spline" | "range" | "restart" => {
             geometry::write(alloc, asked, line)
         }
         "name" => codes::write_name(alloc, asked, line),
@@ -46,6 +46,7 @@ fn of_text(alloc: Global, asked: Asked<'_>, line: &mut String) -> Written {
 /// - `each NAME=DIGITS..`: each buffer's own answer, as `buffers` says.
 /// - `try TYPE INDEX`: the items of an accessor, or why there are none, as `tried` says.
 /// - `walk SCENE`, `below NODE`: the nodes below a scene or a node.
+/// - `weights`: those of the first mesh, and of the first node.
 /// - all others are parts with numbers, as `numbers` says.
 fn of_document(alloc: Global, asked: Asked<'_>, file: &Gltf, line: &mut String) -> Written {
     match asked.call {
@@ -53,6 +54,7 @@ fn of_document(alloc: Global, asked: Asked<'_>, file: &Gltf, line: &mut String) 
         "try" => tried::write(alloc, asked, &file.document, line),
         "walk" => walks::write_scene(alloc, asked, &file.document, line),
         "below" => walks::write_below(alloc, asked, &file.document, line),
+        "weights" => numbers::write_weights(alloc, &file.document, line),
         _ => numbers::write(asked, &file.document, line),
     }
 }

@@ -16,6 +16,8 @@ pub(crate) fn write(asked: Asked<'_>, line: &mut String) -> Written {
         "pbr.roughnessFactor" => write!(line, "{:?}", defaults::ROUGHNESS_FACTOR),
         "normal.scale" => write!(line, "{:?}", defaults::NORMAL_SCALE),
         "occlusion.strength" => write!(line, "{:?}", defaults::OCCLUSION_STRENGTH),
+        "ior.ior" => write!(line, "{:?}", defaults::IOR),
+        "emissiveStrength.emissiveStrength" => { write!(line, "{:?}", defaults::EMISSIVE_STRENGTH) }
         "glossiness.diffuseFactor" => write!(line, "{:?}", defaults::DIFFUSE_FACTOR),
         "glossiness.specularFactor" => write!(line, "{:?}", defaults::GLOSSY_SPECULAR_FACTOR),
         "glossiness.glossinessFactor" => write!(line, "{:?}", defaults::GLOSSINESS_FACTOR),

@@ -1,9 +1,11 @@
 //! What vertices are joined to, and the keyframes of splines.
+use gltf::json::accessor::ComponentType;
 use gltf::json::mesh::Mode;
 use gltf_case::asked::Asked;
 use gltf_case::shown::{Written, show};
 use gltf_geometry::{
-    Items, Sequence, Vertices, indices_in_range, lines, points, spline, triangles,
+    Items, Sequence, Vertices, indices_in_range, lines, none_restarts, points, restart_index,
+    spline, triangles,
 };
 use std::alloc::{AllocError, Global};
 use std::fmt::Debug;
@@ -14,11 +16,14 @@ use std::fmt::Debug;
 ///   vertices without indices where `count:COUNT` is given. A mode is its code.
 /// - `spline STEP..`: of outputs.
 /// - `range COUNT`: whether all are below a count.
+/// - `restart CODE`: the index of a type of components that restarts a primitive, and whether none
+///   is that.
 pub(crate) fn write(alloc: Global, asked: Asked<'_>, line: &mut String) -> Written {
     let numbers = numbers_of(alloc, asked.given)?;
     match asked.call {
         "spline" => write_items(alloc, spline(&numbers), asked.words, line),
         "range" => write!(line, "{}", indices_in_range(&numbers, asked.number(0))),
+        "restart" => write_restart(asked.number(0), &numbers, line),
         _ => write_joined(alloc, asked, vertices_of(asked.given, &numbers), line),
     }
 }
@@ -55,6 +60,26 @@ fn write_joined(
         "triangles" => write_items(alloc, triangles(mode, vertices), steps, line),
         "lines" => write_items(alloc, lines(mode, vertices), steps, line),
         _ => write_items(alloc, points(mode, vertices), steps, line),
+    }
+}
+
+/// Writes the index that restarts a primitive, and whether no index is that.
+fn write_restart(code: usize, indices: &[u32], line: &mut String) -> Written {
+    match restart_index(component_of(code)) {
+        Some(restart) => write!(line, "{restart}; {}", none_restarts(indices, restart)),
+        None => line.push_str("none"),
+    }
+}
+
+/// The type of components of a code (glTF 2.0, section 5.1.3).
+fn component_of(code: usize) -> ComponentType {
+    match code {
+        5120 => ComponentType::I8,
+        5121 => ComponentType::U8,
+        5122 => ComponentType::I16,
+        5123 => ComponentType::U16,
+        5125 => ComponentType::U32,
+        _ => ComponentType::F32,
     }
 }
 

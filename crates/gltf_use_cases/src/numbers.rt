@@ -1,12 +1,15 @@
 //! The numbers of handles.
 use gltf::camera::Projection;
+use gltf::json::Value;
 use gltf::khr_lights_punctual::Light;
 use gltf::scene::Transform;
 use gltf::texture::TextureTransform;
 use gltf::{Document, Material};
 use gltf_case::asked::Asked;
 use gltf_case::shown::Written;
-use gltf_numbers::Numbers;
+use gltf_numbers::material::{emissive_strength, ior};
+use gltf_numbers::{Numbers, number_list};
+use std::alloc::Global;
 use std::fmt::Debug;
 
 /// Writes the numbers of a part of a document.
@@ -85,6 +88,25 @@ fn write_material(part: &str, material: Material<'_>, line: &mut String) -> Writ
         "transmission" => write_numbers(material.transmission(), line),
         "volume" => write_numbers(material.volume(), line),
         "specular" => write_numbers(material.specular(), line),
+        "ior" => write!(line, "{:?}", ior(&material)),
+        "emissiveStrength" => write!(line, "{:?}", emissive_strength(&material)),
         _ => line.push_str("no call"),
+    }
+}
+
+/// Writes the weights of the first mesh, and of the first node.
+pub(crate) fn write_weights(alloc: Global, document: &Document, line: &mut String) -> Written {
+    let mesh = document.meshes().nth(0);
+    write_list(alloc, mesh.and_then(|mesh| mesh.weights()), line)?;
+    line.push_str("; ")?;
+    let node = document.nodes().nth(0);
+    write_list(alloc, node.and_then(|node| node.weights()), line)
+}
+
+/// Writes a member that is a list of numbers, where it is there.
+fn write_list(alloc: Global, member: Option<&Value>, line: &mut String) -> Written {
+    match member {
+        Some(value) => write!(line, "{:?}", number_list(alloc, value)?),
+        None => line.push_str("absent"),
     }
 }

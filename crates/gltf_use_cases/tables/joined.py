@@ -100,6 +100,17 @@ def ranges():
             yield f"range {count} : {' '.join(map(str, indices))}".rstrip(), str(below).lower()
 
 
+def restarts():
+    """The greatest index of each type, and whether some indices are without it."""
+    greatest = {5121: 255, 5123: 65535, 5125: 4294967295}
+    for code in (5120, 5121, 5122, 5123, 5125, 5126):
+        for indices in ([], [0], [254, 256], [255], [1, 65535], [65534, 65536], [4294967295, 0]):
+            answer = "none"
+            if code in greatest:
+                answer = f"{greatest[code]}; {str(greatest[code] not in indices).lower()}"
+            yield f"restart {code} : {' '.join(map(str, indices))}".rstrip(), answer
+
+
 ROWS = [
     *joined(range(7), "len hint all"),
     # Steps one by one, and past the end, after which there is nothing.
@@ -116,4 +127,5 @@ ROWS = [
      "None"),
     *splines("len hint all", f"nth:1 len next nth:{MOST} next"),
     *ranges(),
+    *restarts(),
 ]

@@ -162,6 +162,34 @@ def rows_of(part):
             yield case(part, {**whole, name: text}), "None"
 
 
+def bare():
+    """The numbers of extensions that have one, also of materials without them; the weights of meshes
+    and of nodes, of any number."""
+    head = '{"asset":{"version":"2.0"},'
+    for part, name, default in (("ior", "ior", 1.5),
+                                ("emissiveStrength", "emissive_strength", 1.0)):
+        yield f"default {part}.{part}", repr(default)
+        yield f'{part} : {head}"materials":[{{}}]}}', f"Some({default!r})"
+        yield f"{part} meant : {head[:-1]}}}", f"Some({default!r})"
+        yield f"{part} : {head[:-1]}}}", "no material"
+        extension = head + EXTENSION % name + "}"
+        yield f"{part} : {extension % ''}", f"Some({default!r})"
+        for text in ("null", *TEXTS):
+            number = default if text == "null" else float(text)
+            yield f"{part} : " + extension % f'"{part}":{text}', f"Some({number!r})"
+        for text in wrong(0):
+            yield f"{part} : " + extension % f'"{part}":{text}', "None"
+    document = 'weights : %s"meshes":[{"primitives":[]%%s}],"nodes":[{%%s}]}' % head
+    yield document % ("", ""), "absent; absent"
+    for count in (0, 1, 2, 8, 100):
+        text, numbers = (stated(count, 0) if count else ("[]", []))
+        yield document % (f',"weights":{text}', ""), f"Some({shown(numbers)}); absent"
+        yield document % ("", f'"weights":{text}'), f"absent; Some({shown(numbers)})"
+    for text in ("1", '"1"', "{}", "true", "[[1]]", '[1,"1"]', "[null]", "[1,true]"):
+        yield document % (f',"weights":{text}', '"weights":[0.5]'), "None; Some([0.5])"
+    yield document % (',"weights":null', '"weights":null'), "absent; absent"
+
+
 def constants():
     """What is meant where a member is absent."""
     for part, (_, _, members) in PARTS.items():
@@ -199,4 +227,4 @@ def kinds():
 
 
 ROWS = [*(row for part in PARTS for row in dict.fromkeys(rows_of(part))), *matrices(), *kinds(),
-        *constants()]
+        *bare(), *constants()]

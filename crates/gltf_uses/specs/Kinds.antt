@@ -1,5 +1,5 @@
 -- The lists that indices point into.
-use Rattle.std.specs.Prelude.{ℕ, List, [], ◌∷◌}
+use Rattle.std.specs.Prelude.{ℕ, List, [], ◌∷◌, codes}
 use Rattle.gltf_validation.specs.declared.counts.Counts.{Counts}
 use Rattle.gltf_uses.specs.declared.kind.Kind.{Kind}
 use Rattle.gltf_uses.specs.declared.kind.Kind.TheVariants as list
@@ -25,6 +25,22 @@ abbrev pub all_kinds : List Kind
 all_kinds =
     list.Accessor ∷ list.Buffer ∷ list.Camera ∷ list.Image ∷ list.Light ∷ list.Material ∷ list.Mesh
     ∷ list.Node ∷ list.Sampler ∷ list.Scene ∷ list.Skin ∷ list.Texture ∷ list.View ∷ []
+
+-- the member that is the list (glTF 2.0, section 5.17, "glTF"; `KHR_lights_punctual`)
+abbrev pub list_name : Kind → List ℕ
+list_name list.Accessor = codes "accessors"
+list_name list.Buffer = codes "buffers"
+list_name list.Camera = codes "cameras"
+list_name list.Image = codes "images"
+list_name list.Light = codes "lights"
+list_name list.Material = codes "materials"
+list_name list.Mesh = codes "meshes"
+list_name list.Node = codes "nodes"
+list_name list.Sampler = codes "samplers"
+list_name list.Scene = codes "scenes"
+list_name list.Skin = codes "skins"
+list_name list.Texture = codes "textures"
+list_name list.View = codes "bufferViews"
 
 -- the length of the list
 abbrev pub count_of : Kind → Counts → ℕ

@@ -1,6 +1,6 @@
 //! The lists that indices point into.
 ghost use Rattle.std.specs.Prelude.{◌≡◌, ◌==◌, ◌<◌};
-ghost use Rattle.gltf_uses.specs.Kinds.{number, count_of};
+ghost use Rattle.gltf_uses.specs.Kinds.{number, count_of, list_name};
 
 use gltf_json_record::kinds;
 use gltf_validation::counts::Counts;
@@ -39,8 +39,8 @@ pub enum Kind {
 }
 
 impl Kind {
-    /// All lists, in the order of their numbers.
-    pub(crate) const ALL: [Kind; 13] = [
+    /// All lists, each once.
+    pub const ALL: [Kind; 13] = [
         Kind::Accessor,
         Kind::Buffer,
         Kind::Camera,
@@ -55,6 +55,27 @@ impl Kind {
         Kind::Texture,
         Kind::View,
     ];
+
+    /// The name of the member that is the list, as it stands in JSON.
+    pub fn as_str(self) -> &'static str
+        ensures { result.now ≡ list_name self }
+    {
+        match self {
+            Kind::Accessor => "accessors",
+            Kind::Buffer => "buffers",
+            Kind::Camera => "cameras",
+            Kind::Image => "images",
+            Kind::Light => "lights",
+            Kind::Material => "materials",
+            Kind::Mesh => "meshes",
+            Kind::Node => "nodes",
+            Kind::Sampler => "samplers",
+            Kind::Scene => "scenes",
+            Kind::Skin => "skins",
+            Kind::Texture => "textures",
+            Kind::View => "bufferViews",
+        }
+    }
 
     /// The length of the list.
     pub(crate) fn count(self, counts: &Counts) -> usize

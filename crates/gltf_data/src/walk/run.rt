@@ -1,11 +1,11 @@
 //! How a walk is done.
 
-ghost use Rattle.std.specs.Prelude.{◌≡◌, ◌+◌, ◌*◌, ◌≤◌, IfOk, length, drop};
+ghost use Rattle.std.specs.Prelude.{◌≡◌, ◌+◌, ◌*◌, ◌≤◌, IfOk, OnErr, length, drop};
 ghost use Rattle.gltf_items.specs.Sparse.{digits};
 ghost use Rattle.gltf_data.specs.Iter.{counted_items};
 ghost use Rattle.gltf_data.specs.Walk.{all_answers, position_after, end_answer, most_index_reads};
 ghost use Rattle.gltf_data.specs.Walk.{most_item_reads, step_reads, step_items, end_reads};
-ghost use Rattle.gltf_data.specs.Walk.{end_items};
+ghost use Rattle.gltf_data.specs.Walk.{end_items, IsLeftBySome};
 ghost use Rattle.gltf_data.specs.Steps.{answer_of, after_step, after_end, end_of, Takes};
 ghost use Rattle.gltf_data.specs.Steps.{ReportsReads};
 
@@ -46,7 +46,7 @@ fn take_end<T: Item>(items: &mut Iter<'_, T>, end: End) -> Ended<T>
 
 /// Takes a list of steps and then the end over items that the caller keeps. It gives what `walk`
 /// gives; the counts are how much those of `items` grew by it. After it `items` has what the steps
-/// and the end leave, and where memory ran out what some of the steps leave.
+/// and the end leave, and where memory ran out what some of the steps leave, from the first on.
 pub fn walk_on<T: Item>(
     alloc: Global,
     items: &mut Iter<'_, T>,
@@ -61,6 +61,8 @@ pub fn walk_on<T: Item>(
     ensures leaves { IfOk result (λ _. (counted_items items.new).items
         ≡ after_end (drop (position_after (counted_items items.old).items 0 steps.now)
         (counted_items items.old).items) end) }
+    ensures cut_short { OnErr result (IsLeftBySome (counted_items items.old).items steps.now
+        (counted_items items.new).items) }
     ensures reports { IfOk result (λ w.
         ReportsReads (counted_items items.old) (counted_items items.new) w) }
     ensures costs { Takes (counted_items items.old) (counted_items items.new)

@@ -54,6 +54,13 @@ impl<'a, D: Records> NormalTexture<'a, D> {
         unknown_extensions(&self.inner.json.extensions)
     }
 
+    /// The document that it is of.
+    pub fn document(&self) -> &'a D
+        ensures { D.root result.now ≡ (normal_handle self.now).document }
+    {
+        self.inner.document
+    }
+
     /// The extension of this name.
     pub fn extension_value(&self, name: &str) -> Option<&'a Value>
         ensures { option_copied result
@@ -111,6 +118,13 @@ impl<'a, D: Records> OcclusionTexture<'a, D> {
             ≡ unknown_extensions (occlusion_handle self.now).json.extensions }
     {
         unknown_extensions(&self.inner.json.extensions)
+    }
+
+    /// The document that it is of.
+    pub fn document(&self) -> &'a D
+        ensures { D.root result.now ≡ (occlusion_handle self.now).document }
+    {
+        self.inner.document
     }
 
     /// The extension of this name.

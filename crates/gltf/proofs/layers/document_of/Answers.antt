@@ -7,6 +7,7 @@ use Rattle.gltf.specs.Import.{RefusesDocument}
 use Rattle.gltf.specs.Shown.{blob_bytes}
 use Rattle.gltf.proofs.Answered.{told_more}
 use Rattle.gltf.proofs.LayerLaws.{no_valid_document, same_only}
+use Rattle.gltf.proofs.Room.{in_room}
 use Rattle.gltf.proofs.layers.document_of.Goals as goal
 
 pub returns-in_err-root-clause-exact : goal.returns-in_err-root-clause-exact
@@ -50,3 +51,8 @@ returns-clause-only c =
     same_only (cow_slice_items c.args.bytes) c.in_ok-root.root c.in_ok-document.document
     (items_of c.in_ok-root.blob) (blob_bytes c.in_ok-blob.blob) c.in_ok-document.ensures.same
     c.in_ok-blob.ensures.ok c.in_ok-root.ensures.only
+
+pub returns-clause-moved : goal.returns-clause-moved
+returns-clause-moved c =
+    in_room c.args.bytes c.in_ok-root.blob c.in_ok-blob.blob c.in_ok-root.ensures.moved
+    c.in_ok-blob.ensures.room

@@ -13,7 +13,7 @@ pub returns-clause-read : goal.returns-clause-read
 returns-clause-read c =
     list_read (λ indices. (counted_indices indices).items) (IndicesAt c.args.mesh c.args.primitive)
     c.args.bytes.now c.imported_indices.result c.listed_indices.result
-    (c.primitives_are_of_the_bytes.ensures.indices c.args.mesh c.args.primitive
+    (c.typed_primitives_are_of_the_bytes.ensures.indices c.args.mesh c.args.primitive
     c.args.bytes.now c.in_ok-document.document (bytes_of_each c.in_ok-document.buffers.items)
     (record {
       accepted = c.in_ok-document.ensures.accepted;

@@ -14,7 +14,7 @@ pub returns-clause-read : goal.returns-clause-read
 returns-clause-read c =
     list_read (λ it. (counted_items it).items) (PositionsAt c.args.mesh c.args.primitive)
     c.args.bytes.now c.imported_positions.result c.listed.result
-    (c.primitives_are_of_the_bytes.ensures.positions c.args.mesh c.args.primitive
+    (c.typed_primitives_are_of_the_bytes.ensures.positions c.args.mesh c.args.primitive
     c.args.bytes.now c.in_ok-document.document (bytes_of_each c.in_ok-document.buffers.items)
     (record {
       accepted = c.in_ok-document.ensures.accepted;

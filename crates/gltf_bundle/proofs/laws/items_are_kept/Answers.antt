@@ -4,8 +4,9 @@ use Rattle.gltf_data.specs.Documents.{ReadsAt}
 use Rattle.gltf_bundle.proofs.laws.items_are_kept.Goals as goal
 
 pub returns : goal.returns
-returns g c names path keep answer is over s others accepted index result =
-    let found = c.one_buffer.ensures names path keep answer is over s others accepted in
+returns g c required names path keep answer is over s others accepted index result =
+    let found = c.one_buffer.ensures required names path keep answer is over s others accepted
+    in
     subst (λ (all : List (List ℕ)).
     ReadsAt g.T.Item is.root_ (slice_get is.buffers) index result
     ↔ ReadsAt g.T.Item s (slice_get all) index result) (sym found.1)

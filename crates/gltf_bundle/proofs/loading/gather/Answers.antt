@@ -39,11 +39,12 @@ returns-in_err-pictures-clause-refused g c =
     let of_images : RefusesImages names ds old new e =
     subst (λ (ns : Names). RefusesImages ns ds old new e) was.ensures.kept
     (subst (λ (ns : List Named).
-    RefusesImages (names_of (g.S.NamedBytes.bytes_by_name c.load.new.source)) ds ns new e)
+    RefusesImages (names_of (g.S.NamedBytes.bytes_by_name c.load_with.new.source)) ds ns new e)
     was.ensures.fine told.1) in
     let exit = c.from_residual-in_err-pictures in
     let passed = err_from_is_err_and exit.result exit.ensures.1 in
     rw (passed.1, passed.2)
-    (images_refused names c.args.path.now c.args.keep old new (view was.field-0.value)
+    (images_refused c.args.required.now names c.args.path.now c.args.keep old new
+    (view was.field-0.value)
     was.ensures.loaded.0 (bytes_of_each was.field-0.buffers.items) e was.ensures.loaded.1 told.0
     of_images)

@@ -14,4 +14,4 @@ returns-clause-report g c =
 pub returns-clause-fine : goal.returns-clause-fine
 returns-clause-fine g c =
     let whole = returns-clause-report g c in
-    fine _ whole.0 c.in_ok-own.own c.what_is_refused_has_an_error.ensures whole.2
+    fine _ whole.0 c.in_ok-own.own c.what_is_refused_is_reported.ensures.reported whole.2

@@ -10,7 +10,7 @@ returns-clause-report c =
 
 pub returns-clause-fine : goal.returns-clause-fine
 returns-clause-fine c =
-    all_fine Nowhere c.args.bytes.now c.owned.result c.what_is_refused_has_an_error.ensures
+    all_fine Nowhere c.args.bytes.now c.owned.result c.what_is_refused_is_reported.ensures.reported
     (returns-clause-report c)
 
 pub returns-clause-exact : goal.returns-clause-exact

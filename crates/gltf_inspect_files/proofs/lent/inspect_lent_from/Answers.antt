@@ -15,5 +15,5 @@ returns-clause-report g c = record {
 
 pub returns-clause-fine : goal.returns-clause-fine
 returns-clause-fine g c =
-    lent_fine c.args.share _ _ c.in_ok-file.file c.what_is_refused_has_an_error.ensures
+    lent_fine c.args.share _ _ c.in_ok-file.file c.what_is_refused_is_reported.ensures.reported
     c.in_ok-file.ensures.whole

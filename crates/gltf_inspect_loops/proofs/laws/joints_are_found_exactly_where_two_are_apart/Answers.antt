@@ -8,5 +8,5 @@ returns c = λ r path few no_loop.
     let law = c.a_finding_is_a_condition_that_fails.ensures
     (roots_checks r) path SkinNoCommonRoot in (
       λ found. found_joints r path few no_loop (law.0 found),
-      λ it. law.1 (joints_found r path it.0 it.1 it.2 it.3 it.4),
+      λ it. law.1 (joints_found r path it.0 it.1 few no_loop it.2 it.3 it.4),
     )

@@ -13,5 +13,6 @@ returns c =
     let checks = extents_checks c.args.bound c.args.kind c.args.extents.now in
     subst (λ all. OnOk c.tell_columns.result (c.tell_columns.new.findings
     ≡ told_after c.args.findings.now (places_of c.args.location.now) all))
-    (each_of_map view checks 0 c.elements.result.now ∙ ap (each_checks checks 0) c.elements.ensures)
+    (each_of_map view checks 0 c.elements-values.result.now
+    ∙ ap (each_checks checks 0) c.elements-values.ensures)
     c.tell_columns.ensures

@@ -1,4 +1,5 @@
 use Rattle.std.proofs.lemmas.Result.{err_from_is_err_and}
+use Rattle.std.specs.Cow.{cow_slice_items}
 use Rattle.gltf.specs.Shown.{blob_bytes, bytes_of_each}
 use Rattle.gltf_options.specs.Names.{texts}
 use Rattle.gltf_lenient.proofs.WithBuffers.{not_accepted_of_none, refuses_buffers, not_accepted}
@@ -9,7 +10,8 @@ pub returns-in_err-opened-clause-exact : goal.returns-in_err-opened-clause-exact
 returns-in_err-opened-clause-exact g c = λ known.
     let passed = err_from_is_err_and c.from_residual.result c.from_residual.ensures.1 in
     rw (passed.1, passed.2) (λ other fine. not_accepted_of_none c.args.options.now
-    (g.N.Ask.names c.args.names.now) c.args.bytes.now (c.in_err-opened.ensures.exact other))
+    (g.N.Ask.names c.args.names.now) (cow_slice_items c.args.bytes)
+    (c.in_err-opened.ensures.exact other))
 
 pub returns-in_err-buffers-clause-refused : goal.returns-in_err-buffers-clause-refused
 returns-in_err-buffers-clause-refused g c =
@@ -17,10 +19,11 @@ returns-in_err-buffers-clause-refused g c =
     let passed = err_from_is_err_and exit.result exit.ensures.1 in
     let file = c.in_ok-opened.opened in
     rw (passed.1, passed.2)
-    (refuses_buffers c.args.options.now (g.N.Ask.names c.args.names.now) c.args.bytes.now
-    file.gltf.document (texts file.also_required.items) (blob_bytes file.gltf.blob)
-    (g.N.Ask.failures c.args.names.now) (g.N.Ask.failures c.read_buffers.new.names)
-    c.in_err-buffers.field-0.0 c.in_ok-opened.ensures.valid
+    (refuses_buffers c.args.options.now (g.N.Ask.names c.args.names.now)
+    (cow_slice_items c.args.bytes) file.gltf.document (texts file.also_required.items)
+    (blob_bytes file.gltf.blob) (g.N.Ask.failures c.args.names.now)
+    (g.N.Ask.failures c.read_buffers.new.names) c.in_err-buffers.field-0.0
+    c.in_ok-opened.ensures.valid
     (rw (c.deref.ensures.value, c.as_json.ensures) at c.in_err-buffers.ensures.err))
 
 pub returns-in_err-buffers-clause-exact : goal.returns-in_err-buffers-clause-exact
@@ -29,7 +32,7 @@ returns-in_err-buffers-clause-exact g c = λ known.
     let passed = err_from_is_err_and exit.result exit.ensures.1 in
     let file = c.in_ok-opened.opened in
     rw (passed.1, passed.2)
-    (not_accepted c.args.options.now (g.N.Ask.names c.args.names.now) c.args.bytes.now
+    (not_accepted c.args.options.now (g.N.Ask.names c.args.names.now) (cow_slice_items c.args.bytes)
     file.gltf.document (texts file.also_required.items) (blob_bytes file.gltf.blob)
     (g.N.Ask.failures c.args.names.now) (g.N.Ask.failures c.read_buffers.new.names)
     c.in_err-buffers.field-0.0 c.what_shows_the_same_has_the_same_buffers.ensures.none known
@@ -39,7 +42,7 @@ returns-in_err-buffers-clause-exact g c = λ known.
 pub returns-clause-only : goal.returns-clause-only
 returns-clause-only g c = λ known.
     let file = c.in_ok-opened.opened in
-    one_import c.args.options.now (g.N.Ask.names c.args.names.now) c.args.bytes.now
+    one_import c.args.options.now (g.N.Ask.names c.args.names.now) (cow_slice_items c.args.bytes)
     file.gltf.document (texts file.also_required.items) (blob_bytes file.gltf.blob)
     (bytes_of_each c.in_ok-buffers.buffers.items)
     c.what_shows_the_same_has_the_same_buffers.ensures.one known c.in_ok-opened.ensures.only

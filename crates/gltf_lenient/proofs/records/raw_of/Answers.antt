@@ -10,14 +10,14 @@ use Rattle.gltf_lenient.proofs.records.raw_of.Goals as goal
 pub returns-in_err-text-clause-refused : goal.returns-in_err-text-clause-refused
 returns-in_err-text-clause-refused c =
     let passed = err_from_is_err_and c.from_residual.result c.from_residual.ensures.1 in
-    rw (passed.1, passed.2) (refuses_parts c.args.mends.now c.args.bytes.now
+    rw (passed.1, passed.2) (refuses_parts c.args.mends.now (cow_slice_items c.args.bytes)
     c.in_err-text.field-0.0 c.in_err-text.ensures.refused)
 
 pub returns-in_err-text-clause-exact : goal.returns-in_err-text-clause-exact
 returns-in_err-text-clause-exact c =
     let passed = err_from_is_err_and c.from_residual.result c.from_residual.ensures.1 in
     rw (passed.1, passed.2) (λ other s blob document.
-    c.in_err-text.ensures.exact document.text blob document.parts)
+    c.in_err-text.ensures.exact other document.text blob document.parts)
 
 pub returns-in_err-root-clause-refused : goal.returns-in_err-root-clause-refused
 returns-in_err-root-clause-refused c =
@@ -28,8 +28,8 @@ returns-in_err-root-clause-refused c =
     let fails : RefusesValue c.args.mends.now text cause =
     rw c.as_slice.ensures.value at c.in_err-root.ensures.refused in
     rw (passed.1, passed.2)
-    (refuses_text c.args.mends.now c.args.bytes.now text (items_of c.in_ok-text.blob) cause
-    c.in_ok-text.ensures.parts fails)
+    (refuses_text c.args.mends.now (cow_slice_items c.args.bytes) text
+    (items_of c.in_ok-text.blob) cause c.in_ok-text.ensures.parts fails)
 
 pub returns-in_err-root-clause-exact : goal.returns-in_err-root-clause-exact
 returns-in_err-root-clause-exact c =
@@ -37,7 +37,7 @@ returns-in_err-root-clause-exact c =
     let passed = err_from_is_err_and exit.result exit.ensures.1 in
     let none = rw c.as_slice.ensures.value at c.in_err-root.ensures.exact in
     rw (passed.1, passed.2)
-    (no_mended c.args.mends.now c.args.bytes.now (cow_slice_items c.in_ok-text.text)
+    (no_mended c.args.mends.now (cow_slice_items c.args.bytes) (cow_slice_items c.in_ok-text.text)
     (items_of c.in_ok-text.blob) c.in_err-root.field-0.0 c.in_ok-text.ensures.only none)
 
 pub returns-in_err-blob-clause-exact : goal.returns-in_err-blob-clause-exact
@@ -49,9 +49,9 @@ returns-in_err-blob-clause-exact c =
 pub returns-clause-only : goal.returns-clause-only
 returns-clause-only c =
     let alike = rw c.as_slice.ensures.value at c.in_ok-root.ensures.alike in
-    same_only c.args.mends.now c.args.bytes.now c.in_ok-root.root
+    same_only c.args.mends.now (cow_slice_items c.args.bytes) c.in_ok-root.root
     c.from_json_without_validation.result (items_of c.in_ok-text.blob)
     (blob_bytes c.in_ok-blob.blob) c.from_json_without_validation.ensures
     c.in_ok-blob.ensures.ok
-    (only_mended c.args.mends.now c.args.bytes.now (cow_slice_items c.in_ok-text.text)
+    (only_mended c.args.mends.now (cow_slice_items c.args.bytes) (cow_slice_items c.in_ok-text.text)
     (items_of c.in_ok-text.blob) c.in_ok-root.root c.in_ok-text.ensures.only alike)

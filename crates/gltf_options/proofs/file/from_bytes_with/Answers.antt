@@ -11,3 +11,6 @@ returns-in-Owned-clause-only c = rw c.in-Owned.is c.from_vec_with.ensures.only
 
 pub returns-in-Owned-clause-exact : goal.returns-in-Owned-clause-exact
 returns-in-Owned-clause-exact c = rw c.in-Owned.is c.from_vec_with.ensures.exact
+
+pub returns-in-Owned-clause-moved : goal.returns-in-Owned-clause-moved
+returns-in-Owned-clause-moved c = rw c.in-Owned.is c.from_vec_with.ensures.moved

@@ -3,6 +3,9 @@ use Rattle.gltf.specs.Shown.{blob_bytes}
 use Rattle.gltf_options.specs.Besides.{listed}
 use Rattle.gltf_options.proofs.Documents.{no_valid_of_none, ok_valid, ok_only, err_refused}
 use Rattle.gltf_options.proofs.Documents.{err_exact}
+use Rattle.std.specs.Prelude.{vec_capacity}
+use Rattle.std.proofs.Common.{◌≡◌}
+use Rattle.gltf_options.proofs.Room.{ok_moved}
 use Rattle.gltf_options.proofs.file.from_vec_with.Goals as goal
 
 pub returns-in_err-raw-clause-exact : goal.returns-in_err-raw-clause-exact
@@ -37,3 +40,9 @@ returns-clause-exact c =
     c.what_shows_the_same_is_alike_in_each_member.ensures
     c.what_shows_the_same_breaks_the_same_rules.ensures c.in_ok-raw.ensures.only
     c.without_names.ensures.refused
+
+pub returns-clause-moved : goal.returns-clause-moved
+returns-clause-moved c =
+    ok_moved (listed c.args.options.now) c.in_ok-raw.raw.document c.in_ok-raw.raw.blob
+    (λ blob. vec_capacity blob ≡ vec_capacity c.args.bytes) c.without_names.result
+    c.in_ok-raw.ensures.moved c.without_names.ensures.opened

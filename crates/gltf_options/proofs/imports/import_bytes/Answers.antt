@@ -5,6 +5,8 @@ use Rattle.gltf_options.specs.Besides.{listed}
 use Rattle.gltf_options.specs.Names.{texts}
 use Rattle.gltf_options.proofs.WithBuffers.{not_accepted_of_none, refuses_buffers, not_accepted}
 use Rattle.gltf_options.proofs.WithBuffers.{one_import}
+use Rattle.gltf_buffers.specs.Buffers.{sources_of}
+use Rattle.gltf_options.proofs.Room.{blob_stays}
 use Rattle.gltf_options.proofs.imports.import_bytes.Goals as goal
 
 pub returns-in_err-opened-clause-exact : goal.returns-in_err-opened-clause-exact
@@ -50,3 +52,12 @@ returns-clause-only g c = λ known.
     c.what_shows_the_same_is_alike_in_each_member.ensures known
     c.in_ok-opened.ensures.only
     (rw (c.deref.ensures.value, c.as_json.ensures) at c.in_ok-buffers.ensures.ok)
+
+pub returns-clause-moved : goal.returns-clause-moved
+returns-clause-moved g c =
+    let file = c.in_ok-opened.opened in
+    let parts = c.in_ok-opened.ensures.valid.document.document.parts in
+    blob_stays c.one_text_and_blob.ensures c.args.bytes _ file.gltf.blob
+    (sources_of file.gltf.document) c.in_ok-buffers.buffers.items parts
+    c.in_ok-opened.ensures.moved
+    (rw (c.deref.ensures.value, c.as_json.ensures) at c.in_ok-buffers.ensures.moved)

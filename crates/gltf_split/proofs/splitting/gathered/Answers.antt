@@ -32,7 +32,7 @@ returns-clause-split g c =
     ∙ ap (λ (b : Bool). bytes_left b document all) c.drops_views.ensures in
     let us = buffer_uris c.in_ok-buffers.buffers.items in
     let vs = image_uris images in
-    is_split names c.args.path.now stem keep drop document was.ensures.loaded.0
+    is_split c.args.required.now names c.args.path.now stem keep drop document was.ensures.loaded.0
     was.field-0.buffers.items was.ensures.loaded.1 left.field-0.buffers.items bytes
     record {
       json = c.in_ok-json.json;
@@ -48,12 +48,13 @@ pub returns-in_err-value-clause-refused : goal.returns-in_err-value-clause-refus
 returns-in_err-value-clause-refused g c =
     let names = names_of (g.S.NamedBytes.bytes_by_name c.args.source.now) in
     let old = g.S.NamedBytes.failures c.args.source.now in
-    let new = g.S.NamedBytes.failures c.load.new.source in
+    let new = g.S.NamedBytes.failures c.load_with.new.source in
     let e = c.in_err-value.field-0.0 in
     let exit = c.from_residual in
     let passed = err_from_is_err_and exit.result exit.ensures.1 in
     rw (passed.1, passed.2)
-    (source_refused names c.args.path.now c.args.stem.now c.args.options.now.keep_images
+    (source_refused c.args.required.now names c.args.path.now c.args.stem.now
+    c.args.options.now.keep_images
     (drops c.args.options.now) old new e c.in_err-value.ensures.refused)
 
 pub returns-in_err-images-clause-refused : goal.returns-in_err-images-clause-refused
@@ -70,11 +71,12 @@ returns-in_err-images-clause-refused g c =
     let of_images : RefusesImages names all document ds old new e =
     subst (λ (ns : Names). RefusesImages ns all document ds old new e) was.ensures.kept
     (subst (λ (ns : List Named).
-    RefusesImages (names_of (g.S.NamedBytes.bytes_by_name c.load.new.source)) all document
+    RefusesImages (names_of (g.S.NamedBytes.bytes_by_name c.load_with.new.source)) all document
     ds ns new e) was.ensures.fine told.1) in
     let exit = c.from_residual-in_err-images in
     let passed = err_from_is_err_and exit.result exit.ensures.1 in
     rw (passed.1, passed.2)
-    (images_refused names c.args.path.now c.args.stem.now c.args.options.now.keep_images
+    (images_refused c.args.required.now names c.args.path.now c.args.stem.now
+    c.args.options.now.keep_images
     (drops c.args.options.now) old new
     document was.ensures.loaded.0 all was.ensures.loaded.1 told.0 e of_images)

@@ -1,18 +1,17 @@
-use Rattle.gltf.specs.Shown.{blob_bytes}
+use Rattle.std.proofs.Common.{Result, Ok, Err}
+use Rattle.std.specs.Prelude.{IfOk, string_bytes}
+use Rattle.gltf_required.specs.Left.{valid_of}
+use Rattle.gltf_required.specs.declared.required.Required.TheVariants.{Supported}
+use Rattle.gltf_split.specs.Splits.{IsValidText, IsValidTextAs}
+use Rattle.gltf_split.specs.declared.splitting.Pieces.{Pieces}
 use Rattle.gltf_split.proofs.splitting.split.Goals as goal
 
-pub returns-in-Ok-clause-accepted : goal.returns-in-Ok-clause-accepted
-returns-in-Ok-clause-accepted g c =
-    let file = c.in-Ok.field-0 in
-    (file.document, blob_bytes file.blob, rw c.as_bytes.ensures.value at c.in-Ok.ensures.valid)
+-- what is valid with no further extension is valid
+valid : {E : Type 0} (r : Result Pieces E)
+    → IfOk r (λ set. IsValidTextAs Supported (string_bytes set.json))
+    → IfOk r (λ set. IsValidText (string_bytes set.json))
+valid (Ok set) is = (is.0, is.1, valid_of (string_bytes set.json) is.0 is.1 is.2)
+valid (Err e) is = tt
 
-pub returns : goal.returns
-returns g c = record {
-  split = tt;
-  accepted = tt;
-  refused = record {
-    set = c.in_ok-set.set;
-    is = c.in_ok-set.ensures.split;
-    fault = rw c.as_bytes.ensures.value at c.in-Err.ensures.refused;
-  };
-}
+pub returns-clause-accepted : goal.returns-clause-accepted
+returns-clause-accepted g c = valid c.split_with.result c.split_with.ensures.accepted

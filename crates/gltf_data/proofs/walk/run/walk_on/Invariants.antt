@@ -1,4 +1,4 @@
-use Rattle.std.proofs.Common.{◌≡◌, ◌+◌, ◌≤◌, ◌++◌, drop}
+use Rattle.std.proofs.Common.{◌≡◌, ◌+◌, ◌≤◌, ◌++◌, take, drop}
 use Rattle.std.specs.Prelude.{sum_by}
 use Rattle.gltf_data.specs.Iter.{counted_items}
 use Rattle.gltf_data.proofs.Lefts.{answers_of, after_steps}
@@ -9,6 +9,8 @@ abbrev pub invariant-loop-step : goal.invariant-loop-step
 invariant-loop-step g l = record {
   answers : l.answers.items ++ answers_of (counted_items l.items).items (drop l.step-index l.steps)
       ≡ answers_of (counted_items l.initial.items).items l.steps;
+  before : (counted_items l.items).items
+      ≡ after_steps (counted_items l.initial.items).items (take l.step-index l.steps);
   left : after_steps (counted_items l.items).items (drop l.step-index l.steps)
       ≡ after_steps (counted_items l.initial.items).items l.steps;
   stored : (counted_items l.items).stored ≡ (counted_items l.initial.items).stored;

@@ -1,0 +1,4 @@
+pub mod Firsts
+pub mod Flat
+pub mod Mended
+pub mod Reasons

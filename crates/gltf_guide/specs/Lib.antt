@@ -1,0 +1,4 @@
+pub mod Bytes
+pub mod Imports
+pub mod Materials
+pub mod Scenes

@@ -1,0 +1,5 @@
+pub mod Required
+pub mod Import
+pub mod Files
+pub mod Laws
+pub mod Left

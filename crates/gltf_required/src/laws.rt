@@ -1,0 +1,20 @@
+//! Laws of what files may require. Each is a statement over definitions, proved as the contract of
+//! a function that does nothing.
+ghost use Rattle.gltf_required.specs.Laws.{SupportedIsTheImport, RefusedAsByTheImport};
+ghost use Rattle.gltf_required.specs.Laws.{AreOfOneDocument};
+
+/// What is accepted with [`crate::Required::Supported`] is what the calls of `gltf` accept.
+pub fn what_is_supported_is_imported()
+    ensures { SupportedIsTheImport }
+{}
+
+/// What is refused with [`crate::Required::Supported`] is refused by the calls of `gltf`, with the
+/// same error.
+pub fn what_is_not_supported_is_refused()
+    ensures { RefusedAsByTheImport }
+{}
+
+/// The document that is left differs from that of the file in `extensionsRequired` alone.
+pub fn all_else_is_left()
+    ensures { AreOfOneDocument }
+{}

@@ -1,0 +1,13 @@
+//! Which extensions a document may require (glTF 2.0, section 3.12, "Specifying Extensions"): those
+//! that the loader supports, those too that the caller handles, or all, where what an extension
+//! says is kept and not read.
+#![tactic(auto)]
+
+mod checking;
+mod file;
+pub mod laws;
+mod required;
+
+pub use checking::checked;
+pub use file::from_slice_as;
+pub use required::Required;
