@@ -187,7 +187,7 @@ TYPED = [
     ("gltf_show inspect --js\tsc\t", "<inspect><--json><scene.gltf>"),
     ("gltf_show check tw\tx\t", "<check><two files/x.glb>"),
     ("gltf_show check \"tw\tx\t", "<check><two files/x.glb>"),
-    ("gltf_convert sc\tbo\t--\t", "<scene.gltf><box.glb><--keep-images>"),
+    ("gltf_convert sc\tbo\t--keep-i\t", "<scene.gltf><box.glb><--keep-images>"),
 ]
 
 
