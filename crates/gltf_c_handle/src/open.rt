@@ -22,8 +22,8 @@ use std::borrow::CowSlice;
 /// With an odd number in `flags` a buffer whose URI leads to another file waits for its bytes.
 ///
 /// Returns 0 where the bytes are accepted, and then `file` holds their document and buffers, and
-/// `fault` says that there is none. Else `file` is closed, and `fault` has the first fault; the
-/// number is that of its status.
+/// `fault` says that there is none. Else `file` is closed, and `fault` says why; the number is that
+/// of its status.
 pub fn open(
     alloc: Global,
     bytes: CowSlice<'_, u8>,
