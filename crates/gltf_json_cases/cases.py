@@ -7,11 +7,15 @@ usage: cases.py            writes data/texts.txt, args and stdout
 
 For each record of the tables there is a text with all its members, in their order and in the other
 one, and one for each member: twice, null, absent, of a wrong kind, with an escape in its name, and
-with the numbers at the bounds of its kind. Each pair of its members has two faults, in both orders of
-the text: that of the upper row is told, as of two items of a list that of the first, and what is
-wrong inside a member before what is wrong in the next row. A last part has texts that are no JSON
-text, depths, and texts that are long.
+with the numbers at the bounds of its kind. Each pair of its members has two faults, and so has each
+pair of the members of a record of an extension: members of a wrong kind, members that are absent,
+and members with a fault inside beside one of these. That of the upper row is reported, as of two
+items of a list that of the first, and what is wrong inside a member before what is wrong in the
+next row.
+A last part has texts that are no JSON text, depths, and texts that are long.
 What is printed is what the tables say of the text, and no answer of the program."""
+import collections
+import itertools
 import json
 import pathlib
 import re
@@ -30,7 +34,18 @@ CODES = {
     "wrapS": 33071, "wrapT": 33648, "target": 34962, "alphaMode": "MASK",
     "interpolation": "CUBICSPLINE", "path": "rotation",
 }
-CAMERA, INDEX_COMPONENT = "orthographic", 5125
+SPECIAL = {"camera": "orthographic", "light": "spot", "sparse indices": 5125, "buffer view": 34963}
+# The records of extensions that others of them hold: the record above each, and the member.
+INNER = {
+    "light": ("KHR_lights_punctual of root", "lights"),
+    "spot": ("light", "spot"),
+    "variant": ("KHR_materials_variants of root", "variants"),
+    "mapping": ("KHR_materials_variants of primitive", "mappings"),
+}
+# What the object `extensions` of a record is called, whose members are the extensions known there.
+KNOWN = "extensions of "
+# A member with a value that has a fault, the step from it to the fault, and what that is.
+Fault = collections.namedtuple("Fault", "member value step name")
 # Where a record stands: the text around it, and the path of it.
 ROOT = '{"asset":{"version":"2.0"},%s}'
 PLACES = {
@@ -74,34 +89,64 @@ HELD = {
     "pbrMetallicRoughness": "pbrMetallicRoughness", "normalTexture": "normal texture",
     "occlusionTexture": "occlusion texture", "primitives": "primitive", "targets": "morph target",
     "channels": "channel", ("animation", "samplers"): "animation sampler",
-    ("channel", "target"): "channel target",
+    ("channel", "target"): "channel target", **{place: name for name, place in INNER.items()},
 }
 
 
 def held(record, member):
     """The record that a member holds."""
+    if record.startswith(KNOWN):
+        return f"{member} of {record[len(KNOWN):]}"
     return HELD.get((record, member)) or HELD.get(member, "texture info")
+
+
+def cells(text):
+    """The cells of the lines of a table, below its head."""
+    lines = [it for it in text.splitlines() if it.startswith("|")][2:]
+    return [[it.strip() for it in line.strip("|").split("|")] for line in lines]
 
 
 def tables():
     """The members of each record: name, kind, and whether it has to be there."""
     found = {}
     text = FORMATS.read_text(encoding="utf-8")
-    text = text[text.index("| record | members |") : text.index("**Extensions.**")]
-    for line in text.splitlines()[2:]:
-        if not line.startswith("|"):
-            continue
-        names, members = (it.strip() for it in line.strip("|").split("|"))
+    text = text[text.index("| record | members |") : text.index("**Codes.**")]
+    text, _, extensions = text.partition("**Extensions.**")
+    for names, members in cells(text):
         members = members.replace("scale, or strength, any?", "scale any?")
         for name in names.split(", "):
             found[name] = rows(members)
     found["occlusion texture"] = [
         ("strength", *row[1:]) if row[0] == "scale" else row for row in found["occlusion texture"]]
+    return {**found, **tables_of_extensions(extensions)}
+
+
+def tables_of_extensions(text):
+    """The same of the records of extensions, and of the objects in which these are members."""
+    found = {}
+    for at, name, members in cells(text):
+        found.setdefault(KNOWN + at, []).append((name, "rec", False))
+        found[f"{name} of {at}"] = rows(members)
+    for name, members in re.findall(r"An? (\w+) has (.+?)\.(?:\s|$)", " ".join(text.split())):
+        found[name] = rows(members.replace(" and ", " ; "))
     return found
+
+
+def places(known):
+    """Where each record stands: the text around it with the path of it, or the record above it with
+    the member."""
+    found = dict(PLACES)
+    for record in known:
+        if record.startswith(KNOWN):
+            found[record] = (record[len(KNOWN):], "extensions")
+            found.update({held(record, member): (record, member) for member, _, _ in known[record]})
+    return {**found, **INNER}
 
 
 def rows(members):
     """The rows of a table, from its cell."""
+    if members == "none":
+        return []
     short = {"N": "name text?", "X": "extensions object?", "E": "extras any?"}
     parts = []
     for part in members.split(";"):
@@ -123,15 +168,27 @@ def rows(members):
 def split(kind):
     """A kind without its mark, and whether the member has to be there."""
     bare = re.sub(r"=.*", "", kind.rstrip("!?"))
-    bare = re.sub(r"\((accessors|images|nodes|scenes|textures)\)", "", bare)
+    bare = re.sub(r"\((accessors|images|nodes|scenes|textures|the root's lights)\)", "", bare)
+    bare = re.sub(r"list\((light|variant|mapping)\)", "list(rec)", bare)
     return bare, kind.endswith("!")
+
+
+def join(path, step):
+    """The path of a step from a place."""
+    return ".".join(filter(None, [path, step]))
+
+
+def joined(members):
+    """An object of these members."""
+    return "{%s}" % ",".join(f'"{m}":{v}' for m, v in members)
 
 
 class Texts:
     """Texts of a table, and what is printed for each."""
 
     def __init__(self):
-        self.tables, self.lines = tables(), []
+        self.tables, self.lines, self.expected = tables(), [], set()
+        self.places = places(self.tables)
 
     def value(self, record, member, kind):
         """A value of a kind."""
@@ -140,9 +197,7 @@ class Texts:
         if kind == "any":
             return '{"b":[1,-2.5,1e3,null,{"c":"d"}],"e":true}'
         if kind == "code":
-            special = {"camera": CAMERA, "sparse indices": INDEX_COMPONENT}
-            code = special.get(record, CODES[member])
-            return json.dumps(34963 if record == "buffer view" else code)
+            return json.dumps(SPECIAL.get(record, CODES[member]))
         if kind == "rec":
             return self.whole(held(record, member))
         if kind == "list(rec)":
@@ -150,7 +205,7 @@ class Texts:
         return {
             "flag": "true", "size": "7", "n32": "7", "ix": "7", "object": '{"EXT_a":{"b":null}}',
             "attributes": '{"POSITION":1,"_A":2,"NORMAL":null,"B":3}', "list(text)": '["a","b"]',
-            "list(ix)": "[3,4]",
+            "list(ix)": "[3,4]", "list(n32)": "[3,4]",
         }[kind]
 
     def wrong(self, kind):
@@ -170,25 +225,22 @@ class Texts:
             "list(rec)": [("{}", ""), ("[null]", "[0]"), ("[1]", "[0]")],
             "list(text)": [("{}", ""), ('["a",null]', "[1]"), ("[1]", "[0]")],
             "list(ix)": [("{}", ""), ("[1,null]", "[1]"), ("[-1]", "[0]")],
+            "list(n32)": [("{}", ""), ("[1,null]", "[1]"), ("[-1]", "[0]")],
         }[kind]
 
     def whole(self, record):
         """A record with the members that have to be there."""
-        members = [row for row in self.tables[record] if row[2]]
-        return "{%s}" % ",".join(f'"{m}":{self.value(record, m, k)}' for m, k, _ in members)
+        return joined(self.needed(record))
 
     def place(self, record):
         """The text around a record, and its path."""
-        above, step = PLACES[record]
+        above, step = self.places[record]
         if "%s" in above:
             return above, step
         around, path = self.place(above)
         listed = [k for m, k, _ in self.tables[above] if m == step] == ["list(rec)"]
-        others = [row for row in self.tables[above] if row[2] and row[0] != step]
-        members = [f'"{m}":{self.value(above, m, k)}' for m, k, _ in others]
-        members.append(f'"{step}":[%s]' if listed else f'"{step}":%s')
-        inside = "{" + ",".join(members) + "}"
-        return around.replace("%s", inside), f"{path}.{step}" + "[0]" * listed
+        inside = joined([*self.needed(above, step), (step, "[%s]" if listed else "%s")])
+        return around.replace("%s", inside), join(path, step) + "[0]" * listed
 
     def add(self, text, printed):
         self.lines.append((text, printed))
@@ -200,7 +252,7 @@ class Texts:
         known = [(m, self.value(record, m, k)) for m, k, _ in table]
 
         def text(members):
-            return around.replace("%s", "{%s}" % ",".join(f'"{m}":{v}' for m, v in members))
+            return around.replace("%s", joined(members))
 
         def at(member, fault):
             return f"tree: {'.'.join(filter(None, [path, member]))}: {fault}"
@@ -231,44 +283,84 @@ class Texts:
                     self.add(text([*others, (member, value)]), SAME)
 
     def pairs(self, record):
-        """Texts of a record with two faults each: of the rows of its table the upper one is told."""
-        around, path = self.place(record)
-        table = self.tables[record]
-        needed = [(m, self.value(record, m, k)) for m, k, is_needed in table if is_needed]
-
-        def told(members, member, fault):
-            text = around.replace("%s", "{%s}" % ",".join(f'"{m}":{v}' for m, v in members))
-            self.add(text, f"tree: {'.'.join(filter(None, [path, member]))}: {fault}")
-
-        for place, (upper, kind, is_needed) in enumerate(table):
-            for lower, lower_kind, is_lower_needed in table[place + 1 :]:
-                others = [row for row in needed if row[0] not in (upper, lower)]
-                below = self.wrong(lower_kind)[-1:]
-                for value, step in self.wrong(kind)[-1:]:
-                    for wrong, _ in below:
-                        two = [(upper, value), (lower, wrong)]
-                        told([*others, *two], upper + step, "wrong kind")
-                        told([*two[::-1], *others], upper + step, "wrong kind")
-                    if is_lower_needed:
-                        told([*others, (upper, value)], upper + step, "wrong kind")
-                for wrong, _ in below:
-                    if is_needed:
-                        told([(lower, wrong), *others], upper, "missing member")
+        """Texts of a record with two faults each: that of the upper row is reported."""
+        for upper, lower in itertools.combinations(self.tables[record], 2):
+            plain, inner = self.plain(*upper), self.inner(record, *upper[:2])
+            below, inner_below = self.plain(*lower), self.inner(record, *lower[:2])
+            for fault, other in itertools.product(plain, below):
+                self.two(record, fault, other)
+                self.turned(record, fault, other)
+            for fault, other in itertools.product(plain, inner_below):
+                self.turned(record, fault, other)
+            for fault, other in itertools.product(inner, below):
+                self.turned(record, fault, other)
+        for member, kind, _ in self.tables[record]:
             if kind == "list(rec)":
-                self.items(record, upper, [row for row in needed if row[0] != upper], told)
+                self.items(record, member)
 
-    def items(self, record, member, others, told):
-        """Lists of records with two faults: the first item is told, and inside it its first fault."""
-        good = self.whole(held(record, member))
-        inner = [(m, *self.wrong(k)[-1]) for m, k, _ in self.tables[held(record, member)]
-                 if self.wrong(k)]
-        for name, value, step in inner[:1]:
-            bad = "{%s}" % f'"{name}":{value}'
-            told([*others, (member, f"[{bad},1]")], f"{member}[0].{name}{step}", "wrong kind")
-            told([*others, (member, f"[1,{bad}]")], f"{member}[0]", "wrong kind")
-            told([*others, (member, f"[{good},{bad},1]")], f"{member}[1].{name}{step}",
-                 "wrong kind")
-        told([*others, (member, f"[{good},1,[]]")], f"{member}[1]", "wrong kind")
+    def plain(self, member, kind, is_needed):
+        """The faults of a member: a value that is not of its kind, and none where it has to be
+        there."""
+        absent = [Fault(member, None, "", "missing member")] * is_needed
+        return [Fault(member, *it, "wrong kind") for it in self.wrong(kind)[-1:]] + absent
+
+    def inner(self, record, member, kind):
+        """The faults inside the record that a member holds: the first of its rows that can be of a
+        wrong kind is, the last of them is, or no member is there."""
+        inside = KNOWN + record if kind == "object" else held(record, member)
+        if kind not in ("rec", "list(rec)", "object") or inside not in self.tables:
+            return []
+        wrong, needed = self.wrong_rows(inside), self.needed(inside)
+        found = {joined([it[:2]]): it for it in wrong[:1]}
+        found.update({joined([*self.needed(inside, it.member), it[:2]]): it for it in wrong[-1:]})
+        found.update({"{}": Fault(name, None, "", "missing member") for name, _ in needed[:1]})
+        shape, item = ("[%s]", "[0]") if kind == "list(rec)" else ("%s", "")
+        return [Fault(member, shape % value, f"{item}.{it.member}{it.step}", it.name)
+                for value, it in found.items()]
+
+    def wrong_rows(self, record):
+        """The rows of a record that can be of a wrong kind, each with a value that is."""
+        return [fault for member, kind, _ in self.tables[record]
+                for fault in self.plain(member, kind, False)]
+
+    def needed(self, record, *without):
+        """The members of a record that have to be there, but for these."""
+        return [(m, self.value(record, m, k)) for m, k, is_needed in self.tables[record]
+                if is_needed and m not in without]
+
+    def two(self, record, fault, other):
+        """A text of a record with two faults, of which the first is reported."""
+        members = self.needed(record, fault.member, other.member)
+        self.expect(record, [*members, fault[:2], other[:2]], fault)
+
+    def turned(self, record, fault, other):
+        """The same in the other order of the text."""
+        members = self.needed(record, fault.member, other.member)
+        self.expect(record, [other[:2], fault[:2], *members], fault)
+
+    def expect(self, record, members, fault):
+        """Adds a text of a record with these members, but for those without a value, of which this
+        fault is reported; once."""
+        around, path = self.place(record)
+        text = around.replace("%s", joined((m, v) for m, v in members if v is not None))
+        line = (text, f"tree: {join(path, fault.member + fault.step)}: {fault.name}")
+        if line not in self.expected:
+            self.expected.add(line)
+            self.add(*line)
+
+    def items(self, record, member):
+        """Lists of records with two faults: that of the first item is reported, and of an item that
+        of the upper row."""
+        inside, others = held(record, member), self.needed(record, member)
+        good = self.whole(inside)
+        lists = [(f"[{good},1,[]]", "[1]")]
+        for bad in self.wrong_rows(inside)[:1]:
+            item, step = joined([bad[:2]]), f".{bad.member}{bad.step}"
+            lists += [(f"[{item},1]", "[0]" + step), (f"[1,{item}]", "[0]"),
+                      (f"[{good},{item},1]", "[1]" + step)]
+        for value, step in lists:
+            fault = Fault(member, value, step, "wrong kind")
+            self.expect(record, [*others, fault[:2]], fault)
 
     def broken(self):
         """Texts that are no JSON text, depths, and long texts."""
@@ -308,7 +400,7 @@ class Texts:
     def all(self):
         for record in PLACES:
             self.record(record)
-        for record in PLACES:
+        for record in self.places:
             self.pairs(record)
         self.broken()
         return self.lines

@@ -1,5 +1,5 @@
-//! The layers of a document over its bytes, which are lent or given up. What is lent is copied
-//! where it has to be owned; what is given up is handed on.
+//! The layers of a document over its bytes, which are lent or given up. A blob that is lent is
+//! copied; one that is given up is handed on.
 ghost use Rattle.std.specs.Prelude.{◌≡◌, ◌≢◌, ℕ, List, Option, IfOk, IfErr, IfSome};
 ghost use Rattle.std.specs.Prelude.{◌+◌, ◌<◌, ◌≤◌, ◌^◌, length, vec_capacity};
 ghost use Rattle.std.specs.Cow.{cow_slice_items};

@@ -43,9 +43,9 @@ impl std::error::Error for NotWritten {}
 
 /// The bytes of all items of an accessor one after the other, without padding between items, and
 /// with the values of its sparse part in their places (glTF 2.0, section 3.6.2, "Accessors"). None
-/// exactly where the accessor cannot be read as items of its own size: where it has no items, where
-/// its view, or one of its sparse part, is not there, too short or without bytes, or where items
-/// overlap. The closure gives the bytes of buffers.
+/// exactly where the accessor cannot be read as items of its own size, as [`Iter::new`] says: so
+/// also where it has no items, or neither a view nor a sparse part. The closure gives the bytes of
+/// buffers.
 ///
 /// There are `accessor.count() * accessor.size()` of them. A sparse accessor without a view may
 /// have any count, whatever the size of the file: ask before you make room.

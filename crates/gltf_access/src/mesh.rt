@@ -22,7 +22,8 @@ use gltf_scene::mesh::{MorphTarget, Primitive, Semantic};
 /// Why nothing is read of an attribute as what the standard has for it (section 3.7.2.1, "Meshes:
 /// Overview"): None exactly where its items are of such a type and the reader's call for it
 /// (`read_positions` for `POSITION`, `read_colors(n)` for `COLOR_n`, and so on) gives them. The
-/// reader's calls for floats look at the bytes of an item alone, and may give items of another type
+/// reader's calls look at the type of components where the table has several, at the dimensions of
+/// colours, and else at the bytes of an item alone, so that they may give items of another type
 /// too. The closure gives the bytes of buffers.
 pub fn why_not_read<'s, F: Fn(Buffer) -> Option<&'s [u8]>>(
     primitive: &Primitive,

@@ -24,7 +24,7 @@ pub(crate) fn is_packed(accessor: Accessor) -> bool
     }
 }
 
-/// The bytes of all items where they lie, by one question to the closure. None where the accessor
+/// The bytes of all items where they lie, by one answer of the closure. None where the accessor
 /// cannot be read.
 pub(crate) fn packed_bytes<'s, F: Fn(Buffer) -> Option<&'s [u8]>>(
     accessor: Accessor,

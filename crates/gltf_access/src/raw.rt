@@ -108,7 +108,7 @@ fn within<'s>(given: &'s [u8], view: View) -> Option<&'s [u8]>
     Some(&given[offset..offset + length])
 }
 
-/// The bytes of some items of a view, by one question to the closure.
+/// The bytes of some items of a view, by one answer of the closure.
 fn part_bytes<'s, F: Fn(Buffer) -> Option<&'s [u8]>>(
     view: View,
     offset: usize,

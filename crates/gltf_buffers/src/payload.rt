@@ -71,7 +71,7 @@ fn completed_text(alloc: Global, text: &[u8]) -> Result<CowSlice<'_, u8>, AllocE
 /// carries it (glTF 2.0, section 2.8).
 ///
 /// Where the payload's length in bytes leaves 2 or 3 when divided by four, two or one `=` are put
-/// after it first. Any other payload is decoded where it lies, without a copy.
+/// after it first. Any other payload is decoded as it is.
 ///
 /// `DecodeError` is the fault of the payload with the `=` added, and `OutOfMemory` says that there
 /// was not enough memory.

@@ -68,8 +68,7 @@ pub extern "C" fn core_open(
     open::open(alloc, CowSlice::Borrowed(bytes), names, flags, file, fault)
 }
 
-/// The same of a block of memory that is given up: the blob of a container keeps it, and it is
-/// freed with the file; else it is freed here.
+/// The same of a block of memory that is given up. It is freed here, or with the file.
 #[unsafe(no_mangle)]
 pub extern "C" fn core_open_owned(
     alloc: Global,

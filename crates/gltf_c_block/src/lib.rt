@@ -1,5 +1,4 @@
-//! A block of memory from C, as a vector of bytes. Nothing is copied: the vector has the bytes in
-//! the memory in which they are, and frees it.
+//! A block of memory from C, as a vector of bytes.
 //!
 //! No function asks anything of its arguments. What C has to keep is what a `GltfBlock` owns
 //! (`specs/Owned.antt`), which C cannot say in a type.
@@ -48,7 +47,7 @@ struct Parts {
     alloc: Global,
 }
 
-/// The bytes of a block, in the memory in which they are: nothing is copied. The vector frees it.
+/// The bytes of a block, as a vector that frees it. That nothing is copied is not in the contract.
 pub fn into_vec(alloc: Global, block: GltfBlock) -> Vec<u8>
     ensures { result.items ≡ block.bytes }
 {

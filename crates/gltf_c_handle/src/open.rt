@@ -16,15 +16,14 @@ use std::alloc::Global;
 use std::borrow::CowSlice;
 
 /// Opens a file from its bytes: a GLB container where they begin with `glTF`, else JSON text (glTF
-/// 2.0, sections 2.8, 3.6.1 and 4.4). Of bytes that are lent a copy is made of what is needed; of
-/// bytes that are given up the blob of a container keeps their memory. What `file` held is freed.
+/// 2.0, sections 2.8, 3.6.1 and 4.4). What `file` held is freed.
 ///
 /// `names` has the names of extensions that the caller handles, each with a zero byte after it.
 /// With an odd number in `flags` a buffer whose URI leads to another file waits for its bytes.
 ///
 /// Returns 0 where the bytes are accepted, and then `file` holds their document and buffers, and
-/// `fault` says that there is none. Else `file` is closed, and `fault` has the first fault; the
-/// number is that of its status.
+/// `fault` says that there is none. Else `file` is closed, and `fault` says why; the number is that
+/// of its status.
 pub fn open(
     alloc: Global,
     bytes: CowSlice<'_, u8>,

@@ -1,5 +1,4 @@
-//! Files from their bytes, which are lent or given up. The blob of a container is copied where they
-//! are lent, and handed on where they are given up.
+//! Files from their bytes, which are lent or given up.
 ghost use Rattle.std.specs.Prelude.{◌≡◌, ◌⊎◌, Ok, Err, IfOk, IfErr, map};
 ghost use Rattle.std.specs.Cow.{cow_slice_items};
 ghost use Rattle.gltf_glb.specs.declared.error.Error.TheVariants.{Memory};

@@ -216,9 +216,7 @@ impl<'s, T: Item> Iter<'s, T> {
     /// a sparse one without a view is zeros under its values, and has some. They are `Sparse`
     /// exactly where the accessor has a sparse part.
     ///
-    /// The closure is asked once for each part that is reached, in that order, and not after the
-    /// first that is not there. It takes no memory, reads each stored index at most once, and no
-    /// item.
+    /// It takes no memory, reads each stored index at most once, and no item.
     pub fn new<F: Fn(Buffer) -> Option<&'s [u8]>>(
         accessor: Accessor,
         get_buffer_data: &F,

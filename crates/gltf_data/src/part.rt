@@ -136,7 +136,7 @@ fn cut<'s>(
     Ok(&bytes[start..start + (end - offset)])
 }
 
-/// The items of a part, by one question to the closure.
+/// The items of a part, by one answer of the closure.
 pub(crate) fn items<'s, T: Item, F: Fn(Buffer) -> Option<&'s [u8]>>(
     which: Part,
     view: View,

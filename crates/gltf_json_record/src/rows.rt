@@ -46,7 +46,7 @@ pub trait Rows: Copy {
     /// The kind of a record with these rows, for members of these names.
     ghost rows_kind: { Self → List (List ℕ) → Kind Self.Read };
 
-    /// Reads the members of these names of an object, in turn, up to the first fault.
+    /// Reads the members of these names of an object.
     fn read(
         &self,
         alloc: Global,

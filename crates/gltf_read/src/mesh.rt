@@ -60,6 +60,8 @@ impl<'a, 's, F: Fn(Buffer) -> Option<&'s [u8]>> Reader<'a, 's, F> {
 
     /// Positions of vertices: `POSITION`. None where the primitive has no such attribute, or its
     /// accessor cannot be read as that. The same holds of each reading below.
+    ///
+    /// It looks at the bytes of an item alone; [`crate::typed::read_positions`] at the type too.
     pub fn read_positions(&self) -> Option<ReadPositions<'s>>
         requires { F.IsAlwaysCallable (closure_of self.now) }
         ensures { let p = primitive_of self.now in
