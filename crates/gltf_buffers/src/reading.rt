@@ -51,9 +51,7 @@ pub fn read_buffers<N: Ask>(
 /// Each buffer's own answer, by index: its bytes, or the error that [`read_buffers`] returns where
 /// it is the first buffer that has one (glTF 2.0, section 3.6.1). No error ends the walk.
 ///
-/// A name is asked for once for each buffer that leads to it, in order, also after one that
-/// failed. The first buffer without URI gets the blob. No other one does, also where the first has
-/// an error.
+/// The first buffer without URI gets the blob. No other one does, also where the first has an error.
 ///
 /// The error of the call says that there is no memory for the list; then nothing was asked for.
 /// [`Error::Memory`] in the list is about that buffer alone.
