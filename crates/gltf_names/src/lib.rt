@@ -4,6 +4,7 @@
 mod failures;
 mod folder;
 mod inside;
+mod lent;
 mod links;
 mod log;
 mod name;
@@ -13,6 +14,7 @@ mod shelf;
 
 pub use folder::Folder;
 pub use inside::Inside;
+pub use lent::Lent;
 pub use links::stays_inside;
 pub use name::{Name, NamedBytes, NamedFault};
 pub use outside::{Outside, leads_outside, outside_of};
