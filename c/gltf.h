@@ -118,9 +118,9 @@ enum {
 typedef struct gltf_fault {
     gltf_status status;  /* what gltf_open returned, or GLTF_BAD_EXTENSION */
     unsigned int rules;  /* of GLTF_BROKEN_RULES the number of broken rules, or UINT_MAX; else 0 */
-    size_t buffer;       /* the buffer, of GLTF_SHORT_BUFFER and of faults of gltf_load.h; else GLTF_NONE */
+    size_t buffer;       /* that of GLTF_SHORT_BUFFER or of a fault of gltf_load.h, or GLTF_NONE */
     size_t expected;     /* the byteLength of that buffer if it is GLTF_SHORT_BUFFER, else 0 */
-    size_t actual;       /* and the number of bytes that it has, in gltf_open with zeros after them */
+    size_t actual;       /* and the number of bytes that it has, in gltf_open with the zeros */
     size_t reserved[4];
     char path[128];      /* where, if it is known: a JSON Pointer (RFC 6901) as `/nodes/0/mesh` */
     char text[512];      /* what: a message for people, with all broken rules */
