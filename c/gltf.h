@@ -116,7 +116,7 @@ enum {
 
 /* Why a file was not opened, or what gltf_variant_fault found. */
 typedef struct gltf_fault {
-    gltf_status status;  /* what gltf_open returned, or GLTF_BAD_EXTENSION */
+    gltf_status status;  /* what the call returned; of gltf_variant_fault GLTF_BAD_EXTENSION */
     unsigned int rules;  /* of GLTF_BROKEN_RULES the number of broken rules, or UINT_MAX; else 0 */
     size_t buffer;       /* that of GLTF_SHORT_BUFFER or of a fault of gltf_load.h, or GLTF_NONE */
     size_t expected;     /* the byteLength of that buffer if it is GLTF_SHORT_BUFFER, else 0 */
@@ -153,12 +153,13 @@ typedef struct gltf_open_options {
  *
  * Returns GLTF_SUCCESS only if the container, the JSON text, the records, the rules and the buffers
  * are valid; if they are, it returns that or GLTF_NO_MEMORY, which says nothing about the file.
- * With GLTF_SUCCESS `*file` is the open file, and `*fault` is empty: its `status` is 0 and its
- * `buffer` is GLTF_NONE. Else `*file` is NULL and `*fault` describes the first of these layers that
- * is not valid. The rules are that indices are in range, codes known, required members there, and
- * each required extension supported (see gltf_json) or one of `options->extensions`. The buffers
- * are valid if each has as many bytes as it declares, with zeros after them up to a multiple of 4,
- * so up to three may be missing; with GLTF_EXTERNAL those in other files are not looked at here. */
+ * With GLTF_SUCCESS `*file` is the open file, and `*fault` is empty (`status` 0, `buffer`
+ * GLTF_NONE). Else `*file` is NULL and `*fault` describes the first of these layers that is not
+ * valid. The rules are that indices are in range, codes and attributes known, required members
+ * there, and each required extension supported (see gltf_json) or one of `options->extensions`. The
+ * buffers are valid if each has as many bytes as it declares, with zeros after them up to a
+ * multiple of 4, so up to three may be missing; with GLTF_EXTERNAL those in other files are not
+ * looked at here. */
 GLTF_API gltf_status gltf_open(const void *bytes, size_t size, const gltf_open_options *options,
                                gltf_file **file, gltf_fault *fault)
     GLTF_CHECKED GLTF_NONNULL((1, 4, 5));
@@ -218,7 +219,7 @@ GLTF_API gltf_status gltf_name(const gltf_file *file, unsigned int kind, size_t 
                                size_t room, size_t *length) GLTF_CHECKED GLTF_NONNULL((6));
 
 enum {
-    GLTF_BUFFER_URI = 0,        /* 5.10.1: with its escapes as `%20`; also the next */
+    GLTF_BUFFER_URI = 0,        /* 5.10.1: escapes as `%20` are not decoded; also of the next */
     GLTF_IMAGE_URI = 1,         /* 5.18.1 */
     GLTF_IMAGE_MIME_TYPE = 2,   /* 5.18.2: as `image/png` */
     GLTF_ASSET_VERSION = 3,     /* 5.9. The index of these four is 0 */
@@ -603,7 +604,7 @@ typedef struct gltf_channel {
     size_t sampler;             /* its position in the animation */
     size_t input;               /* an accessor: times in seconds */
     size_t output;              /* an accessor: values, three for each time of a
-                                   GLTF_CUBIC_SPLINE */
+                                   GLTF_CUBIC_SPLINE; of weights that for each morph target */
     size_t reserved[2];
 } gltf_channel;
 
