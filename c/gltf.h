@@ -158,8 +158,7 @@ typedef struct gltf_open_options {
  * valid. The rules are that indices are in range, codes and attributes known, required members
  * there, and each required extension supported (see gltf_json) or one of `options->extensions`. The
  * buffers are valid if each has as many bytes as it declares, with zeros after them up to a
- * multiple of 4, so up to three may be missing; with GLTF_EXTERNAL those in other files are not
- * looked at here. */
+ * multiple of 4, so up to three may be missing; with GLTF_EXTERNAL those in other files wait. */
 GLTF_API gltf_status gltf_open(const void *bytes, size_t size, const gltf_open_options *options,
                                gltf_file **file, gltf_fault *fault)
     GLTF_CHECKED GLTF_NONNULL((1, 4, 5));
