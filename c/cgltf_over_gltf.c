@@ -13,10 +13,11 @@
  *   - A sparse accessor has its items in a buffer of its own: `is_sparse` is 0.
  *   - `texcoord` of a texture is that of its KHR_texture_transform, if it has one, and
  *     `has_texcoord` is 0.
- *   - `json` has the extras of all records and nothing else. `bin` is NULL: the bytes of buffers
- *     are copies, as a caller may free them.
- *   - Extras and unknown extensions of textures in materials, of channels and of samplers of
- *     animations are left out. */
+ *   - `json` has the texts of extras and extensions that libgltf gives, and nothing else. `bin` is
+ *     NULL: the bytes of buffers are copies, as a caller may free them.
+ *   - Extras and extensions of records inside others, as of a texture in a material, are left out,
+ *     and so are extensions of channels and of samplers of animations, and extras of variants.
+ *   - `extensions` of a material also has clearcoat, sheen and iridescence. */
 #define cgltf_parse cgltf_own_parse
 #define cgltf_parse_file cgltf_own_parse_file
 #define cgltf_load_buffers cgltf_own_load_buffers
@@ -50,7 +51,7 @@ typedef struct model {
     cgltf_data data; /* the first member: a pointer to it is one to the whole */
     gltf_file *file;
     block *blocks;   /* all that was allocated */
-    char *json;      /* the extras of all records */
+    char *json;      /* extras and extensions, one text after the other */
     size_t json_size, json_room;
     jmp_buf failed;  /* where a cgltf_result is thrown to */
 } model;
@@ -179,7 +180,7 @@ static cgltf_extras extras_of(model *m, unsigned int kind, size_t index, size_t 
     return json_of(m, kind, index, part, NULL, 0);
 }
 
-/* The extensions of a record that are no members of cgltf's structs. */
+/* The extensions of a record that gltf_json gives, of those that the file declares. */
 static cgltf_extension *extensions_of(model *m, unsigned int kind, size_t index, size_t part,
                                       cgltf_size *count)
 {
@@ -257,7 +258,7 @@ static void find_texture(model *m, cgltf_texture_view *view)
 
 typedef enum layer { CLEARCOAT, SHEEN, IRIDESCENCE, LAYERS } layer;
 
-/* The extensions of materials that gltf.h has as JSON alone, by cgltf's own parsers. */
+/* An extension of a material, by cgltf's own parser over its JSON. */
 static int parse_layer(model *m, cgltf_material *out, size_t index, layer which)
 {
     static const char *const names[LAYERS] = {

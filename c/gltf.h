@@ -4,44 +4,44 @@
  *     gltf_fault fault;
  *     gltf_accessor points;
  *
- *     if (gltf_open(bytes, size, NULL, &file, &fault) != GLTF_SUCCESS) {
- *         fprintf(stderr, "%s: %s\n", fault.path, fault.text);
- *         return 1;
- *     }
- *     if (gltf_accessor_info(file, 0, &points) == GLTF_SUCCESS && points.data != NULL)
+ *     if (gltf_open(bytes, size, NULL, &file, &fault) != GLTF_SUCCESS)
+ *         return fprintf(stderr, "%s: %s\n", fault.path, fault.text), 1;
+ *     if (gltf_accessor_info(file, 0, &points) == GLTF_SUCCESS && points.data != NULL
+ *         && points.component_type == GLTF_F32 && points.components == 3)
  *         upload(points.data, points.count, points.stride);
  *     gltf_close(file);
  *
- * Files. gltf_open makes a gltf_file and gltf_close frees it. The calls that read a file take a
- * `const gltf_file *`. They do not change the file, so any number of threads may read one file at
- * the same time. gltf_give and gltf_close change the file: no other thread may use it meanwhile. A
- * NULL file is a closed file. Every call accepts it: gltf_close does nothing, gltf_count returns 0,
- * and the others return GLTF_CLOSED.
+ * Files. gltf_open and gltf_open_owned make a gltf_file, and gltf_close frees it. The calls that
+ * read a file take a `const gltf_file *`. They do not change the file, so any number of threads may
+ * read one file at the same time. gltf_give and gltf_close change it: no other thread may use the
+ * file meanwhile. A NULL file is a closed file. Every call that takes a file accepts it: gltf_close
+ * does nothing, gltf_count returns 0, and the others return GLTF_CLOSED.
  *
  * Return values. A call that can fail returns a gltf_status. If it is not GLTF_SUCCESS, nothing has
  * been written to the caller's variables, except by gltf_open and gltf_open_owned. Every call that
  * takes a file and an index returns GLTF_CLOSED if the file is NULL, and GLTF_NO_SUCH_INDEX if it
- * has no record with that index; these two are not mentioned again below. Indices begin at 0, in
- * the order of the file. An index that is absent in a record is GLTF_NONE.
+ * has no such record or list; these two are not mentioned again below. GLTF_NO_MEMORY is, at each
+ * call that may return it. Indices begin at 0, in the order of the file. An index that is absent in
+ * a record is GLTF_NONE.
  *
- * Records. Each kind of record has one struct, and one call that fills it. A member that is absent
- * in the file has the default of glTF 2.0. A number is the double nearest to the one in the file. A
- * member that should be a number, or a list of so many numbers, and is not, has its default too: no
- * rule refuses it. (The calls for extensions at the end of this header return GLTF_BAD_EXTENSION
- * there.) Members called `reserved` are 0. Later libraries with the same major version may use
- * them, where 0 will mean what this version does. They add calls, enumerators and bits, and change
- * nothing else.
+ * Records. Most kinds of records have a struct, and one call that fills it. A member that is absent
+ * in the file has the default of glTF 2.0 or of its extension; without one, what is said at the
+ * member, or 0. A number is the double nearest to the one in the file. A `double` that is no number
+ * there, or no list of so many, has its default too: no rule refuses it. (The calls for extensions
+ * at the end of this header return GLTF_BAD_EXTENSION there.) Members called `reserved` are 0.
+ * Later libraries with the same major version may use them, where 0 will mean what this version
+ * does. They add calls, enumerators and bits, and change nothing else.
  *
  * Texts are UTF-8. They are copied to `text`, which has room for `room` bytes, are cut to `room` -
  * 1 bytes, and end with a zero byte. A cut may split a character. `*length` receives the length of
  * the whole text without that zero byte; the text was cut if `*length` >= `room`. If `room` is 0,
  * nothing is copied and `text` may be NULL. A text may have zero bytes of its own.
  *
- * Lists are copied to `out`, which has room for `room` elements; those that do not fit are left
- * out. `*count` receives the length of the whole list. If `room` is 0, `out` may be NULL.
+ * Lists (gltf_list, gltf_numbers) are copied to `out`, with room for `room` elements; others are
+ * left out. `*count` receives the length of the whole list. If `room` is 0, `out` may be NULL.
  *
- * Pointers to bytes in a struct (`bytes`, `data`) point into the file. They are valid until
- * gltf_close, and those into a buffer that waits are NULL until gltf_give. Do not write to them.
+ * Pointers to bytes (`bytes`, `data`) point into the file and are valid until gltf_close. One into
+ * a buffer that waits is NULL, and one beside a `size` of 0 may be any. Do not write to them.
  *
  * What a caller has to observe:
  *   1. A pointer may be NULL only where this header says so. A pointer and a size beside it are a
@@ -58,8 +58,8 @@
  * memory but what it was given and what it has from malloc, and does what is said at the call.
  * Tested, not proved: the few lines of C between this header and the proved code (c/gltf_shim.c;
  * gltf_accessor_read_u32 widens there what the proved code reads), that reading from many threads
- * is safe, that the bytes behind a pointer stay until gltf_close, and that all memory is freed.
- *
+ * is safe, that the bytes behind a pointer stay until gltf_close, that GLTF_NO_MEMORY comes only
+ * for want of memory, and that all memory is freed.
  * Section numbers are those of the glTF 2.0 specification. */
 #ifndef GLTF_H
 #define GLTF_H
@@ -95,35 +95,34 @@ typedef struct gltf_file gltf_file;
 typedef unsigned int gltf_status;
 enum {
     GLTF_SUCCESS = 0,
-    GLTF_NO_MEMORY = 1,          /* malloc failed */
+    GLTF_NO_MEMORY = 1,          /* there was not enough memory */
     GLTF_BAD_CONTAINER = 2,      /* the bytes begin with `glTF` and are not a GLB container (4.4) */
     GLTF_BAD_JSON = 3,           /* the text is not JSON, or not a glTF document (3.2) */
     GLTF_BROKEN_RULES = 4,       /* the document breaks rules, as an index out of range */
     GLTF_BAD_BASE64 = 5,         /* the data of a data URI is not base64 (2.8) */
     GLTF_SHORT_BUFFER = 6,       /* a buffer has fewer bytes than its byteLength (3.6.1) */
-    GLTF_MISSING_BLOB = 7,       /* a buffer has no URI, and there is no BIN chunk (3.6.1.2) */
-    GLTF_EXTERNAL_REFERENCE = 8, /* a buffer is in another file, and GLTF_EXTERNAL was not given */
-    GLTF_UNSUPPORTED_SCHEME = 9, /* a URI has a scheme other than `data` and `file` */
+    GLTF_MISSING_BLOB = 7,       /* a buffer has neither a URI nor the BIN chunk (3.6.1.2) */
+    GLTF_EXTERNAL_REFERENCE = 8, /* a buffer in another file is not allowed: see GLTF_EXTERNAL */
+    GLTF_UNSUPPORTED_SCHEME = 9, /* a URI's scheme is not `data` or `file`, or it is not UTF-8 */
     GLTF_CANNOT_READ = 10,       /* returned by gltf_load.h alone: a file cannot be read */
     GLTF_CLOSED = 11,            /* the file is NULL */
     GLTF_NO_SUCH_INDEX = 12,     /* there is no such record, or it has not what was asked for */
-    GLTF_UNREADABLE = 13,        /* the accessor does not fit its buffer views, or they do not fit
-                                    their buffers, as one that waits for gltf_give */
+    GLTF_UNREADABLE = 13,        /* the accessor cannot be read: gltf_accessor_read says when */
     GLTF_NO_ROOM = 14,           /* the items do not fit into `out` */
     GLTF_OTHER_TYPE = 16,        /* the accessor's components are not of the type of this call */
     GLTF_BAD_EXTENSION = 17      /* the extension has a member that is missing or of another kind,
                                     an index out of range, or an unknown word */
 };
 
-/* Why gltf_open failed, or what gltf_variant_fault found. */
+/* Why a file was not opened, or what gltf_variant_fault found. */
 typedef struct gltf_fault {
-    gltf_status status;  /* what gltf_open returned, or GLTF_BAD_EXTENSION */
-    unsigned int rules;  /* the number of broken rules if it is GLTF_BROKEN_RULES, else 0 */
-    size_t buffer;       /* the buffer that is at fault, or GLTF_NONE */
+    gltf_status status;  /* what the call returned; of gltf_variant_fault GLTF_BAD_EXTENSION */
+    unsigned int rules;  /* of GLTF_BROKEN_RULES the number of broken rules, or UINT_MAX; else 0 */
+    size_t buffer;       /* that of GLTF_SHORT_BUFFER or of a fault of gltf_load.h, or GLTF_NONE */
     size_t expected;     /* the byteLength of that buffer if it is GLTF_SHORT_BUFFER, else 0 */
-    size_t actual;       /* and the number of bytes that it has */
+    size_t actual;       /* and the number of bytes that it has, in gltf_open with the zeros */
     size_t reserved[4];
-    char path[128];      /* where: a JSON Pointer (RFC 6901) as `/nodes/0/mesh`, or "" */
+    char path[128];      /* where, if it is known: a JSON Pointer (RFC 6901) as `/nodes/0/mesh` */
     char text[512];      /* what: a message for people, with all broken rules */
 } gltf_fault;            /* both texts are cut where they are too long, and end with a zero byte */
 
@@ -142,9 +141,9 @@ enum {
 typedef struct gltf_open_options {
     unsigned int flags;            /* GLTF_EXTERNAL or 0; other bits are ignored */
     unsigned int reserved_word;
-    const char *const *extensions; /* names of extensions that you handle yourself: a file that
-                                      requires them is accepted. Texts that end with a zero byte */
-    size_t extension_count;
+    const char *const *extensions; /* names of extensions that you handle yourself, which a file may
+                                      require then. Texts that end with a zero byte */
+    size_t extension_count;        /* if it is 0, `extensions` may be NULL */
     size_t reserved[4];
 } gltf_open_options;
 
@@ -152,14 +151,14 @@ typedef struct gltf_open_options {
  * (2.8, 3.6.1, 4.4). `options` may be NULL. The library keeps copies, so `bytes` may be freed as
  * soon as the call returns.
  *
- * Returns GLTF_SUCCESS exactly if the container, the JSON text, the records, the rules and the
- * buffers are valid, and there was enough memory. `*file` is then the open file, and `*fault` is
- * empty: its `status` is 0 and its `buffer` is GLTF_NONE. Otherwise `*file` is NULL and `*fault`
- * describes the first of these layers that is not valid. The rules are that indices are in range,
- * that codes are known, that required members are there, and that each required extension is
- * supported or is one of `options->extensions`. The buffers are valid if each has as many bytes as
- * it declares; with GLTF_EXTERNAL those in other files are not looked at here. GLTF_NO_MEMORY says
- * nothing about the file. */
+ * Returns GLTF_SUCCESS only if the container, the JSON text, the records, the rules and the buffers
+ * are valid; if they are, it returns that or GLTF_NO_MEMORY, which says nothing about the file.
+ * With GLTF_SUCCESS `*file` is the open file, and `*fault` is empty (`status` 0, `buffer`
+ * GLTF_NONE). Else `*file` is NULL and `*fault` describes the first of these layers that is not
+ * valid. The rules are that indices are in range, codes and attributes known, required members
+ * there, and each required extension supported (see gltf_json) or one of `options->extensions`. The
+ * buffers are valid if each has as many bytes as it declares, with zeros after them up to a
+ * multiple of 4, so up to three may be missing; with GLTF_EXTERNAL those in other files wait. */
 GLTF_API gltf_status gltf_open(const void *bytes, size_t size, const gltf_open_options *options,
                                gltf_file **file, gltf_fault *fault)
     GLTF_CHECKED GLTF_NONNULL((1, 4, 5));
@@ -167,8 +166,8 @@ GLTF_API gltf_status gltf_open(const void *bytes, size_t size, const gltf_open_o
 /* Opens a file as gltf_open does, of bytes that the library takes over: `bytes` is a block from
  * malloc, calloc or realloc, of which the first `size` bytes are written. From the call on it is
  * the library's, also if the call fails: it is freed by this call or by gltf_close, so do not use
- * it again. The BIN chunk of a container keeps its memory and is not copied. `bytes` may be NULL if
- * `size` is 0.
+ * it again. It is written so that the BIN chunk of a container moves to the front of that block and
+ * is not copied elsewhere, which is not proved. `bytes` may be NULL if `size` is 0.
  *
  * Returns what gltf_open returns for these bytes. */
 GLTF_API gltf_status gltf_open_owned(void *bytes, size_t size, const gltf_open_options *options,
@@ -176,8 +175,8 @@ GLTF_API gltf_status gltf_open_owned(void *bytes, size_t size, const gltf_open_o
     GLTF_CHECKED GLTF_NONNULL((4, 5));
 
 /* Supplies the bytes of a buffer that waits for them (`waits` of gltf_buffer). They are copied.
- * Returns GLTF_NO_SUCH_INDEX if there is no such buffer or it does not wait, and GLTF_SHORT_BUFFER
- * if `size` is less than its byteLength. If the call fails, the buffer still waits. */
+ * Returns GLTF_NO_SUCH_INDEX if there is no such buffer or it does not wait, GLTF_SHORT_BUFFER if
+ * `size` is less than its byteLength, or GLTF_NO_MEMORY. If the call fails, nothing has changed. */
 GLTF_API gltf_status gltf_give(gltf_file *file, size_t index, const void *bytes, size_t size)
     GLTF_CHECKED GLTF_NONNULL((3));
 
@@ -202,11 +201,11 @@ enum {
     GLTF_CAMERAS = 12,
     GLTF_LIGHTS = 13,              /* of KHR_lights_punctual */
     GLTF_VARIANTS = 14,            /* of KHR_materials_variants */
-    GLTF_EXTENSIONS_USED = 15,     /* gltf_name returns the elements of these two lists */
+    GLTF_EXTENSIONS_USED = 15,     /* gltf_name copies the elements of these two lists */
     GLTF_EXTENSIONS_REQUIRED = 16, /* without those that gltf_open was given in its options */
     GLTF_ASSET = 17,               /* one record: `asset` */
     GLTF_ROOT = 18,                /* one record: the document */
-    GLTF_PRIMITIVES = 19,          /* of a mesh: for gltf_json only, as the next two */
+    GLTF_PRIMITIVES = 19,          /* of a mesh: for gltf_json, gltf_xmp_packet, as the next two */
     GLTF_CHANNELS = 20,            /* of an animation */
     GLTF_ANIMATION_SAMPLERS = 21   /* of an animation */
 };
@@ -219,7 +218,7 @@ GLTF_API gltf_status gltf_name(const gltf_file *file, unsigned int kind, size_t 
                                size_t room, size_t *length) GLTF_CHECKED GLTF_NONNULL((6));
 
 enum {
-    GLTF_BUFFER_URI = 0,        /* 5.10.1: as it is in the file, not decoded; also the next */
+    GLTF_BUFFER_URI = 0,        /* 5.10.1: escapes as `%20` are not decoded; also of the next */
     GLTF_IMAGE_URI = 1,         /* 5.18.1 */
     GLTF_IMAGE_MIME_TYPE = 2,   /* 5.18.2: as `image/png` */
     GLTF_ASSET_VERSION = 3,     /* 5.9. The index of these four is 0 */
@@ -234,12 +233,12 @@ GLTF_API gltf_status gltf_text(const gltf_file *file, unsigned int what, size_t 
 
 /* Copies JSON text: the `extras` of a record if `extension` is NULL, else what the record has in
  * its `extensions` under that name, which has `extension_size` bytes (3.12). `part` is the position
- * of a primitive in its mesh, or of a channel or sampler in its animation; for other kinds it is
- * not looked at. The text means the same as the text in the file, and need not be spelled alike.
- * Returns GLTF_NO_SUCH_INDEX if there is none. So it does for KHR_lights_punctual,
- * KHR_materials_variants, KHR_texture_transform and those of `gltf_material.has`, at the records
- * where they belong; and for all extensions of channels, animation samplers, lights and variants,
- * which are not kept. It may return GLTF_NO_MEMORY. */
+ * of a primitive in its mesh, or of a channel or sampler in its animation, else ignored. The text
+ * means the same as that in the file, and may be spelled otherwise. Returns GLTF_NO_SUCH_INDEX if
+ * there is none. So it does for the supported extensions (KHR_lights_punctual,
+ * KHR_materials_variants, KHR_texture_transform, those of `gltf_material.has`) where they belong,
+ * for extensions of channels, animation samplers, lights and variants, for extras of variants, and
+ * inside of records, as at the use of a texture. It may return GLTF_NO_MEMORY. */
 GLTF_API gltf_status gltf_json(const gltf_file *file, unsigned int kind, size_t index, size_t part,
                                const char *extension, size_t extension_size, char *text,
                                size_t room, size_t *length) GLTF_CHECKED GLTF_NONNULL((9));
@@ -299,10 +298,10 @@ enum { GLTF_I8 = 5120, GLTF_U8 = 5121, GLTF_I16 = 5122, GLTF_U16 = 5123, GLTF_U3
        GLTF_F32 = 5126 };
 
 /* An accessor whose items can be used where they are has `data` != NULL: item i is at `data` + i *
- * `stride`, for every i below `count`. This is so if the accessor has a buffer view, all items are
- * inside it, it is inside its buffer, no item is overridden by `sparse`, and the items have no
- * padding inside (3.6.2.4). Otherwise copy them with gltf_accessor_read. glTF wants files to align
- * items to their components, but no rule here refuses a file that does not. */
+ * `stride`, for every i below `count`. This is so exactly if it has items, a buffer view and no
+ * `sparse` (also none with a count of 0), all items are inside the view and that inside its buffer,
+ * `stride` is not less than `item_size`, and items have no padding inside (3.6.2.4). Otherwise copy
+ * them with gltf_accessor_read. No rule asks that items are aligned. */
 typedef struct gltf_accessor {
     size_t count;                /* the number of items, as the file says: check it before you
                                     allocate memory for an accessor whose `data` is NULL */
@@ -312,11 +311,11 @@ typedef struct gltf_accessor {
                                     column */
     unsigned int is_matrix;      /* 1 or 0 */
     unsigned int normalized;     /* 1 or 0 */
-    size_t sparse;               /* the number of items that are overridden */
+    size_t sparse;               /* the count of its `sparse`, or 0 */
     size_t view;                 /* a buffer view, or GLTF_NONE */
     size_t byte_offset;          /* in that view */
-    size_t stride;               /* bytes from one item to the next in that view; item_size if there
-                                    is none */
+    size_t stride;               /* bytes from one item to the next in that view, its byteStride;
+                                    item_size if that is absent or 0 */
     const unsigned char *data;   /* the first item, or NULL */
     size_t reserved[4];
 } gltf_accessor;
@@ -325,10 +324,11 @@ GLTF_API gltf_status gltf_accessor_info(const gltf_file *file, size_t index, glt
     GLTF_CHECKED GLTF_NONNULL((3));
 
 /* Copies all items to `out` without gaps, count * item_size bytes, with the sparse overrides
- * applied (3.6.2). Bytes of `out` after them are unchanged. Returns GLTF_UNREADABLE if the accessor
- * has neither a view nor a sparse part, or if its items, sparse indices or sparse values have a
+ * applied (3.6.2) as far as their indices increase, to zeros if there is no view. Padding inside
+ * items (3.6.2.4) is not skipped. The rest of `out` is unchanged. Returns GLTF_UNREADABLE if there
+ * is neither a view nor a sparse part, or if the items, sparse indices or sparse values have a
  * count of 0, are not inside their view, or have a view that is not inside its buffer or a
- * byteStride less than their size; else GLTF_NO_ROOM if the items are more than `room` bytes. A
+ * byteStride, not 0, less than their size; else GLTF_NO_ROOM if they are more than `room` bytes. A
  * buffer that waits has no bytes. */
 GLTF_API gltf_status gltf_accessor_read(const gltf_file *file, size_t index, void *out, size_t room)
     GLTF_CHECKED GLTF_NONNULL((3));
@@ -386,8 +386,8 @@ typedef struct gltf_attribute {
 } gltf_attribute;
 
 /* Fills in attribute number `position` of a primitive if `target` is GLTF_NONE, else of its morph
- * target number `target`. They are ordered by their meaning, not as in the file. A morph target has
- * only POSITION, NORMAL and TANGENT here. */
+ * target number `target`. They are ordered by their meaning, GLTF_CUSTOM first, and then by name or
+ * set, not as in the file. A morph target has only POSITION, NORMAL and TANGENT here. */
 GLTF_API gltf_status gltf_attribute_info(const gltf_file *file, size_t mesh, size_t primitive,
                                          size_t target, size_t position, gltf_attribute *out)
     GLTF_CHECKED GLTF_NONNULL((6));
@@ -398,16 +398,16 @@ GLTF_API gltf_status gltf_attribute_name(const gltf_file *file, size_t mesh, siz
                                          size_t target, size_t position, char *text, size_t room,
                                          size_t *length) GLTF_CHECKED GLTF_NONNULL((8));
 
-/* Finds the accessor of the attribute with this meaning and set. `set` is not looked at for
- * POSITION, NORMAL and TANGENT. Returns GLTF_NO_SUCH_INDEX if there is no such attribute, and for
- * GLTF_CUSTOM. */
+/* Finds the accessor of the attribute with this meaning and set. `target` is as above. `set` is not
+ * looked at for POSITION, NORMAL and TANGENT. Returns GLTF_NO_SUCH_INDEX if there is no such
+ * attribute, and for GLTF_CUSTOM. */
 GLTF_API gltf_status gltf_attribute_find(const gltf_file *file, size_t mesh, size_t primitive,
                                          size_t target, unsigned int meaning, unsigned int set,
                                          size_t *accessor) GLTF_CHECKED GLTF_NONNULL((7));
 
-/* Finds the material of a primitive in a variant (KHR_materials_variants). Returns
- * GLTF_NO_SUCH_INDEX if the primitive has none for it: its own material applies then. No rule
- * checks this index: gltf_material_info returns GLTF_NO_SUCH_INDEX if there is no such material. */
+/* Finds the material of a primitive in a variant (KHR_materials_variants), by its first mapping
+ * with this number. Returns GLTF_NO_SUCH_INDEX if it has none: its own material applies then. No
+ * rule checks either index: gltf_material_info may return GLTF_NO_SUCH_INDEX for it. */
 GLTF_API gltf_status gltf_variant_material(const gltf_file *file, size_t mesh, size_t primitive,
                                            size_t variant, size_t *material)
     GLTF_CHECKED GLTF_NONNULL((5));
@@ -508,7 +508,7 @@ GLTF_API gltf_status gltf_sampler_info(const gltf_file *file, size_t index, gltf
     GLTF_CHECKED GLTF_NONNULL((3));
 
 typedef struct gltf_texture {
-    size_t image;            /* an image, or GLTF_NONE */
+    size_t image;            /* an image: a file whose texture has none is refused */
     size_t sampler;          /* a sampler, or GLTF_NONE: the next four are the defaults */
     unsigned int mag_filter; /* as in gltf_sampler */
     unsigned int min_filter;
@@ -520,7 +520,7 @@ typedef struct gltf_texture {
 GLTF_API gltf_status gltf_texture_info(const gltf_file *file, size_t index, gltf_texture *out)
     GLTF_CHECKED GLTF_NONNULL((3));
 
-/* An image is either in a buffer view, or at the URI that gltf_text(.., GLTF_IMAGE_URI, ..) copies.
+/* An image is in a buffer view, or else at the URI that gltf_text(.., GLTF_IMAGE_URI, ..) copies.
  * Images are not decoded. */
 typedef struct gltf_image {
     size_t view;                /* a buffer view, or GLTF_NONE */
@@ -535,7 +535,7 @@ GLTF_API gltf_status gltf_image_info(const gltf_file *file, size_t index, gltf_i
 
 /* ---- Scenes, nodes, skins (3.5, 3.7.3, 5.25, 5.27, 5.28) ------------------------------------- */
 
-/* The scene to show at first (5.17.12). Returns GLTF_NO_SUCH_INDEX if the file names none. */
+/* The scene to show at first (3.5.1). Returns GLTF_NO_SUCH_INDEX if the file names none. */
 GLTF_API gltf_status gltf_default_scene(const gltf_file *file, size_t *scene)
     GLTF_CHECKED GLTF_NONNULL((2));
 
@@ -562,7 +562,7 @@ typedef struct gltf_node {
     unsigned int reserved_word;
     double matrix[16];       /* column by column */
     double translation[3];
-    double rotation[4];      /* a unit quaternion: x, y, z, w */
+    double rotation[4];      /* x, y, z, w: no rule says that it is a unit quaternion */
     double scale[3];
     size_t reserved[4];
 } gltf_node;
@@ -597,13 +597,13 @@ enum { GLTF_LINEAR = 0, GLTF_STEP = 1, GLTF_CUBIC_SPLINE = 2 };
 
 /* A channel of an animation, and its sampler. */
 typedef struct gltf_channel {
-    size_t node;                /* a node, or GLTF_NONE: ignore the channel (5.7.1) */
+    size_t node;                /* a node: a file whose channel has none is refused */
     unsigned int path;          /* GLTF_PATH_TRANSLATION .. GLTF_PATH_WEIGHTS */
     unsigned int interpolation; /* GLTF_LINEAR .. GLTF_CUBIC_SPLINE */
     size_t sampler;             /* its position in the animation */
     size_t input;               /* an accessor: times in seconds */
     size_t output;              /* an accessor: values, three for each time of a
-                                   GLTF_CUBIC_SPLINE */
+                                   GLTF_CUBIC_SPLINE; of weights that for each morph target */
     size_t reserved[2];
 } gltf_channel;
 
@@ -618,7 +618,7 @@ typedef struct gltf_camera {
                                   are 0 */
     unsigned int reserved_word;
     double znear;
-    double zfar;         /* 0 if it is absent: the projection is infinite */
+    double zfar;         /* 0 if it is absent: a perspective has no end then */
     double xmag;
     double ymag;
     double yfov;         /* in radians */
@@ -635,7 +635,7 @@ typedef struct gltf_light {
     unsigned int type; /* GLTF_DIRECTIONAL .. GLTF_SPOT */
     unsigned int reserved_word;
     double color[3];
-    double intensity;
+    double intensity;        /* in candela, of a GLTF_DIRECTIONAL in lux */
     double range;            /* 0 if it is absent: infinite */
     double inner_cone_angle; /* in radians */
     double outer_cone_angle;
@@ -654,8 +654,8 @@ GLTF_API gltf_status gltf_light_info(const gltf_file *file, size_t index, gltf_l
  * word is unknown. Members that are absent or null have the defaults of the extension, and members
  * that it does not define are ignored. They may return GLTF_NO_MEMORY.
  *
- * gltf_open looks at none of this. It accepts a file that requires one of these extensions if its
- * name is in `extensions` of the options. */
+ * gltf_open looks at none of this. It accepts a file that requires one of these extensions only if
+ * its name is in `extensions` of the options. */
 
 /* KHR_materials_clearcoat: a clear layer above a surface, such as lacquer. */
 typedef struct gltf_clearcoat {
@@ -750,7 +750,7 @@ GLTF_API gltf_status gltf_webp_info(const gltf_file *file, size_t texture,
  * gltf_accessor_info has both. */
 typedef struct gltf_instancing {
     size_t translation; /* an accessor, or GLTF_NONE, as the next two */
-    size_t rotation;    /* unit quaternions: x, y, z, w */
+    size_t rotation;    /* quaternions: x, y, z, w */
     size_t scale;
     size_t reserved[5];
 } gltf_instancing;

@@ -21,7 +21,8 @@
 
 namespace gltf {
 
-// A file that is refused, or a call that failed. `what()` is the fault's text.
+// A file that was not opened, also for want of memory, or a call that failed. `what()` is the
+// fault's text.
 class error : public std::runtime_error {
 public:
     explicit error(const gltf_fault &why)
@@ -57,7 +58,7 @@ template <> struct component<unsigned int> { enum { type = GLTF_U32 }; };
 template <> struct component<float> { enum { type = GLTF_F32 }; };
 
 // The items of an accessor where they are in the file, of N numbers each. It is valid until the
-// file is closed, and empty where the items have to be copied.
+// file is closed, and empty where `data` of gltf_accessor is NULL.
 template <class T, std::size_t N> class view {
 public:
     struct item {
@@ -158,8 +159,8 @@ public:
 #undef GLTF_RECORD
 #undef GLTF_PART
 
-    // Fills in an extension of a record; returns false if the record has none. An extension that is
-    // not of its form is an error: GLTF_BAD_EXTENSION.
+    // Fills in an extension of a record; returns false if the record has none, or is not there. An
+    // extension that is not of its form is an error: GLTF_BAD_EXTENSION.
 #define GLTF_EXTENSION(kind, type) \
     bool kind(std::size_t index, gltf_##type &out) const \
     { \
@@ -180,7 +181,8 @@ public:
     GLTF_EXTENSION(meshopt, meshopt)
 #undef GLTF_EXTENSION
 
-    // The accessor of an attribute of a primitive, or of a morph target of it, or GLTF_NONE.
+    // The accessor of an attribute of a primitive, or of a morph target of it; GLTF_NONE if it has
+    // none, or is not there.
     std::size_t attribute(std::size_t mesh, std::size_t primitive, unsigned int meaning,
                           unsigned int set = 0, std::size_t target = GLTF_NONE) const
     {
@@ -189,8 +191,8 @@ public:
         return out;
     }
 
-    // The material of a primitive in a variant; GLTF_NONE if the variant names none, and that of
-    // the primitive applies. An index that is out of range is an error: GLTF_BAD_EXTENSION, whose
+    // The material of a primitive in a variant; GLTF_NONE if there is none for it, and that of the
+    // primitive applies. An index that is out of range is an error: GLTF_BAD_EXTENSION, whose
     // fault has the place of the index.
     std::size_t variant_material(std::size_t mesh, std::size_t primitive,
                                  std::size_t variant) const
@@ -213,7 +215,7 @@ public:
         return out;
     }
 
-    // The name of a record; empty if it has none.
+    // The name of a record; empty if it has none, or is not there, as with the next three.
     std::string name(unsigned int kind, std::size_t index) const
     {
         return text_of([&](char *text, std::size_t room, std::size_t *length) {
@@ -221,7 +223,7 @@ public:
         });
     }
 
-    // Another text of a record; empty if it has none.
+    // Another text of a record.
     std::string text(unsigned int what, std::size_t index) const
     {
         return text_of([&](char *text, std::size_t room, std::size_t *length) {
@@ -229,7 +231,7 @@ public:
         });
     }
 
-    // The JSON text of the extras of a record; empty if it has none.
+    // The JSON text of the extras of a record.
     std::string extras(unsigned int kind, std::size_t index, std::size_t part = 0) const
     {
         return text_of([&](char *text, std::size_t room, std::size_t *length) {
@@ -237,7 +239,7 @@ public:
         });
     }
 
-    // The JSON text of an extension of a record; empty if it has none.
+    // The JSON text of an extension of a record, where gltf_json has it.
     std::string extension(unsigned int kind, std::size_t index, const std::string &name,
                           std::size_t part = 0) const
     {
@@ -266,7 +268,8 @@ public:
     }
 
     // All items of an accessor, as the N numbers of the first, those of the second, and so on. It
-    // fails with GLTF_OTHER_TYPE if they are other numbers.
+    // fails with GLTF_OTHER_TYPE if they are other numbers, and as gltf_accessor_read: with
+    // GLTF_UNREADABLE also if there are none. It throws std::bad_alloc if they are too many.
     template <class T, std::size_t N> std::vector<T> items(std::size_t index) const
     {
         gltf_accessor it = typed<T, N>(index);
@@ -275,14 +278,15 @@ public:
         return out;
     }
 
-    // The items of an accessor in place; empty if they have to be copied. It fails likewise.
+    // The items of an accessor in place; empty if `data` of gltf_accessor is NULL. It fails if they
+    // are other numbers.
     template <class T, std::size_t N> view<T, N> in_place(std::size_t index) const
     {
         gltf_accessor it = typed<T, N>(index);
         return view<T, N>(it.data, it.count, it.stride);
     }
 
-    // All components of an accessor of whole numbers without a sign.
+    // All components of an accessor of whole numbers without a sign. It fails as `items` does.
     std::vector<unsigned int> indices(std::size_t index) const
     {
         gltf_accessor it = accessor(index);
@@ -321,8 +325,8 @@ private:
         return it;
     }
 
-    // The number of items to make room for. A file may state any number, and one that is sparse and
-    // has no view need not have as many bytes.
+    // The number of items to make room for. A file may state any number, and need not have as many
+    // bytes.
     static std::size_t readable(const gltf_accessor &it)
     {
         if (it.count > static_cast<std::size_t>(-1) / (16 * it.item_size))

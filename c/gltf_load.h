@@ -19,40 +19,46 @@ extern "C" {
 
 /* Where the bytes of buffers in other files come from. */
 typedef struct gltf_resolver {
-    /* Sets `*bytes` and `*size` to the bytes of a URI, as it is in the file, and returns
-     * GLTF_SUCCESS. Any other status is returned by gltf_open_with. */
+    /* Sets `*bytes`, which is not NULL, and `*size` to the bytes of a URI, as it is in the file,
+     * and returns GLTF_SUCCESS. Any other status is returned by gltf_open_with. It is asked for
+     * relative references and for `file:`. */
     gltf_status (*resolve)(void *user, const char *uri, void **bytes, size_t *size);
-    /* Frees the bytes of a `resolve` that succeeded. */
+    /* Frees the bytes of a `resolve` that succeeded. They have been copied. */
     void (*release)(void *user, void *bytes);
     /* What both are called with. */
     void *user;
 } gltf_resolver;
 
 /* Opens a file as gltf_open does, and supplies the bytes of the buffers in other files, in their
- * order. Returns what gltf_open, `resolve` or gltf_give returns, whichever fails first. */
+ * order. Returns what gltf_open, `resolve` or gltf_give returns, whichever fails first;
+ * GLTF_EXTERNAL_REFERENCE for a URI with a zero byte, which is not asked for; or GLTF_NO_MEMORY. If
+ * it fails, `*file` is NULL. The fault of such a buffer has its index in `buffer`, and
+ * `/buffers/N/uri` in `path`. */
 GLTF_API gltf_status gltf_open_with(const void *bytes, size_t size,
                                     const gltf_open_options *options,
                                     const gltf_resolver *resolver, gltf_file **file,
                                     gltf_fault *fault) GLTF_CHECKED GLTF_NONNULL((1, 4, 5, 6));
 
 /* Opens the file at a path, with its buffers in other files. These have to be in the folder of the
- * file or below it: a URI with a scheme, an absolute path, and one with a part `..` are refused
- * with GLTF_EXTERNAL_REFERENCE. Escapes as `%20` are decoded first. A symbolic link is followed.
- * GLTF_CANNOT_READ if a file cannot be read. `options` may be NULL. */
+ * file or below it: a URI that begins with `file:`, an absolute path, and one with an escaped `:`,
+ * a zero byte or a part `..` are refused with GLTF_EXTERNAL_REFERENCE. Escapes as `%20` are decoded
+ * first. A symbolic link is followed. `options` may be NULL. Returns GLTF_CANNOT_READ if a file
+ * cannot be read, else what gltf_open_with returns. */
 GLTF_API gltf_status gltf_load(const char *path, const gltf_open_options *options,
                                gltf_file **file, gltf_fault *fault)
     GLTF_CHECKED GLTF_NONNULL((1, 3, 4));
 
-/* Does the same and refuses none of them: for files that you trust. Of the schemes `file` alone can
- * be read. */
+/* Does the same and refuses none of them, but a zero byte: for files that you trust. Of the schemes
+ * `file` alone can be read. */
 GLTF_API gltf_status gltf_load_anywhere(const char *path, const gltf_open_options *options,
                                         gltf_file **file, gltf_fault *fault)
     GLTF_CHECKED GLTF_NONNULL((1, 3, 4));
 
 /* Copies the components of all items as floats, count * components of them; `room` is how many fit.
  * Normalized integers become the numbers that they mean (3.6.2.2): c / 127 and c / 32767, but at
- * least -1, of signed ones, and c / 255 and c / 65535 of unsigned ones. Other integers become the
- * nearest float. Returns GLTF_NO_ROOM if they do not fit, else what gltf_accessor_read returns. */
+ * least -1, of signed ones, and c / 255 and c / 65535 of unsigned ones. Other integers, and all
+ * GLTF_U32, become the nearest float. Returns GLTF_NO_ROOM if they do not fit, else GLTF_NO_MEMORY
+ * or what gltf_accessor_read returns. */
 GLTF_API gltf_status gltf_accessor_read_f32(const gltf_file *file, size_t index, float *out,
                                             size_t room) GLTF_CHECKED GLTF_NONNULL((3));
 
