@@ -6,10 +6,12 @@ The last line is `N passed, M failed`."""
 import base64
 import json
 import pathlib
+import shutil
 import struct
 import subprocess
 import sys
 import tempfile
+import urllib.parse
 import zlib
 
 sys.dont_write_bytecode = True
@@ -268,12 +270,32 @@ IMAGES = {
     "scheme.gltf": [{"uri": "http://example.org/p.png"}],
     "payload.gltf": [{"uri": "data:image/png;base64,?"}],
 }
+# Numbers of every spelling.
+SPELLED = b"[1e3,1E+3,0.1,-0.0,1.5e-7,12345678901234567890,-9007199254740993,1.0]"
+# A buffer that is short by its padding, over two views, of which one has an extension that nobody
+# knows.
+SHORT = {
+    "asset": {"version": "2.0"},
+    "buffers": [{"byteLength": 4, "uri": data("", b"123")},
+                {"byteLength": 2, "uri": data("", b"45")}],
+    "bufferViews": [
+        {"buffer": 0, "byteLength": 4, "extensions": {"STUDIO": {"stays": [1, {"x": None}]}}},
+        {"buffer": 1, "byteLength": 2, "name": "\u00e9"}],
+}
+SHORT_ONE = SHORT | {
+    "buffers": [{"byteLength": 16}],
+    "bufferViews": [
+        SHORT["bufferViews"][0] | {"byteOffset": 0},
+        SHORT["bufferViews"][1] | {"buffer": 0, "byteOffset": 8}],
+}
 # The words, the JSON value and the bytes of calls that write `out.glb`.
 CONVERTED = [
     (["two.gltf"], [], ONE, TAKEN),
     (["two.gltf"], ["--keep-images"], KEPT, JOINED),
     (["kinds.gltf"], [], OWN_KINDS, b"".join(p + bytes(-len(p) % 8) for p in ALL_KINDS)),
     (["kinds.gltf"], ["--keep-images"], KINDS, b""),
+    (["short.gltf"], [], SHORT_ONE, b"123" + bytes(5) + b"45" + bytes(6)),
+    (["numbers.gltf"], [], {"asset": {"version": "2.0", "extras": json.loads(SPELLED)}}, b""),
     *[([name], ["--keep-images"], {"asset": {"version": "2.0"}, "images": images}, b"")
       for name, images in IMAGES.items()],
     *[([name], [], *in_container(value, *lengths))
@@ -304,7 +326,6 @@ ODD = "\u00fc a%:b"
 ODD_URI = "%C3%BC%20a%25%3Ab"
 # The type that the bytes begin as goes before that which an image names.
 ENDS = ["png", "jpg", "webp", "ktx2"]
-SPELLED = b"[1e3,1E+3,0.1,-0.0,1.5e-7,12345678901234567890,-9007199254740993,1.0]"
 # The container as JSON text: of its views the last four are of images.
 ONE_APART = ONE | {
     "buffers": [{"byteLength": 48, "uri": "out.bin"}],
@@ -496,6 +517,7 @@ def make_converted(room):
         "p q.png": PICTURES[0],
         "own": b"12345678",
         **{name: programs.document(images=images) for name, images in IMAGES.items()},
+        "short.gltf": json.dumps(SHORT).encode(),
         "pair.gltf": json.dumps(TWO | {"images": [{"uri": "p%20q.png"}]}).encode(),
         "stray.gltf": json.dumps(beyond | {"images": [
             {"bufferView": 0, "mimeType": "image/png"}]}).encode(),
@@ -541,7 +563,8 @@ def converts(convert, show, room, source, flags, value, buffer):
     rest = made[20 + length :]
     good = (ran.returncode, ran.stdout, ran.stderr) == (0, f"out.glb: {len(made)} bytes\n", "")
     good = good and made[:12] == b"glTF" + struct.pack("<2I", 2, len(made))
-    good = good and made[16:20] == b"JSON" and json.loads(made[20 : 20 + length]) == value
+    good = good and made[16:20] == b"JSON"
+    good = good and repr(json.loads(made[20 : 20 + length])) == repr(sorted_members(value))
     good = good and rest == (programs.chunk(b"BIN\0", buffer) if buffer else b"")
     if flags or not good:
         return programs.report(convert.name, words, good, ran)
@@ -630,6 +653,32 @@ def shows_the_same(show, files, how):
     return len({tuple(ran.stdout for ran in two) for two in told}) == 1
 
 
+def positions_of(path):
+    """The items of the first accessor of a file of floats, packed one behind the other: by the
+    standard alone."""
+    whole = path.read_bytes()
+    if whole.startswith(b"glTF"):
+        length = int.from_bytes(whole[12:16], "little")
+        value, held = json.loads(whole[20 : 20 + length]), whole[28 + length :]
+    else:
+        value = json.loads(whole)
+        held = (path.parent / urllib.parse.unquote(value["buffers"][0]["uri"])).read_bytes()
+    one = value["accessors"][0]
+    start = one.get("byteOffset", 0) + value["bufferViews"][one["bufferView"]].get("byteOffset", 0)
+    return struct.unpack_from(f"<{3 * one['count']}f", held, start)
+
+
+def opens_as(path, width, height):
+    """Whether another program reads an image of this size. It is told where there is none."""
+    if not shutil.which("convert"):
+        print("conversions: another program opens the image: not tried, since there is none")
+        return True
+    ran = subprocess.run(["convert", path, "ppm:-"], capture_output=True)
+    head = b"P6 %d %d 255 " % (width, height)
+    return ran.returncode == 0 and ran.stdout[: len(head)].split() == head.split() \
+        and len(ran.stdout) == len(head) + 3 * width * height
+
+
 def converts_square(convert, show):
     """Whether the example of two files becomes a container that is accepted in a folder where it is
     alone, and which becomes two files again that show the same."""
@@ -648,6 +697,7 @@ def converts_square(convert, show):
         good = good and {file.name for file in (room / "alone").iterdir()} == {"square.glb"}
         left = {file.name for file in (room / "again").iterdir()}
         good = good and left == {"square.gltf", "square.bin"}
+        good = good and len({positions_of(room / file) for file in files}) == 1
     return programs.report(convert.name, ["square"], good, ran)
 
 
@@ -664,6 +714,7 @@ def converts_box(convert, show):
         left = {file.name for file in room.iterdir()}
         good = good and left == {"from.glb", "box.gltf", "box.bin", "box_image0.png"}
         good = good and png_size((room / "box_image0.png").read_bytes()) == (8, 8)
+        good = good and opens_as(room / "box_image0.png", 8, 8)
     return programs.report(convert.name, ["box"], good, ran)
 
 
