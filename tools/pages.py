@@ -28,6 +28,8 @@ import crates
 EVIL = "</script><img src=x onerror=\"document.title='evil'\">'&amp;<!--"
 # How many positions and indices a page has at most.
 MOST = 400_000
+# Where positions are drawn as points alone, so many of them at most.
+POINTS = 20_000
 # How many corners of points, lines and triangles it draws at most, or a few more.
 CORNERS = 400_000
 U16, U32, FLOAT = 5123, 5125, 5126
@@ -329,11 +331,11 @@ def larger_model_is_points(it):
     data = data_of(it.page("points.glb", model.data()))
     [[one], [two]] = data["meshes"]
     same("as points", (data["isPoints"], one["mode"], two["mode"]), (True, "POINTS", "POINTS"))
-    same("positions", positions_of(one) + positions_of(two), near(evenly(corners, MOST)))
+    same("positions", positions_of(one) + positions_of(two), near(evenly(corners, POINTS)))
     same("of", one["of"] + two["of"], len(corners))
     is_so("no indices", "indices" not in one and "indices" not in two)
     same("note", it.turns("points.glb"),
-         f"The model is large: drawn as points, {MOST} of its {len(corners)} positions.")
+         f"The model is large: drawn as points, {POINTS} of its {len(corners)} positions.")
 
 
 def instances_are_bounded(it):

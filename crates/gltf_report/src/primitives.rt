@@ -14,6 +14,9 @@ use std::alloc::AllocError;
 /// browser cannot show.
 const MOST: usize = 400_000;
 
+/// How many positions it has at most where these are drawn as points alone.
+const POINTS: usize = 20_000;
+
 /// A document and the bytes of its buffers.
 #[derive(Clone, Copy)]
 pub(crate) struct Source<'a, 's> {
@@ -144,7 +147,7 @@ impl Share {
                 let room = MOST.saturating_sub(positions) / 3;
                 Picks::new(shapes, room.min(shapes))
             }
-            Share::Points => Picks::new(positions, MOST.min(positions)),
+            Share::Points => Picks::new(positions, POINTS.min(positions)),
         }
     }
 }
@@ -155,8 +158,8 @@ impl Share {
 ///
 /// Where they have more, and not more than half as many positions, all positions are written, and
 /// of primitives with indices some of their triangles, lines and points, in a mode in which each
-/// has indices of its own. Else positions alone are written, as points, and not more than that
-/// number. Those that are written are spread evenly over all, and `of` says how many there are.
+/// has indices of its own. Else positions alone are written, as points, at most 20,000 of them.
+/// Those that are written are spread evenly over all, and `of` says how many there are.
 ///
 /// A 0 stands for a primitive that cannot be read.
 #[derive(Clone, Copy)]
@@ -332,7 +335,7 @@ fn add_points(
 ) -> Result<(), AllocError> {
     let all = positions.len();
     add_mode("POINTS", data)?;
-    for i in 0..MOST {
+    for i in 0..POINTS {
         let Some(passed) = picks.next(positions.len()) else {
             break;
         };
