@@ -3,4 +3,4 @@ pub mod Answers
 pub mod Paths
 pub mod Sources
 pub mod Inside
-pub mod Lent
+pub mod Slices

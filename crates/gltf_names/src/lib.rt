@@ -4,19 +4,19 @@
 mod failures;
 mod folder;
 mod inside;
-mod lent;
 mod links;
 mod log;
 mod name;
 mod outside;
 mod own_folder;
 mod shelf;
+mod slices;
 
 pub use folder::Folder;
 pub use inside::Inside;
-pub use lent::Lent;
 pub use links::stays_inside;
 pub use name::{Name, NamedBytes, NamedFault};
 pub use outside::{Outside, leads_outside, outside_of};
 pub use own_folder::{OwnFolder, link_error};
 pub use shelf::Shelf;
+pub use slices::Slices;

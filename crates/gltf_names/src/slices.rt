@@ -2,7 +2,7 @@
 ghost use Rattle.std.specs.Prelude.{◌≡◌, [], Some, Err, map, option_copied};
 ghost use Rattle.gltf_names.specs.Named.{named, is_same};
 ghost use Rattle.gltf_names.specs.Answers.{NotesFailure, GivesHeld, GivesExactly};
-ghost use Rattle.gltf_names.specs.Lent.{held_in, lent_failures, lent_files, lent_holds};
+ghost use Rattle.gltf_names.specs.Slices.{held_in, slices_failures, slices_files, slices_holds};
 
 use crate::log::Log;
 use crate::name::{Name, NamedBytes, NamedFault};
@@ -12,18 +12,18 @@ use std::io;
 /// Bytes by name that are lent: a read copies those that it gives, and nothing is copied before.
 /// Of two files of one name the first counts. A name that is not among them is a failure.
 #[derive(Drop)]
-pub struct Lent<'a> {
+pub struct Slices<'a> {
     files: &'a [(Name<'a>, &'a [u8])],
     log: Log,
 }
 
-impl<'a> Lent<'a> {
+impl<'a> Slices<'a> {
     /// A source of these files. Takes no memory.
-    pub fn new(files: &'a [(Name<'a>, &'a [u8])]) -> Lent<'a>
-        ensures files { lent_files result ≡ map (λ file. (named file.0, file.1.now)) files.now }
-        ensures failures { lent_failures result ≡ [] }
+    pub fn new(files: &'a [(Name<'a>, &'a [u8])]) -> Slices<'a>
+        ensures files { slices_files result ≡ map (λ file. (named file.0, file.1.now)) files.now }
+        ensures failures { slices_failures result ≡ [] }
     {
-        Lent {
+        Slices {
             files,
             log: Log::new(),
         }
@@ -31,7 +31,7 @@ impl<'a> Lent<'a> {
 
     /// The bytes of the first file of a name.
     fn find(&self, name: &Name<'_>) -> Option<&'a [u8]>
-        ensures { option_copied result ≡ lent_holds self.now (named name.now) }
+        ensures { option_copied result ≡ slices_holds self.now (named name.now) }
     {
         for (own, bytes) in self.files {
             if is_same(own, name) {
@@ -53,18 +53,18 @@ fn is_same(one: &Name<'_>, other: &Name<'_>) -> bool
     }
 }
 
-impl<'a> NamedBytes for Lent<'a> {
-    ghost failures = { lent_failures };
+impl<'a> NamedBytes for Slices<'a> {
+    ghost failures = { slices_failures };
 
-    ghost bytes_by_name = { λ lent. Some (lent_holds lent) };
+    ghost bytes_by_name = { λ slices. Some (slices_holds slices) };
 
     /// A copy of the bytes of the name.
     fn read(&mut self, alloc: Global, name: Name<'_>) -> Result<Vec<u8>, NamedFault>
         ensures failure { NotesFailure result (named name.entry)
-            (lent_failures self.old) (lent_failures self.new) }
-        ensures honest { GivesHeld result (named name.entry) (Some (lent_holds self.old)) }
-        ensures kept { Some (lent_holds self.new) ≡ Some (lent_holds self.old) }
-        ensures exact { GivesExactly (lent_holds self.old (named name.entry)) result }
+            (slices_failures self.old) (slices_failures self.new) }
+        ensures honest { GivesHeld result (named name.entry) (Some (slices_holds self.old)) }
+        ensures kept { Some (slices_holds self.new) ≡ Some (slices_holds self.old) }
+        ensures exact { GivesExactly (slices_holds self.old (named name.entry)) result }
     {
         let Some(bytes) = self.find(&name) else {
             self.log.note(alloc, &name);
