@@ -32,6 +32,7 @@ help:
 	@echo '  make fuzz [SECONDS=60]                     runs libFuzzer over the library for C, after make c'
 	@echo '  make soak [FILES=2000]                     runs the programs on broken files, after make prove'
 	@echo '  make peers [FILES=2000]                    the same, with other loaders that Debian has'
+	@echo '  make gltfpack                              converts what the gltfpack of Debian makes'
 	@echo '  make devices                               runs them where the system fails them'
 	@echo '  make packages [WORDS=--long]               tries what is installed and packed'
 	@echo '  make pages [WORDS=--shots]                 tries reports and pages of inspect, in Chromium'
@@ -128,6 +129,9 @@ soak:
 peers:
 	@python3 tools/soak.py $(or $(FILES),2000) --peers
 
+gltfpack:
+	@python3 tools/gltfpack.py
+
 devices:
 	@python3 tools/devices.py
 
@@ -147,4 +151,4 @@ cost:
 	@python3 tools/cost.py $(NAME) $(WORDS)
 
 .PHONY: help show prove c install uninstall dist deb reference check case bench test wrong python
-.PHONY: wheel rust packages pages many fuzz soak peers devices memory stack coverage cost
+.PHONY: wheel rust packages pages many fuzz soak peers gltfpack devices memory stack coverage cost

@@ -43,6 +43,18 @@ _gltf_options() {
     done
 }
 
+# Adds the files, or behind so many words the flags that are not there yet.
+_gltf_taken() {
+    local given=" ${COMP_WORDS[*]:3} " flags=
+    if ((COMP_CWORD == 2)); then
+        _gltf_files "$2" glb gltf
+    elif ((COMP_CWORD > $1)) && [[ $2 == -* ]]; then
+        [[ $given == *" --extensions"[=\ ]* ]] || flags="--extensions"
+        [[ $given == *" --lenient "* ]] || flags+=" --lenient"
+        _gltf_words "$2" "$flags"
+    fi
+}
+
 _gltf_show() {
     local word=${COMP_WORDS[COMP_CWORD]}
     COMPREPLY=()
@@ -52,7 +64,8 @@ _gltf_show() {
     fi
     case ${COMP_WORDS[1]} in
         chunks) ((COMP_CWORD == 2)) && _gltf_files "$word" glb ;;
-        check | indices) ((COMP_CWORD == 2)) && _gltf_files "$word" glb gltf ;;
+        check) _gltf_taken 2 "$word" ;;
+        indices) _gltf_taken 4 "$word" ;;
         inspect)
             if [[ $word == -* ]]; then
                 _gltf_words "$word" "$(_gltf_options)"
@@ -71,7 +84,8 @@ _gltf_repack() {
 # The flags of `gltf_convert` that fit the second name and are not there yet.
 _gltf_flags() {
     local word given=" ${COMP_WORDS[*]:3} "
-    for word in --keep-images --drop-image-views --pretty --keep-unknown --outside --force; do
+    for word in --keep-images --keep-missing-images --drop-image-views --pretty --keep-unknown \
+        --outside --force; do
         [[ $given == *" $word "* ]] && continue
         case $word in
             --drop-image-views | --pretty | --force)
@@ -79,8 +93,13 @@ _gltf_flags() {
                 ;;
         esac
         case $word in
-            --keep-images) [[ $given == *" --drop-image-views "* ]] && continue ;;
-            --drop-image-views) [[ $given == *" --keep-images "* ]] && continue ;;
+            --keep-images)
+                [[ $given == *" --drop-image-views "* ]] && continue
+                [[ $given == *" --keep-missing-images "* ]] && continue
+                ;;
+            --drop-image-views | --keep-missing-images)
+                [[ $given == *" --keep-images "* ]] && continue
+                ;;
         esac
         echo "$word"
     done

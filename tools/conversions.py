@@ -6,6 +6,7 @@ The last line is `N passed, M failed`."""
 import base64
 import json
 import pathlib
+import re
 import shutil
 import struct
 import subprocess
@@ -27,15 +28,18 @@ def data(media, contents):
     return f"data:{media};base64,{base64.b64encode(contents).decode()}"
 
 
-# Files that begin as images of the four known types do, in the order of their types.
-TYPES = ["image/png", "image/jpeg", "image/webp", "image/ktx2"]
+# Files that begin as images of the six known types do, in the order of their types.
+TYPES = ["image/png", "image/jpeg", "image/webp", "image/ktx2", "image/avif", "image/vnd-ms.dds"]
 PICTURES = [
     b"\x89PNG\r\n\x1a\n12345",
     b"\xff\xd8\xff12",
     b"RIFF\4\0\0\0WEBP",
     b"\xabKTX 20\xbb\r\n\x1a\n1",
+    b"\0\0\0\x1cftypavif12",
+    b"DDS |12",
 ]
-NO_TYPE = "images[1]: neither a mimeType nor bytes of PNG, JPEG, WebP or KTX2\n"
+NO_TYPE = ("/images/{}: no image/ type in a data: URI or mimeType, nor bytes of PNG, JPEG, WebP, "
+           "KTX2, AVIF or DDS; give it a mimeType\n")
 # A file of two buffers and two images beside it, of which one buffer is no multiple of four bytes
 # long. A third image is a data: URI, and one is in a view.
 TWO = {
@@ -86,26 +90,87 @@ ONE = TWO | {
 JOINED = bytes([1, 2, 3, 0, 0, 0, 0, 0, 4, 5, 6, 7, 8, 0, 0, 0])
 TAKEN = JOINED + PICTURES[0] + bytes(3) + PICTURES[1] + bytes(3) + b"12345678"
 # Images alone: what a URI names goes before what the bytes are, and their own type between the two.
+# A type is one of images, whatever its name is, with parameters behind it or not; where what stands
+# there is none, it does not count.
+AVIS = b"\0\0\0\x1cftypavis"
+NAMED = [  # the media type in the URI, the bytes, the own type, and what is found
+    ("image/png", PICTURES[1], "image/x-own", "image/png"),
+    ("text/plain", PICTURES[1], "image/x-own", "image/x-own"),
+    ("image/x-odd", b"odd", None, "image/x-odd"),
+    ("image/svg+xml;charset=utf-8", b"<svg/>", "image/png", "image/svg+xml"),
+    ("image/jxrA", PICTURES[0], None, "image/jxrA"),
+    ("image/!#$&-^_.+", b"1", None, "image/!#$&-^_.+"),
+    ("", b"1", "image/vnd.odd", "image/vnd.odd"),
+    ("image/", PICTURES[0], "image/", "image/png"),
+    ("image/a b", PICTURES[0], "image/a b", "image/png"),
+    ("image/a/b", PICTURES[2], "image/a/b", "image/webp"),
+    ("image/\u00e9", PICTURES[3], "image/\u00e9", "image/ktx2"),
+    ('image/"', PICTURES[4], 'image/"', "image/avif"),
+    ("ximage/png", PICTURES[5], "text/plain", "image/vnd-ms.dds"),
+    ("application/octet-stream", AVIS, "application/octet-stream", "image/avif"),
+]
 KINDS = {
     "asset": {"version": "2.0"},
     "images": [{"uri": data("", picture)} for picture in PICTURES]
     + [{"uri": data(media, b"1")} for media in TYPES]
-    + [{"uri": data("image/png", PICTURES[1]), "mimeType": "image/x-own"}]
-    + [{"uri": data("text/plain", PICTURES[1]), "mimeType": "image/x-own"}],
+    + [{"uri": data(media, held)} | ({"mimeType": own} if own is not None else {})
+       for media, held, own, _ in NAMED],
 }
-FOUND = [*TYPES, *TYPES, "image/png", "image/x-own"]
-LONGS = [13, 5, 12, 13, 1, 1, 1, 1, 5, 5]
-STARTS = [0, 16, 24, 40, 56, 64, 72, 80, 88, 96]
+FOUND = [*TYPES, *TYPES, *(found for *_, found in NAMED)]
+ALL_KINDS = [*PICTURES, *[b"1"] * len(TYPES), *(held for _, held, *_ in NAMED)]
+# Each begins at a multiple of eight.
+STARTS = [sum(len(held) + -len(held) % 8 for held in ALL_KINDS[:i])
+          for i in range(len(ALL_KINDS) + 1)]
 OWN_KINDS = {
     "asset": {"version": "2.0"},
-    "buffers": [{"byteLength": 104}],
+    "buffers": [{"byteLength": STARTS[-1]}],
     "bufferViews": [
-        {"buffer": 0, "byteLength": n, "byteOffset": at} for n, at in zip(LONGS, STARTS)
+        {"buffer": 0, "byteLength": len(held), "byteOffset": at}
+        for held, at in zip(ALL_KINDS, STARTS)
     ],
     "images": [{"bufferView": i, "mimeType": media} for i, media in enumerate(FOUND)],
 }
-ALL_KINDS = [*PICTURES, *[b"1"] * 4, PICTURES[1], PICTURES[1]]
-CONVERT_USAGE = Begins("usage: gltf_convert IN OUT.glb [--keep-images] [--keep-unknown] [--outside]\n")
+# Images that name a view are what this holds, whatever URI stands beside it: its file is not read,
+# and the URI does not stay.
+BOTH = {
+    "asset": {"version": "2.0"},
+    "buffers": [{"byteLength": 8, "uri": data("", b"12345678")}],
+    "bufferViews": [{"buffer": 0, "byteLength": 8}],
+    "images": [
+        {"bufferView": 0, "mimeType": "image/x-own", "uri": "lost.png", "name": "n"},
+        {"uri": data("", PICTURES[0])},
+        {"bufferView": 0, "mimeType": "image/jpeg", "uri": data("image/png", PICTURES[0])},
+        {"bufferView": 0, "mimeType": "image/jpeg", "uri": None},
+    ],
+}
+BOTH_ONE = BOTH | {
+    "buffers": [{"byteLength": 24}],
+    "bufferViews": [{"buffer": 0, "byteLength": 8, "byteOffset": 0},
+                    {"buffer": 0, "byteLength": 13, "byteOffset": 8}],
+    "images": [
+        {"bufferView": 0, "mimeType": "image/x-own", "name": "n"},
+        {"bufferView": 1, "mimeType": "image/png"},
+        {"bufferView": 0, "mimeType": "image/jpeg"},
+        {"bufferView": 0, "mimeType": "image/jpeg", "uri": None},
+    ],
+}
+BOTH_KEPT = BOTH | {
+    "buffers": [{"byteLength": 8}],
+    "bufferViews": [{"buffer": 0, "byteLength": 8, "byteOffset": 0}],
+}
+BOTH_APART = BOTH | {
+    "buffers": [{"byteLength": 8, "uri": "out.bin"}],
+    "images": [
+        {"mimeType": "image/x-own", "uri": "out_image0.bin", "name": "n"},
+        {"uri": "out_image1.png"},
+        {"mimeType": "image/jpeg", "uri": "out_image2.jpg"},
+        {"mimeType": "image/jpeg", "uri": "out_image3.jpg"},
+    ],
+}
+BOTH_BESIDE = {"out.bin": b"12345678", "out_image0.bin": b"12345678",
+               "out_image1.png": PICTURES[0], "out_image2.jpg": b"12345678",
+               "out_image3.jpg": b"12345678"}
+CONVERT_USAGE = Begins("usage: gltf_convert IN OUT.glb [--keep-images|--keep-missing-images]\n")
 ENDING = "out.txt: has to end in .glb or .gltf\n"
 # Files that require extensions which the loader refuses: a conversion keeps what these say. A
 # primitive of Draco, with bytes that no one reads; views that are compressed, over two buffers;
@@ -134,13 +199,22 @@ DRACO = requires(
     meshes=[{"primitives": [{"attributes": {"POSITION": 0}, "extensions": {
         "KHR_draco_mesh_compression": {"bufferView": 0, "attributes": {"POSITION": 0}}}}]}])
 COMPRESSED = {"byteLength": 3, "byteStride": 4, "count": 2, "mode": "ATTRIBUTES"}
-PACKED = requires(
-    "EXT_meshopt_compression",
-    bufferViews=[
-        {"buffer": 1, "byteLength": 8, "byteOffset": 0, "extensions": {
-            "EXT_meshopt_compression": COMPRESSED | {"buffer": 0, "byteOffset": 1}}},
-        {"buffer": 0, "byteLength": 4, "byteOffset": 0}],
-    accessors=[{"bufferView": 0, "componentType": 5121, "count": 8, "type": "SCALAR"}])
+# The two names of one extension.
+PACKINGS = ["EXT_meshopt_compression", "KHR_meshopt_compression"]
+
+
+def packed(*names, **said):
+    """Two views over two buffers, of which the first is compressed, as these extensions say."""
+    return requires(
+        *names,
+        bufferViews=[
+            {"buffer": 1, "byteLength": 8, "byteOffset": 0, "extensions": said},
+            {"buffer": 0, "byteLength": 4, "byteOffset": 0}],
+        accessors=[{"bufferView": 0, "componentType": 5121, "count": 8, "type": "SCALAR"}])
+
+
+IN_FIRST = COMPRESSED | {"buffer": 0, "byteOffset": 1}
+IN_SECOND = COMPRESSED | {"buffer": 1, "byteOffset": 6}
 QUANTIZED = requires(
     "KHR_mesh_quantization",
     bufferViews=[{"buffer": 0, "byteLength": 12, "byteOffset": 0, "byteStride": 4}],
@@ -178,7 +252,7 @@ def in_container(value, *lengths):
         whole += BITS[:n] + bytes(-n % 8)
     moved = json.loads(json.dumps(value))
     for one in moved.get("bufferViews", []):
-        for named in (one, one.get("extensions", {}).get("EXT_meshopt_compression")):
+        for named in (one, *(one.get("extensions", {}).get(name) for name in PACKINGS)):
             if named:
                 named["byteOffset"] += starts[named["buffer"]]
                 named["buffer"] = 0
@@ -188,7 +262,20 @@ def in_container(value, *lengths):
 # The value without its buffers, the lengths of these, and the files of its images.
 REQUIRED = {
     "draco.gltf": (DRACO, (12,), {}),
-    "packed.gltf": (PACKED, (5, 9), {}),
+    "packed.gltf": (packed(PACKINGS[0], EXT_meshopt_compression=IN_FIRST), (5, 9), {}),
+    "packed_khr.gltf": (packed(PACKINGS[1], KHR_meshopt_compression=IN_FIRST), (5, 9), {}),
+    "packed_khr_second.gltf": (packed(PACKINGS[1], KHR_meshopt_compression=IN_SECOND), (5, 9), {}),
+    "packed_both.gltf": (packed(*PACKINGS, EXT_meshopt_compression=IN_FIRST,
+                                KHR_meshopt_compression=IN_SECOND), (5, 9), {}),
+    "packed_other.gltf": (packed(*PACKINGS, EXT_meshopt_compression=IN_SECOND,
+                                 KHR_meshopt_compression=IN_FIRST), (5, 9), {}),
+    # A member that is null is absent.
+    "packed_ext_null.gltf": (packed(PACKINGS[1], EXT_meshopt_compression=None,
+                                    KHR_meshopt_compression=IN_SECOND), (5, 9), {}),
+    "packed_khr_null.gltf": (packed(PACKINGS[0], EXT_meshopt_compression=IN_SECOND,
+                                    KHR_meshopt_compression=None), (5, 9), {}),
+    "packed_null.gltf": (packed(*PACKINGS, EXT_meshopt_compression=None,
+                                KHR_meshopt_compression=None), (5, 9), {}),
     "quantized.gltf": (QUANTIZED, (12,), {}),
     "webp.gltf": (textured("EXT_texture_webp", "image/webp"), (9,),
                   {"out_image0.png": BITS[:4], "out_image1.webp": BITS[4:9]}),
@@ -196,9 +283,98 @@ REQUIRED = {
                    {"out_image0.png": BITS[:4], "out_image1.ktx2": BITS[4:9]}),
     "twice.gltf": (requires("STUDIO", "STUDIO", "KHR_materials_unlit"), (4,), {}),
 }
+# Buffers of which some have no bytes: a length is one that has. Those stay, behind the one of a
+# container, and so do the views in them; what these are compressed to moves.
+NO_BYTES = [{"byteLength": 8, "name": "others", "extensions": {name: {"fallback": True}}}
+            for name in PACKINGS]
+
+
+def apart(names, buffers, *views):
+    """A document of these buffers, and of views of which each that is in one without bytes is
+    compressed."""
+    return requires(*names, bufferViews=list(views), accessors=[
+        {"bufferView": 0, "componentType": 5121, "count": 8, "type": "SCALAR"}]), buffers
+
+
+def packed_view(buffer, into, offset, *names):
+    """A view in a buffer without bytes, compressed in another one."""
+    said = COMPRESSED | {"buffer": into, "byteOffset": offset}
+    return {"buffer": buffer, "byteLength": 8, "byteStride": 4,
+            "extensions": dict.fromkeys(names or PACKINGS[:1], said)}
+
+
+PLAIN_VIEW = {"buffer": 0, "byteLength": 4, "byteOffset": 0}
+LACKING = {
+    "bare.gltf": apart(PACKINGS[:1], [5, NO_BYTES[0]], packed_view(1, 0, 1), PLAIN_VIEW),
+    "bare.glb": apart(PACKINGS[:1], [8, NO_BYTES[0]], packed_view(1, 0, 1), PLAIN_VIEW),
+    "bare_khr.gltf": apart(PACKINGS[1:], [5, NO_BYTES[1]], packed_view(1, 0, 1, PACKINGS[1]),
+                           PLAIN_VIEW),
+    "bare_both.gltf": apart(PACKINGS, [5, NO_BYTES[1]], packed_view(1, 0, 1, *PACKINGS)),
+    "bare_first.gltf": apart(PACKINGS[:1], [NO_BYTES[0], 5], packed_view(0, 1, 2)),
+    "bare_two.gltf": apart(
+        PACKINGS[:1], [NO_BYTES[0], 5, NO_BYTES[0] | {"extras": [1]}, 9],
+        packed_view(2, 3, 6) | {"byteOffset": 0, "name": "v"}, packed_view(0, 1, 0),
+        PLAIN_VIEW | {"buffer": 3, "byteOffset": 4}),
+    # A member that is null is absent.
+    "bare_null.gltf": apart(PACKINGS[:1], [5, NO_BYTES[0] | {"uri": None}], packed_view(1, 0, 1)),
+}
+
+
+def written(value, buffers):
+    """Such a file: a text, or where its first buffer has eight bytes, a container."""
+    held = [one if isinstance(one, dict) else {"byteLength": one, "uri": data("", BITS[:one])}
+            for one in buffers]
+    if buffers[0] == 8:
+        return container_of(value | {"buffers": [{"byteLength": 8}, *held[1:]]}, BITS[:8])
+    return json.dumps(value | {"buffers": held}).encode()
+
+
+def lacking_text(value, buffers):
+    """The value of the text of such a file, and its files."""
+    held = {f"out{i}.bin": BITS[:n] + bytes(-n % 4)
+            for i, n in enumerate(buffers) if isinstance(n, int)}
+    return value | {"buffers": [
+        one if isinstance(one, dict) else {"byteLength": one, "uri": f"out{i}.bin"}
+        for i, one in enumerate(buffers)]}, held
+
+
+def lacking_container(value, buffers):
+    """The value of the container of such a file, and its buffer."""
+    seats, whole, rest = [], b"", []
+    for one in buffers:
+        if isinstance(one, dict):
+            rest.append(one)
+            seats.append((len(rest), None))
+        else:
+            seats.append((0, len(whole)))
+            whole += BITS[:one] + bytes(-one % 8)
+    moved = json.loads(json.dumps(value))
+    for one in moved["bufferViews"]:
+        for named in (one, *one.get("extensions", {}).values()):
+            named["buffer"], start = seats[named["buffer"]]
+            if start is not None:
+                named["byteOffset"] += start
+    return moved | {"buffers": [{"byteLength": len(whole)}, *rest]}, whole
+
+
+# One of which a view is not compressed and one whose compressed bytes do not lie in their buffer, which
+# become no container, but texts, where no view moves; two of
+# which no extension says that they are for others, and one that has a member by which a conversion
+# keeps such a view.
+NOWHERE = [
+    (*apart(PACKINGS[:1], [5, NO_BYTES[0]], PLAIN_VIEW | {"buffer": 1}), False),
+    (*apart(PACKINGS[:1], [5, NO_BYTES[0]], packed_view(1, 0, 6)), False),
+    (*apart(PACKINGS[:1], [5, {"byteLength": 8}], packed_view(1, 0, 1)), True),
+    (*apart(PACKINGS[:1], [5, {"byteLength": 8, "extensions": {PACKINGS[0]: {"fallback": 1}}}],
+            packed_view(1, 0, 1)), True),
+    (*apart(PACKINGS[:1], [5, NO_BYTES[0]], packed_view(1, 0, 1) | {"gltf_fallback": 1}), True),
+]
+# A container whose first buffer is for others, and has the bytes of its BIN chunk.
+FIRST_HAS = requires(PACKINGS[0], bufferViews=[packed_view(0, 1, 1)])
 # Files in which the object of an extension names a buffer or a file itself: an emitter of sound, one
-# deep in an extension that nobody knows, beside a member that is null, and views that are compressed
-# under another name. Each value with the place of what it names, and the extension.
+# deep in an extension that nobody knows, beside a member that is null, views that are compressed
+# under another name, and one of the known names that does not stand in a view. Each value with the
+# place of what it names, and the extension.
 ELSEWHERE = ("{0}: {1}: {2} names a buffer or a file itself, which is not moved; "
              "--keep-unknown writes it as it stands\n")
 NAMING = {
@@ -211,11 +387,24 @@ NAMING = {
             "none": {"uri": None}, "some": [{"buffer": 1}]}}}]),
         "/nodes/0/extensions/STUDIO/some/0/buffer", "STUDIO"),
     "renamed.gltf": (
-        requires("KHR_meshopt_compression", bufferViews=[
+        requires("STUDIO_meshopt_compression", bufferViews=[
             {"buffer": 1, "byteLength": 8, "extensions": {
-                "KHR_meshopt_compression": COMPRESSED | {"buffer": 0}}}]),
-        "/bufferViews/0/extensions/KHR_meshopt_compression/buffer", "KHR_meshopt_compression"),
+                "STUDIO_meshopt_compression": COMPRESSED | {"buffer": 0}}}]),
+        "/bufferViews/0/extensions/STUDIO_meshopt_compression/buffer",
+        "STUDIO_meshopt_compression"),
+    "elsewhere.gltf": (
+        requires("KHR_meshopt_compression", meshes=[{
+            "primitives": [{"attributes": {"POSITION": 0}}],
+            "extensions": {"KHR_meshopt_compression": COMPRESSED | {"buffer": 0}}}],
+            accessors=[{"componentType": 5126, "count": 3, "type": "VEC3", "min": [0, 0, 0],
+                        "max": [1, 1, 1]}]),
+        "/meshes/0/extensions/KHR_meshopt_compression/buffer", "KHR_meshopt_compression"),
 }
+# What one of the two says does not lie in its buffer, which is filled up to a multiple of four.
+PACKED_BEYOND = [
+    packed(*PACKINGS, EXT_meshopt_compression=IN_FIRST | more,
+           KHR_meshopt_compression=IN_SECOND | other)
+    for more, other in (({"byteOffset": 6}, {}), ({}, {"byteOffset": 10}))]
 # What a file that requires an extension is refused for is what it is refused for without it.
 BROKEN = DRACO | {"buffers": in_buffers(12), "bufferViews": [{"buffer": 7, "byteLength": 12}]}
 # The words, the status and the error of calls that write nothing.
@@ -225,6 +414,12 @@ NOT_CONVERTED = [
     (["no.gltf", "out.glb"], 1, Failed("no.gltf")),
     (["lacks.gltf", "out.glb"], 1, Failed("no.bin")),
     (["beyond.gltf", "out.glb"], 1, "bufferViews[0]: not within its buffer\n"),
+    *[([f"packed_beyond{i}.gltf", "out.glb"], 1, "bufferViews[0]: not within its buffer\n")
+      for i in range(len(PACKED_BEYOND))],
+    *[([f"nowhere{i}.gltf", out], 1, "missing binary portion of binary glTF\n" if is_missing
+       else "bufferViews[0]: not within its buffer\n")
+      for i, (*_, is_missing) in enumerate(NOWHERE)
+      for out in ("out.glb", "out.gltf") if is_missing or out == "out.glb"],
     (["dangling.gltf", "out.glb"], 1, DANGLING),
     (["two.gltf", "folder"], 2, "folder: " + ENDING.partition(": ")[2]),
     (["two.gltf"], 2, CONVERT_USAGE),
@@ -233,7 +428,8 @@ NOT_CONVERTED = [
     (["--keep-images", "two.gltf", "out.glb"], 2, CONVERT_USAGE),
     (["two.gltf", "out.glb", "--keep-images", "--keep-images"], 2, CONVERT_USAGE),
     (["lost.gltf", "out.glb"], 1, Failed("lost.png")),
-    (["odd.gltf", "out.glb"], 1, NO_TYPE),
+    *[([name, "out.glb"], 1, NO_TYPE.format(image))
+      for name, image in (("odd.gltf", 1), ("text.gltf", 0), ("none.gltf", 0))],
     (["scheme.gltf", "out.glb"], 1, Begins("images[0].uri: ")),
     (["payload.gltf", "out.glb"], 1, Begins("images[0].uri: ")),
     (["two.gltf", "out.glb", "--pretty"], 2, CONVERT_USAGE),
@@ -247,6 +443,13 @@ NOT_CONVERTED = [
     (["two.gltf", "out.glb", "--keep-unknown", "--keep-unknown"], 2, CONVERT_USAGE),
     (["two.gltf", "out.gltf", "--keep-images", "--drop-image-views"], 2, CONVERT_USAGE),
     (["two.gltf", "out.gltf", "--drop-image-views", "--drop-image-views"], 2, CONVERT_USAGE),
+    (["two.gltf", "out.glb", "--keep-images", "--keep-missing-images"], 2, CONVERT_USAGE),
+    (["two.gltf", "out.gltf", "--keep-missing-images", "--keep-missing-images"], 2, CONVERT_USAGE),
+    # A buffer that is missing is none of the images that may be.
+    (["lacks.gltf", "out.glb", "--keep-missing-images"], 1, Failed("no.bin")),
+    (["lacks.gltf", "out.gltf", "--keep-missing-images"], 1, Failed("no.bin")),
+    (["stray.gltf", "out.gltf", "--keep-missing-images"], 1,
+     "bufferViews[0]: not within its buffer\n"),
     (["stray.gltf", "out.gltf", "--drop-image-views"], 1,
      "bufferViews[0]: not within its buffer\n"),
     (["no.gltf", "out.gltf"], 1, Failed("no.gltf")),
@@ -266,7 +469,9 @@ NOT_CONVERTED = [
 # Files with one image or two, which are refused unless images are kept.
 IMAGES = {
     "lost.gltf": [{"uri": "lost.png"}],
-    "odd.gltf": [{"uri": "p%20q.png"}, {"uri": data("image/x-odd", b"odd")}],
+    "odd.gltf": [{"uri": "p%20q.png"}, {"uri": data("application/x-odd", b"odd")}],
+    "text.gltf": [{"uri": data("text/plain", b"odd"), "mimeType": "application/octet-stream"}],
+    "none.gltf": [{"uri": data("image/", b"\0\0\0\x1cftypheic"), "mimeType": "image"}],
     "scheme.gltf": [{"uri": "http://example.org/p.png"}],
     "payload.gltf": [{"uri": "data:image/png;base64,?"}],
 }
@@ -294,12 +499,16 @@ CONVERTED = [
     (["two.gltf"], ["--keep-images"], KEPT, JOINED),
     (["kinds.gltf"], [], OWN_KINDS, b"".join(p + bytes(-len(p) % 8) for p in ALL_KINDS)),
     (["kinds.gltf"], ["--keep-images"], KINDS, b""),
+    (["both.gltf"], [], BOTH_ONE, b"12345678" + PICTURES[0] + bytes(3)),
+    (["both.gltf"], ["--keep-images"], BOTH_KEPT, b"12345678"),
+    (["both.gltf"], ["--keep-missing-images"], BOTH_ONE, b"12345678" + PICTURES[0] + bytes(3)),
     (["short.gltf"], [], SHORT_ONE, b"123" + bytes(5) + b"45" + bytes(6)),
     (["numbers.gltf"], [], {"asset": {"version": "2.0", "extras": json.loads(SPELLED)}}, b""),
     *[([name], ["--keep-images"], {"asset": {"version": "2.0"}, "images": images}, b"")
       for name, images in IMAGES.items()],
     *[([name], [], *in_container(value, *lengths))
       for name, (value, lengths, _) in REQUIRED.items()],
+    *[([name], [], *lacking_container(*row)) for name, row in LACKING.items()],
 ]
 
 # A file as JSON text: each buffer has a file, filled up to a multiple of four bytes, and each image
@@ -325,7 +534,7 @@ BESIDE = HALVES | {
 ODD = "\u00fc a%:b"
 ODD_URI = "%C3%BC%20a%25%3Ab"
 # The type that the bytes begin as goes before that which an image names.
-ENDS = ["png", "jpg", "webp", "ktx2"]
+ENDS = ["png", "jpg", "webp", "ktx2", "avif", "dds"]
 # The container as JSON text: of its views the last four are of images.
 ONE_APART = ONE | {
     "buffers": [{"byteLength": 48, "uri": "out.bin"}],
@@ -409,11 +618,11 @@ EIGHTS_LEFT = [
     ({"images": pictures(0, 1, 2, 3)}, 0, (1, 1)),
     (KNOWN, 2, (2, 3)),
     (UNKNOWN, 4, (8, 8)),
-    ({"extensionsUsed": ["EXT_meshopt_compression"]}, 4, (8, 8)),
+    *[({"extensionsUsed": [name]}, 4, (8, 8)) for name in PACKINGS],
     # Extensions that the file does not list, anywhere in it.
     ({"extensions": {"STUDIO": {"bufferView": 3}}}, 4, (8, 8)),
-    ({"bufferViews": [view(0, 0, 2) | {"extensions": {"EXT_meshopt_compression": MESHOPT}},
-                      *EIGHTS["bufferViews"][1:]]}, 4, (8, 8)),
+    *[({"bufferViews": [view(0, 0, 2) | {"extensions": {name: MESHOPT}},
+                        *EIGHTS["bufferViews"][1:]]}, 4, (8, 8)) for name in PACKINGS],
     ({"images": [pictures(3)[0] | {"extensions": {"STUDIO": {"view": 2}}}, *pictures(2)]},
      4, (8, 8)),
     (material(KHR_materials_unlit={}, STUDIO={}), 4, (8, 8)),
@@ -485,13 +694,19 @@ SPLIT = [
         "images": [{"uri": f"out_image{i}.{kind}", "mimeType": "image/x-own"}
                    for i, kind in enumerate(ENDS)]
         + [{"uri": f"out_image{i}.{kind}", "mimeType": media}
-           for i, (kind, media) in enumerate(zip(ENDS, TYPES), 4)]},
+           for i, (kind, media) in enumerate(zip(ENDS, TYPES), len(ENDS))]},
      {f"out_image{i}.{kind}": held
-      for i, (kind, held) in enumerate(zip(ENDS * 2, [*PICTURES, *[b"1"] * 4]))}),
+      for i, (kind, held) in enumerate(zip(ENDS * 2, [*PICTURES, *[b"1"] * len(ENDS)]))}),
+    (["both.gltf"], "out", [], BOTH_APART, BOTH_BESIDE),
     (["numbers.gltf"], "out", ["--pretty"], {
         "asset": {"version": "2.0", "extras": json.loads(SPELLED)}}, {}),
     *[([name], "out", [], *in_text(value, files, *lengths))
       for name, (value, lengths, files) in REQUIRED.items()],
+    *[([name], "out", flags, *lacking_text(*row))
+      for name, row in LACKING.items() for flags in ([], ["--pretty"])],
+    (["first_has.glb"], "out", [], FIRST_HAS | {"buffers": [
+        NO_BYTES[0] | {"uri": "out0.bin"}, {"byteLength": 5, "uri": "out1.bin"}]},
+     {"out0.bin": BITS[:8], "out1.bin": BITS[:5] + bytes(3)}),
 ]
 
 
@@ -509,6 +724,7 @@ def make_converted(room):
     programs.make(room, {
         "two.gltf": json.dumps(TWO).encode(),
         "kinds.gltf": json.dumps(KINDS).encode(),
+        "both.gltf": json.dumps(BOTH).encode(),
         "beyond.gltf": json.dumps(beyond).encode(),
         "lacks.gltf": json.dumps(lacks).encode(),
         "dangling.gltf": programs.document(nodes=[{"mesh": 3, "skin": 0}]),
@@ -517,7 +733,9 @@ def make_converted(room):
         "p q.png": PICTURES[0],
         "own": b"12345678",
         **{name: programs.document(images=images) for name, images in IMAGES.items()},
+        "some.gltf": programs.document(images=SOME),
         "short.gltf": json.dumps(SHORT).encode(),
+        **{name: with_rest(*row[:3]) for name, row in OF_TEXT.items()},
         "pair.gltf": json.dumps(TWO | {"images": [{"uri": "p%20q.png"}]}).encode(),
         "stray.gltf": json.dumps(beyond | {"images": [
             {"bufferView": 0, "mimeType": "image/png"}]}).encode(),
@@ -532,20 +750,30 @@ def make_converted(room):
         "numbers.gltf": b'{"asset":{"version":"2.0","extras":' + SPELLED + b"}}",
         **{name: json.dumps(value | {"buffers": in_buffers(*lengths)}).encode()
            for name, (value, lengths, _) in REQUIRED.items()},
+        **{name: written(*row) for name, row in LACKING.items()},
+        **{f"nowhere{i}.gltf": written(*row) for i, (*row, _) in enumerate(NOWHERE)},
+        "first_has.glb": container_of(
+            FIRST_HAS | {"buffers": [NO_BYTES[0], *in_buffers(5)]}, BITS[:8]),
         **{name: json.dumps(value | {"buffers": in_buffers(5, 9)}).encode()
            for name, (value, *_) in NAMING.items()},
+        **{f"packed_beyond{i}.gltf": json.dumps(value | {"buffers": in_buffers(5, 9)}).encode()
+           for i, value in enumerate(PACKED_BEYOND)},
         "broken.gltf": json.dumps(BROKEN).encode(),
         "taken1.bin/file": b"",
     })
 
 
 def is_shown(checked, value):
-    """Whether `gltf_show check` accepts a file of this value; where it requires an extension that
-    the loader does not support, whether it is refused for these names alone."""
+    """Whether `gltf_show check` accepts a file of this value. Where it requires extensions that the
+    loader does not support, it has to be refused for their names alone, with the flag that takes
+    them on a second line."""
     if "extensionsRequired" in value:
-        told = checked.stderr.partition("invalid glTF: ")[2].strip().rstrip(";").split("; ")
-        return checked.returncode == 1 and all(
-            one.startswith("extensionsRequired[") for one in told)
+        line, _, hint = checked.stderr.partition("\n")
+        told = line.partition("invalid glTF: ")[2].rstrip(";").split("; ")
+        places = [re.fullmatch(r"extensionsRequired\[(\d+)\]: Unsupported extension", one)
+                  for one in told]
+        return checked.returncode == 1 and all(places) and hint == programs.flag(
+            *(value["extensionsRequired"][int(place[1])] for place in places))
     counts = [len(value.get(member, [])) for member in ("buffers", "accessors")]
     line = f"ok buffers={counts[0]} accessors={counts[1]} meshes=0 nodes=0\n"
     return checked.stdout == line
@@ -750,6 +978,7 @@ STANDING = [
     ({"in.gltf": OTHER_BUFFER, "out.bin": b"mine"}, {"a.bin": "out.bin"}, FORCE, NEEDED),
     ({"in.gltf": WITH_IMAGE, "out.bin": b"mine"}, {}, FORCE, NEEDED),
     ({"in.gltf": WITH_IMAGE, "out.bin": b"mine"}, {}, [*FORCE, "--keep-images"], NEEDED),
+    ({"in.gltf": WITH_IMAGE, "out.bin": b"mine"}, {}, [*FORCE, "--keep-missing-images"], NEEDED),
     # A link to another file is followed, as that of a text's earlier file.
     ({"in.gltf": OTHER_BUFFER, "a.bin": b"abcd", "other": b"mine"}, {"out.bin": "other"}, [],
      IS_THERE),
@@ -800,6 +1029,113 @@ def replaces_itself(convert):
     return programs.report(convert.name, ["out.gltf", "./out.gltf"], good, ran)
 
 
+# Images of which some are missing, the indices of those that stay in a container and in a text, and
+# the files that the others have beside a text.
+SOME = [{"uri": "p%20q.png"}, {"uri": "lost.png", "name": "l"}, {"uri": "no/such.jpg"},
+        {"uri": data("image/jpeg", PICTURES[1])}]
+MISSING = {
+    "lost.gltf": (IMAGES["lost.gltf"], [0], [0], {}),
+    "odd.gltf": (IMAGES["odd.gltf"], [1], [],
+                 {"image0.png": PICTURES[0], "image1.bin": b"odd"}),
+    "text.gltf": (IMAGES["text.gltf"], [0], [], {"image0.bin": b"odd"}),
+    "scheme.gltf": (IMAGES["scheme.gltf"], [0], [0], {}),
+    "payload.gltf": (IMAGES["payload.gltf"], [0], [0], {}),
+    "some.gltf": (SOME, [1, 2], [1, 2], {"image0.png": PICTURES[0], "image3.jpg": PICTURES[1]}),
+    "kinds.gltf": (KINDS["images"], [], [], None),
+}
+
+
+def stay(name, images, indices):
+    """What is said of the images that stay: a `data:` URI without its data."""
+    uris = [(i, images[i]["uri"]) for i in indices]
+    return "".join(
+        f"{name}: /images/{i}/uri: "
+        f'"{uri.partition(",")[0] if uri.startswith("data:") else uri}": '
+        "not taken in, stays as it is\n" for i, uri in uris)
+
+
+def keeps_missing(convert, room, name, ending):
+    """Whether --keep-missing-images leaves the images that are missing, says so of each, and takes in
+    the others, with their bytes."""
+    images, in_glb, in_json, files = MISSING[name]
+    staying = in_glb if ending == "glb" else in_json
+    words = [name, f"missing_{ending}.{ending}", "--keep-missing-images"]
+    how = {"cwd": room, "capture_output": True, "text": True, "preexec_fn": programs.started()}
+    ran = subprocess.run([convert, *words], **how)
+    made = {file.name: file.read_bytes() for file in room.glob("missing_*")}
+    for file in made:
+        (room / file).unlink()
+    good = (ran.returncode, ran.stderr) == (0, stay(name, images, staying))
+    whole = made.pop(words[1], b"")
+    if good and ending == "glb":
+        length = int.from_bytes(whole[12:16], "little")
+        value, bin_chunk = json.loads(whole[20 : 20 + length]), whole[28 + length :]
+        good = not made
+        for i, image in enumerate(value["images"]):
+            if i in staying:
+                good = good and image == images[i]
+                continue
+            one = value["bufferViews"][image["bufferView"]]
+            held = bin_chunk[one.get("byteOffset", 0) :][: one["byteLength"]]
+            good = good and "uri" not in image and held == bytes_at(room, images[i]["uri"])
+    elif good:
+        value = json.loads(whole)
+        good = [value["images"][i] for i in staying] == [images[i] for i in staying]
+        if files is not None:
+            good = good and made == {f"missing_gltf_{part}": held for part, held in files.items()}
+    return programs.report(convert.name, words, good, [ran])
+
+
+def bytes_at(room, uri):
+    """The bytes that a URI leads to."""
+    if uri.startswith("data:"):
+        return base64.b64decode(uri.partition(",")[2])
+    return (room / urllib.parse.unquote(uri)).read_bytes()
+
+
+# Containers of which something is left out: members of buffers, where these become one; a chunk of
+# unknown type before the BIN chunk and one behind it; bytes behind the end; and a BIN chunk that no
+# buffer takes. Each with the lines that say so: for a container, and for a text.
+HAS_URI = {"byteLength": 3, "uri": data("", b"123")}
+OTHER = programs.chunk(b"OWN\0", b"1234")
+BIN = programs.chunk(b"BIN\0", b"12345678")
+OF_TEXT = {
+    "other.glb": (HAS_URI | {"name": "n"}, [OTHER, OTHER], b"",
+                  ["24 bytes of other chunks"], ["names, extras and extensions of 1 of the buffers"]),
+    "behind.glb": ({"byteLength": 8}, [BIN, OTHER], b"tail!",
+                   ["12 bytes of other chunks", "5 bytes behind the end of the container"], []),
+    "blob.glb": (HAS_URI | {"extras": None}, [BIN], b"",
+                 ["a BIN chunk of 8 bytes, which no buffer takes"], []),
+    "extended.glb": (HAS_URI | {"extensions": {}, "extras": 0}, [], b"", [],
+                     ["names, extras and extensions of 1 of the buffers"]),
+    "nothing.glb": (HAS_URI | {"name": None}, [], b"", [], []),
+}
+
+
+def with_rest(value, chunks, rest):
+    """A container of a document with this buffer and these chunks behind its text, and of what
+    follows its end."""
+    text = programs.document(buffers=[value])
+    text += b" " * (-len(text) % 4)
+    return programs.container(programs.chunk(b"JSON", text), *chunks) + rest
+
+
+def tells_what_is_left(convert, room, name, ending):
+    """Whether it is said of a container what the conversion leaves out of it, and all else is
+    written."""
+    _, _, _, both, joined = OF_TEXT[name]
+    words = [name, f"rest_{ending}.{ending}"]
+    how = {"cwd": room, "capture_output": True, "text": True, "preexec_fn": programs.started()}
+    ran = subprocess.run([convert, *words], **how)
+    made = list(room.glob("rest_*"))
+    lines = (joined if ending == "glb" else []) + both
+    good = ran.returncode == 0 and len(made) == (1 if ending == "glb" else 2)
+    good = good and ran.stderr == "".join(f"{name}: left out: {line}\n" for line in lines)
+    for file in made:
+        file.unlink()
+    return programs.report(convert.name, words, good, [ran])
+
+
 def keeps_unknown(convert, room, name):
     """Whether --keep-unknown writes what an extension names as it stands, and says where."""
     value, place, _ = NAMING[name]
@@ -827,6 +1163,10 @@ def main():
         good += [converts(convert, show, room, *row) for row in CONVERTED]
         good += [splits(convert, show, room, *row) for row in SPLIT]
         good += [keeps_unknown(convert, room, name) for name in NAMING]
+        good += [tells_what_is_left(convert, room, name, ending)
+                 for name in OF_TEXT for ending in ("glb", "gltf")]
+        good += [keeps_missing(convert, room, name, ending)
+                 for name in MISSING for ending in ("glb", "gltf")]
         good += [converts_square(convert, show), converts_box(convert, show)]
         good.append(programs.takes_text_alone(convert, room))
         good += outside.converts(convert, place / "outside")

@@ -1,8 +1,8 @@
 #!/usr/bin/env python3
 """Runs the proved program `gltf_show inspect --json` on small documents. A row is a document and what
 is found in it, as (code, pointer), by hand from the standard: for each code one document that breaks
-the rule and one that just does not. What nothing names, UNUSED_OBJECT, is left out of the rows.
-`make test` calls it after `rt ci`; arguments are another program to run. The last line is
+the rule and one that just does not. What nothing names, UNUSED_OBJECT, has rows of its own. Each
+finding has the severity of its code. `make test` calls it after `rt ci`; arguments are another program to run. The last line is
 `N passed, M failed`."""
 import base64
 import json
@@ -14,6 +14,7 @@ import tempfile
 
 sys.dont_write_bytecode = True
 
+import codes
 import crates
 import graphs
 import outside
@@ -1003,30 +1004,49 @@ ROWS += [
 ]
 
 
+# Codes of records by themselves.
+ROWS += codes.ROWS
+
+
 def found(report):
+    """What is found, but for objects that nothing names: the code and the pointer, and the severity
+    where it is not that of the code."""
     messages = json.loads(report)["issues"]["messages"]
-    return [(it["code"], it["pointer"]) for it in messages if it["code"] != "UNUSED_OBJECT"]
+    return [(it["code"], it["pointer"], *wrong_severity(it)) for it in messages
+            if it["code"] != "UNUSED_OBJECT" or wrong_severity(it)]
+
+
+def wrong_severity(message):
+    is_right = message["severity"] == codes.severity(message["code"], message["pointer"])
+    return [] if is_right else [message["severity"]]
+
+
+def unused(report):
+    """The objects that nothing names."""
+    messages = json.loads(report)["issues"]["messages"]
+    return [it["pointer"] for it in messages if it["code"] == "UNUSED_OBJECT"]
 
 
 def main():
     program = sys.argv[1:] or [crates.program("gltf_show")]
-    failed = 0
+    failed, rows = 0, ROWS + codes.UNUSED
     with tempfile.TemporaryDirectory() as folder:
-        paths = [pathlib.Path(folder) / f"{i}.gltf" for i in range(len(ROWS))]
-        for path, (members, _) in zip(paths, ROWS):
+        paths = [pathlib.Path(folder) / f"{i}.gltf" for i in range(len(rows))]
+        for path, (members, _) in zip(paths, rows):
             text = members if isinstance(members, str) else unkept.text(members)
             path.write_text(text)
         ran = subprocess.run([*program, "inspect", "--json", *paths], capture_output=True, text=True)
     reports = [line for line in ran.stdout.splitlines() if line.startswith("{")]
-    if len(reports) != len(ROWS):
-        print(f"{len(reports)} reports, {len(ROWS)} documents\n{ran.stderr}")
-        failed = len(ROWS)
-    for report, (members, expected) in zip(reports, ROWS):
-        if sorted(found(report)) != sorted(expected):
+    if len(reports) != len(rows):
+        print(f"{len(reports)} reports, {len(rows)} documents\n{ran.stderr}")
+        failed = len(rows)
+    for number, (report, (members, expected)) in enumerate(zip(reports, rows)):
+        shown = found(report) if number < len(ROWS) else unused(report)
+        if sorted(shown) != sorted(expected):
             failed += 1
-            print(f"{json.dumps(members)}\n  expected {expected}\n  found {found(report)}")
+            print(f"{json.dumps(members)}\n  expected {expected}\n  found {shown}")
     failed += sum(not outside.is_found(program, *row) for row in outside.LOOKED_AT)
-    print(f"{len(ROWS) + len(outside.LOOKED_AT) - failed} passed, {failed} failed")
+    print(f"{len(rows) + len(outside.LOOKED_AT) - failed} passed, {failed} failed")
     return 1 if failed else 0
 
 

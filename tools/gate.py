@@ -39,6 +39,7 @@ PARTS = (
     ["python3", "tools/refusals.py"],
     ["python3", "tools/programs.py"],
     ["python3", "tools/conversions.py"],
+    ["python3", "tools/gltfpack.py"],
     ["python3", "tools/findings.py"],
     ["python3", "tools/budgets.py"],
     ["python3", "tools/pages.py"],

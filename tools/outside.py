@@ -72,13 +72,14 @@ def converts(convert, place):
     is read with `--outside`; and whether what stays in the folder is read without."""
     room, out = make_outside(place), place / "out"
     how = {"cwd": place, "capture_output": True, "text": True, "preexec_fn": programs.started()}
-    places = {"image": "images[0].uri: ", "buffer": ""}
+    # The URI of an image stands in its message.
+    places = {"image": 'images[0].uri: "{}": ', "buffer": ""}
     calls = [(kind, ending) for kind in places for ending in ("glb", "gltf")]
-    for i, (_, name, why, is_there) in enumerate(OUTSIDERS):
+    for i, (uri, name, why, is_there) in enumerate(OUTSIDERS):
         for kind, ending in calls:
             words = [f"in/{kind}{i}.gltf", f"out/o.{ending}"]
             ran = subprocess.run([convert, *words], **how)
-            error = f"{name}: {places[kind]}{why}; --outside reads it\n"
+            error = f"{name}: {places[kind].format(uri)}{why}; --outside reads it\n"
             good = (ran.returncode, ran.stdout, ran.stderr) == (1, "", error)
             good = good and not list(out.iterdir())
             yield programs.report(convert.name, words, good, ran)

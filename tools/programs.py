@@ -128,6 +128,18 @@ def drawn(vertices, *indices, mode=4):
     )
 
 
+def required(*names):
+    return {"extensionsUsed": [*names], "extensionsRequired": [*names]}
+
+
+def requiring(*names, **members):
+    return document(**required(*names), **members)
+
+
+def padded(text):
+    return text + b" " * (-len(text) % 4)
+
+
 def primitive(**members):
     return document(meshes=[{"primitives": [{"attributes": {}, **members}]}])
 
@@ -275,6 +287,19 @@ def shown(room):
         "thin.gltf": drawn(3, 2, 1, 2),
         "strip.gltf": drawn(3, 2, 1, 2, mode=5),
         "--dashed.gltf": document(),
+        "draco.gltf": requiring("KHR_draco_mesh_compression"),
+        "draco.glb": container(chunk(b"JSON", padded(requiring("KHR_draco_mesh_compression")))),
+        "packed.gltf": with_numbers(numbers, buffers=buffers(*NUMBERS), **indices,
+                                    **required("KHR_materials_unlit", "KHR_mesh_quantization",
+                                               "EXT_meshopt_compression")),
+        "forged name.gltf": requiring("A\nB"),
+        "dangling draco.gltf": requiring("KHR_draco_mesh_compression", nodes=[{"mesh": 3}]),
+        "basis.gltf": requiring("KHR_texture_basisu", images=[{"uri": "a.ktx2"}],
+                                textures=[{"extensions": {"KHR_texture_basisu": {"source": 0}}}]),
+        "moved.gltf": document(
+            animations=[{"channels": [{"sampler": 0, "target": {"path": "translation"}}],
+                         "samplers": [{"input": 0, "output": 0}]}],
+            accessors=[accessor(5126, 1)], bufferViews=[view(0, 4)], buffers=buffers(*NUMBERS)),
         "extended.gltf": document(**USED),
         "named.gltf": document(materials=[{"name": "a\tb</script>"}]),
         "of\ntwo lines.gltf": document(),
@@ -286,12 +311,25 @@ def shown(room):
     return files
 
 
-USAGE = ("usage: gltf_show chunks PATH | check PATH | indices PATH MESH PRIMITIVE | "
+USAGE = ("usage: gltf_show chunks PATH | check PATH [--extensions[=NAME,..]] [--lenient] | "
+         "indices PATH MESH PRIMITIVE [--extensions[=NAME,..]] [--lenient] | "
          "inspect PATH.. [--json [--pretty]] [--no-files|--outside] | "
          "inspect PATH --html [--no-files|--outside]\n")
 FIRST = "this is a glTF 1.0 file; glTF 2.0 is supported\n"
 DANGLING = ("invalid glTF: nodes[0].mesh: Index out of bounds; "
             "nodes[0].skin: Index out of bounds;\n")
+UNSUPPORTED = "invalid glTF: extensionsRequired[0]: Unsupported extension;\n"
+BOTH = ("invalid glTF: extensionsRequired[1]: Unsupported extension; "
+        "extensionsRequired[2]: Unsupported extension;\n")
+UNSOURCED = "textures[0].source: missing member\n"
+
+
+def flag(*names):
+    return f"--extensions={','.join(names)} takes this file; what they say is not read\n"
+
+
+DRACO, QUANTIZED = "KHR_draco_mesh_compression", "KHR_mesh_quantization"
+MESHOPT, BASIS = "EXT_meshopt_compression", "KHR_texture_basisu"
 NO_MESH, NO_PRIMITIVE, NO_INDICES = "no such mesh\n", "no such primitive\n", "no indices\n"
 
 # The words, the status, the output, and the error.
@@ -326,6 +364,40 @@ SHOWS = [
     (["indices", "more.gltf", "1", "2"], 1, "", NO_INDICES),
     (["indices", "dangling.gltf", "0", "0"], 1, "", DANGLING),
     (["indices", "box.glb", "0", "0"], 1, "", "asset: missing member\n"),
+    (["check", "draco.gltf"], 1, "", UNSUPPORTED + flag(DRACO)),
+    (["check", "draco.glb"], 1, "", UNSUPPORTED + flag(DRACO)),
+    (["check", "draco.gltf", "--extensions"], 1, "", UNSUPPORTED + flag(DRACO)),
+    (["check", "draco.gltf", f"--extensions=A,{DRACO}"], 0,
+     "ok buffers=0 accessors=0 meshes=0 nodes=0\n", ""),
+    (["check", "draco.glb", f"--extensions={DRACO}"], 0,
+     "ok buffers=0 accessors=0 meshes=0 nodes=0\n", ""),
+    (["check", "packed.gltf"], 1, "", BOTH + flag(QUANTIZED, MESHOPT)),
+    (["check", "packed.gltf", "--extensions"], 0,
+     "ok buffers=1 accessors=1 meshes=1 nodes=0\n", ""),
+    (["check", "packed.gltf", f"--extensions={MESHOPT}"], 1, "",
+     "invalid glTF: extensionsRequired[1]: Unsupported extension;\n" + flag(QUANTIZED, MESHOPT)),
+    (["indices", "packed.gltf", "0", "0"], 1, "", BOTH + flag(QUANTIZED, MESHOPT)),
+    (["indices", "packed.gltf", "0", "0", "--extensions"], 0, "1\n2\n", ""),
+    (["indices", "packed.gltf", "0", "0", "--extensions", "--lenient"], 0, "1\n2\n", ""),
+    (["check", "forged name.gltf"], 1, "", UNSUPPORTED + flag(r"A\u000aB")),
+    (["check", "dangling draco.gltf"], 1, "",
+     "invalid glTF: nodes[0].mesh: Index out of bounds; "
+     "extensionsRequired[0]: Unsupported extension;\n"),
+    (["check", "basis.gltf"], 1, "", UNSOURCED),
+    (["check", "basis.gltf", "--extensions"], 1, "", UNSOURCED),
+    (["check", "basis.gltf", "--lenient"], 1, "", UNSUPPORTED + flag(BASIS)),
+    (["check", "basis.gltf", "--lenient", "--extensions"], 0,
+     "ok buffers=0 accessors=0 meshes=0 nodes=0\n", ""),
+    (["check", "moved.gltf"], 1, "",
+     "animations[0].channels[0].target.node: missing member\n"),
+    (["check", "moved.gltf", "--lenient"], 0, "ok buffers=1 accessors=1 meshes=0 nodes=0\n", ""),
+    (["check", "plain.gltf", "--extensions", "--lenient"], 0,
+     "ok buffers=1 accessors=1 meshes=0 nodes=0\n", ""),
+    (["check", "plain.gltf", "--lenient", "--lenient"], 2, "", USAGE),
+    (["check", "plain.gltf", "--extensions", "--extensions=A"], 2, "", USAGE),
+    (["check", "plain.gltf", "--extensions="], 2, "", USAGE),
+    (["check", "plain.gltf", "--nothing"], 2, "", USAGE),
+    (["check", "--lenient", "plain.gltf"], 2, "", USAGE),
     ([], 2, "", USAGE),
     (["chunks"], 2, "", USAGE),
     (["chunks", "box.glb", "box.glb"], 2, "", USAGE),

@@ -8,7 +8,8 @@ use Rattle.serde_json.specs.Data.{no_items, item}
 use Rattle.serde_json.specs.Find.{get, as_object, as_number, as_u64}
 use Rattle.gltf_edit.specs.Bundled.{with_member, with_some, whole, size_or_zero, span_of, Lies}
 use Rattle.gltf_edit.specs.Bundled.{LiesIn}
-use Rattle.gltf_edit.specs.Bundled.{placed, relocated, relocated_extensions, moved, meshopt}
+use Rattle.gltf_edit.specs.Bundled.{placed, relocated, relocated_at, relocated_extensions, moved}
+use Rattle.gltf_edit.specs.Bundled.{meshopt, khr_meshopt, member_at, unless_null, LiesAt}
 use Rattle.gltf_edit.specs.Bundled.{ExtensionLies, IsPlaced, AllPlaced, EachPlaced, ArePlaced}
 use Rattle.gltf_edit.specs.Bundled.{mapped, each_item, one_buffer, buffers_after, views_after}
 use Rattle.gltf_edit.specs.Bundled.{bundled}
@@ -19,13 +20,13 @@ use Rattle.gltf_edit.specs.declared.span.Span.{Span}
 use Rattle.gltf_bundle.proofs.Fixed.{IsSet, set_with, same_with, kept_with, kept_with_some}
 use Rattle.gltf_bundle.proofs.Imported.{buffers_changed}
 
-abbrev bu : List ℕ
+abbrev pub bu : List ℕ
 bu = codes "buffer"
 
-abbrev off : List ℕ
+abbrev pub off : List ℕ
 off = codes "byteOffset"
 
-abbrev ext : List ℕ
+abbrev pub ext : List ℕ
 ext = codes "extensions"
 
 -- the first buffer of a list stands at the begin
@@ -42,7 +43,7 @@ record IsSettled (d : Data) : Type 0 where
   buffer : get bu d ≡ Some (whole 0)
   offset : get off d ≡ Some (whole k)
 
-object_of_get : (k : List ℕ) (d e : Data) → get k d ≡ Some e → IsSome (as_object d)
+pub object_of_get : (k : List ℕ) (d e : Data) → get k d ≡ Some e → IsSome (as_object d)
 object_of_get k null e there = cc
 object_of_get k (boolean b) e there = cc
 object_of_get k (number n) e there = cc
@@ -97,10 +98,10 @@ settled_same spans d first settled =
     ∙ same_with off (whole n) d settled.set_offset
 
 -- what lies in a buffer has a span
-record HasSpan (spans : List Span) (d : Data) : Type 0 where
-  span : Span
-  there : span_of spans d ≡ Some span
-  is_object : IsSome (as_object d)
+pub record HasSpan (spans : List Span) (d : Data) : Type 0 where
+  pub span : Span
+  pub there : span_of spans d ≡ Some span
+  pub is_object : IsSome (as_object d)
 
 object_of_span : (spans : List Span) (d : Data) (s : Span) → span_of spans d ≡ Some s
     → IsSome (as_object d)
@@ -117,10 +118,10 @@ has_span_at spans d None is lies = absurd lies
 has_span_at spans d (Some s) is lies =
     record { span = s; there = is; is_object = object_of_span spans d s is }
 
-has_span : (spans : List Span) (d : Data) → Lies spans d → HasSpan spans d
+pub has_span : (spans : List Span) (d : Data) → Lies spans d → HasSpan spans d
 has_span spans d lies = has_span_at spans d (span_of spans d) refl lies
 
-relocated_placed : (spans : List Span) (d : Data) (s : Span) → span_of spans d ≡ Some s
+pub relocated_placed : (spans : List Span) (d : Data) (s : Span) → span_of spans d ≡ Some s
     → relocated spans d ≡ placed s.place d
 relocated_placed spans d s there =
     ap (λ (o : Option Span). unwrap_or (option_map (λ (s : Span). placed s.place d) o) d) there
@@ -131,7 +132,7 @@ relocated_settled spans d has =
     subst IsSettled (sym (relocated_placed spans d has.span has.there))
     (placed_settled has.span.place d has.is_object)
 
-object_relocated : (spans : List Span) (d : Data) → HasSpan spans d
+pub object_relocated : (spans : List Span) (d : Data) → HasSpan spans d
     → IsSome (as_object (relocated spans d))
 object_relocated spans d has =
     let one = with_member bu (whole 0) d in
@@ -139,13 +140,36 @@ object_relocated spans d has =
     (object_with off (whole (has.span.place + size_or_zero off d)) one
     (object_with bu (whole 0) d has.is_object))
 
-extensions_relocated : (spans : List Span) (d : Data) → HasSpan spans d
+pub extensions_relocated : (spans : List Span) (d : Data) → HasSpan spans d
     → get ext (relocated spans d) ≡ get ext d
 extensions_relocated spans d has =
     let one = with_member bu (whole 0) d in
     ap (get ext) (relocated_placed spans d has.span has.there)
     ∙ get_with_other ext off (whole (has.span.place + size_or_zero off d)) one (differ ext off refl)
     ∙ get_with_other ext bu (whole 0) d (differ ext bu refl)
+
+never : {x : Data} → ◌≡◌ {A = Option Data} None (Some x) → ⊥
+never same = cc
+
+same_data : {x y : Data} → ◌≡◌ {A = Option Data} (Some x) (Some y) → x ≡ y
+same_data same = cc
+
+-- an object is not null
+not_null : (d : Data) → IsSome (as_object d) → unless_null d ≡ Some d
+not_null null is = cc
+not_null (boolean b) is = refl
+not_null (number n) is = refl
+not_null (string s) is = refl
+not_null (array ds) is = refl
+not_null (object ms) is = refl
+
+-- what was said at a member was moved, and stays where it is
+pub record IsDone (spans others : List Span) (k : List ℕ) (o : Option Data) (d : Data) : Type 0 where
+  pub after : member_at k (with_some k (option_map (relocated spans) o) d)
+      ≡ option_map (relocated spans) o
+  pub same : (x : Data) → option_map (relocated spans) o ≡ Some x → relocated others x ≡ x
+  pub set : (x : Data) → option_map (relocated spans) o ≡ Some x
+      → IsSet k x (with_some k (option_map (relocated spans) o) d)
 
 module _ (spans others : List Span)
     (first : (d : Data) (s : Span) → span_of spans d ≡ Some s → IsFirst others) where
@@ -157,22 +181,72 @@ module _ (spans others : List Span)
 
   -- ---- extensions of views
 
-  extension_at : (e : Data) (o : Option Data) → get meshopt e ≡ o → MatchOption o ⊤ (Lies spans)
-      → relocated_extensions others (with_some meshopt (option_map (relocated spans) o) e)
-      ≡ with_some meshopt (option_map (relocated spans) o) e
-  extension_at e None is lies =
-      ap (λ (o : Option Data). with_some meshopt (option_map (relocated others) o) e) is
-  extension_at e (Some m) is lies =
+  -- an extension of which something was set, where it stays as it is
+  settled_at : (k : List ℕ) (w : Data) (o : Option Data) → member_at k w ≡ o
+      → ((x : Data) → o ≡ Some x → relocated others x ≡ x)
+      → ((x : Data) → o ≡ Some x → IsSet k x w) → relocated_at k others w ≡ w
+  settled_at k w None there same set =
+      ap (λ (o : Option Data). with_some k (option_map (relocated others) o) w) there
+  settled_at k w (Some x) there same set =
+      ap (λ (o : Option Data). with_some k (option_map (relocated others) o) w) there
+      ∙ ap (λ (y : Data). with_member k y w) (same x refl) ∙ same_with k x w (set x refl)
+
+  done_none : (k : List ℕ) (d : Data) → member_at k d ≡ None → IsDone spans others k None d
+  done_none k d none =
+      record { after = none; same = λ x is. absurd (never is); set = λ x is. absurd (never is) }
+
+  done_with : (k : List ℕ) (d m : Data) → get k d ≡ Some m → Lies spans m
+      → IsDone spans others k (Some m) d
+  done_with k d m there lies =
       let x = relocated spans m in
-      let w = with_member meshopt x e in
-      let found : get meshopt w ≡ Some x = get_with meshopt x e (object_of_get meshopt e m is) in
-      ap (λ (o : Option Data). with_some meshopt (option_map (relocated others) o) w) found
-      ∙ ap (λ (y : Data). with_member meshopt y w) (relocated_again m (has_span spans m lies))
-      ∙ same_with meshopt x w (set_with meshopt x e)
+      let has = has_span spans m lies in
+      record {
+        after =
+            ap (option_and_then unless_null) (get_with k x d (object_of_get k d m there))
+            ∙ not_null x (object_relocated spans m has);
+        same =
+            λ y is.
+            subst (λ (z : Data). relocated others z ≡ z) (same_data is) (relocated_again m has);
+        set =
+            λ y is.
+            subst (λ (z : Data). IsSet k z (with_member k x d)) (same_data is) (set_with k x d);
+      }
+
+  done_at : (k : List ℕ) (d : Data) (g : Option Data) → get k d ≡ g
+      → MatchOption (option_and_then unless_null g) ⊤ (Lies spans)
+      → IsDone spans others k (option_and_then unless_null g) d
+  done_at k d None is lies = done_none k d (ap (option_and_then unless_null) is)
+  done_at k d (Some null) is lies = done_none k d (ap (option_and_then unless_null) is)
+  done_at k d (Some (boolean b)) is lies = done_with k d (boolean b) is lies
+  done_at k d (Some (number n)) is lies = done_with k d (number n) is lies
+  done_at k d (Some (string s)) is lies = done_with k d (string s) is lies
+  done_at k d (Some (array ds)) is lies = done_with k d (array ds) is lies
+  done_at k d (Some (object ms)) is lies = done_with k d (object ms) is lies
+
+  pub done : (k : List ℕ) (d : Data) → LiesAt k spans d → IsDone spans others k (member_at k d) d
+  done k d lies = done_at k d (get k d) refl lies
 
   extensions_again : (e : Data) → ExtensionLies spans e
       → relocated_extensions others (relocated_extensions spans e) ≡ relocated_extensions spans e
-  extensions_again e lies = extension_at e (get meshopt e) refl lies
+  extensions_again e lies =
+      let q = option_map (relocated spans) (member_at meshopt e) in
+      let b = relocated_at meshopt spans e in
+      let p = option_map (relocated spans) (member_at khr_meshopt b) in
+      let w = relocated_extensions spans e in
+      let apart = differ meshopt khr_meshopt refl in
+      let first = done meshopt e lies.first in
+      let unmoved : member_at khr_meshopt b ≡ member_at khr_meshopt e =
+      ap (option_and_then unless_null)
+      (get_with_some_other khr_meshopt meshopt q e (differ khr_meshopt meshopt refl)) in
+      let second = done khr_meshopt b
+      (subst (λ (o : Option Data). MatchOption o ⊤ (Lies spans)) (sym unmoved) lies.second) in
+      let one : relocated_at meshopt others w ≡ w =
+      settled_at meshopt w q
+      (ap (option_and_then unless_null) (get_with_some_other meshopt khr_meshopt p b apart)
+      ∙ first.after)
+      first.same (λ x is. kept_with_some meshopt khr_meshopt x p b apart (first.set x is)) in
+      ap (relocated_at khr_meshopt others) one
+      ∙ settled_at khr_meshopt w p second.after second.same second.set
 
   -- ---- views
 
@@ -244,7 +318,7 @@ one_again total (object ms) = refl
 abbrev buffers : List ℕ
 buffers = codes "buffers"
 
-abbrev views : List ℕ
+abbrev pub views : List ℕ
 views = codes "bufferViews"
 
 views_at : (spans : List Span) (total : ℕ) (d : Data) (o : Option Data) → IsSome (as_object d)

@@ -1,7 +1,7 @@
 -- What a bundle is imported as: the law `one_buffer`. `the_parts` are what its container holds,
 -- `the_value` is its JSON value, and `the_buffers` are its buffers.
 use Rattle.std.proofs.Common.{◌≡◌, ℕ, suc, ◌-◌, ◌%◌, List, [], ◌∷◌, length}
-use Rattle.std.proofs.Common.{Option, Some, None, option_map, Ok, Result, Bool, false, ◌+◌, ◌<◌}
+use Rattle.std.proofs.Common.{Option, Some, None, option_map, Ok, Result, false, ◌+◌, ◌<◌}
 use Rattle.std.proofs.Common.{◌++◌, length-append, unwrap_or}
 use Rattle.std.proofs.Common.{nat_lt, get_or, map, codes, refl, sym, ap, subst, ◌∙◌, arith, ◌⊎◌}
 use Rattle.std.proofs.Common.{inl, inr}
@@ -47,6 +47,8 @@ use Rattle.gltf_bundle.specs.Images.{AreTaken}
 use Rattle.gltf_bundle.proofs.Parts.{parts_written, one_value}
 use Rattle.gltf_bundle.proofs.Taken.{as_many_taken}
 use Rattle.gltf_bundle.proofs.Uris.{ReadsImages, no_uris, images_over}
+use Rattle.gltf_bundle.specs.declared.options.Keep.{Keep}
+use Rattle.gltf_bundle.specs.declared.options.Keep.TheVariants.{Nothing}
 
 -- ---- the list of buffers
 
@@ -211,7 +213,7 @@ from_one over one bytes cs blob others is_one is_blob whole no_uri long are =
 -- ---- what a bundle is imported as
 
 module _ (one : OneTextAndBlob) (back : ReadsBack) (spaces : SpacesBehind)
-    (required : Required) (names : Names) (path : List ℕ) (keep : Bool) (answer : List ℕ)
+    (required : Required) (names : Names) (path : List ℕ) (keep : Keep) (answer : List ℕ)
     (is : IsBundle required names path keep answer) (over : Names) (s : Root)
     (others : List (List ℕ)) (accepted : IsRead over answer s others) where
   abbrev all : List (List ℕ)
@@ -294,7 +296,7 @@ module _ (one : OneTextAndBlob) (back : ReadsBack) (spaces : SpacesBehind)
   as_many =
       let both = length-append is.buffers is.images in
       let images =
-      as_many_taken names keep is.value is.pictures is.images is.gathered.taken in
+      as_many_taken keep names is.value is.pictures is.images is.lost is.gathered.taken in
       omega (arith, own_count, both, images)
 
   none_at : count ≡ 0 → s.buffers.items ≡ [] → length others
@@ -335,13 +337,14 @@ module _ (one : OneTextAndBlob) (back : ReadsBack) (spaces : SpacesBehind)
       (All-cons (λ (b : Buffer). b.uri ≡ None) found.one [] found.uri (All-nil _)))
       the_list
 
-  pub no_image_uri : keep ≡ false → All (λ i. i.uri ≡ None) s.images.items
+  pub no_image_uri : keep ≡ Nothing → All (λ i. i.uri ≡ None) s.images.items
   unfolding root
   no_image_uri not_kept =
-      let taken = subst (λ (b : Bool). AreTaken names b is.value is.pictures is.images) not_kept
+      let taken =
+      subst (λ (k : Keep). AreTaken k names is.value is.pictures is.images is.lost) not_kept
       is.gathered.taken in
       no_uris names (get (codes "images") is.value) is.pictures
-      (count_at (codes "bufferViews") is.value) is.images s.images.items taken
+      (count_at (codes "bufferViews") is.value) is.images is.lost s.images.items taken
       (subst (λ o. ReadsImages o s.images.items)
       (bundled_other (spans_from 0 all) total between (codes "images")
       (differ (codes "images") (codes "buffers") refl)

@@ -10,5 +10,8 @@ pub mod Shown
 pub mod Fixed
 pub mod Again
 pub mod Twice
+pub mod Settled
+pub mod Excluded
+pub mod Anew
 pub mod Sourced
 pub mod Refused

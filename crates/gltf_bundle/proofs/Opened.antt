@@ -1,13 +1,7 @@
 -- The layers of a file up to its document: for the contract of `document_of`.
-use Rattle.std.proofs.Common.{◌≡◌, ℕ, List, [], Option, None, true, inl, inr, refl, sym}
-use Rattle.std.proofs.Common.{subst}
-use Rattle.std.proofs.Common.{Ok, Err, Result, Vec, Global}
-use Rattle.std.specs.Prelude.{nat_eq, MatchBool, IfOk}
-use Rattle.std.specs.List.{starts_with}
+use Rattle.std.proofs.Common.{◌≡◌, ℕ, List, [], Option, inl, inr, refl}
 use Rattle.serde_json.specs.Data.{Data}
-use Rattle.gltf_glb.specs.Bytes.{magic}
 use Rattle.gltf_glb.specs.Causes.{from_json}
-use Rattle.gltf_glb.specs.Container.{IsContainer}
 use Rattle.gltf_glb.specs.declared.error.Error.{Error}
 use Rattle.gltf_glb.specs.declared.error.Error.TheVariants as error
 use Rattle.gltf_json.specs.Documents.{root}
@@ -21,8 +15,6 @@ use Rattle.gltf.specs.Import.{AreParts, IsDocument, RefusesContainer}
 use Rattle.gltf_required.specs.Import.{IsOpenedAs, RefusesDocumentAs}
 use Rattle.gltf_required.specs.Required.{IsLeft, TellsAs}
 use Rattle.gltf_required.specs.declared.required.Required.{Required}
-use Rattle.gltf.specs.Laws.{OneTextAndBlob}
-use Rattle.gltf.specs.Shown.{blob_bytes}
 
 or_memory : (P : Error → Type 0) (e : Error) → P e → OutOfMemoryOr P e
 or_memory P error.Memory p = tt

@@ -1,11 +1,11 @@
 -- Why a file was not bundled: for the clauses `refused` of `load`, `gather`, `places_of` and
 -- `bundle`.
 use Rattle.std.proofs.Common.{◌≡◌, ℕ, zero, suc, ◌+◌, ◌-◌, ◌%◌, ◌≤◌, ◌<◌, List, []}
-use Rattle.std.proofs.Common.{◌∷◌, ◌++◌}
+use Rattle.std.proofs.Common.{◌∷◌, ◌++◌, ◌≢◌, refl}
 use Rattle.std.proofs.Common.{length, take, get_or, Option, subst, sym, ap, ◌∙◌, arith}
-use Rattle.std.proofs.Common.{inl, inr, length-append, Bool, false, codes}
+use Rattle.std.proofs.Common.{inl, inr, length-append, codes, false}
 use Rattle.std.specs.declared.io.Error.{Error as IoError}
-use Rattle.serde_json.specs.Data.{Data}
+use Rattle.serde_json.specs.Data.{Data, depth}
 use Rattle.gltf_glb.specs.declared.error.Error.{Error}
 use Rattle.gltf_glb.specs.declared.error.Error.TheVariants as error
 use Rattle.gltf_json.specs.declared.root.Root.{Root}
@@ -32,21 +32,34 @@ use Rattle.gltf_edit.specs.declared.fault.Fault.TheVariants as fault
 use Rattle.gltf_edit.specs.declared.picture.Picture.{Picture}
 use Rattle.gltf_moved.specs.Laws.{moved_value}
 use Rattle.gltf_bundle.specs.Bundle.{IsSource, IsGathered, ArePlaces, IsBundle, blob_of}
-use Rattle.gltf_bundle.specs.Causes.{of_fault}
+use Rattle.gltf_bundle.specs.Bundle.{Bundles, IsCompact}
+use Rattle.gltf_bundle.specs.Causes.{of_fault, of_answer, is_memory}
+use Rattle.gltf_glb.specs.Glb.{RefusesToWrite}
+use Rattle.gltf_json.specs.Reading.{Reads}
+use Rattle.serde_json.specs.Read.{max_depth}
 use Rattle.gltf_bundle.specs.Images.{RefusesImages}
 use Rattle.gltf_bundle.specs.Refusals.{RefusesSource, RefusesFile, RefusesBundle}
-use Rattle.gltf_bundle.specs.Refusals.{RefusesContainerOf, HasNoContainer}
+use Rattle.gltf_bundle.specs.Refusals.{RefusesContainerOf, HasNoContainer, LacksMemoryOr}
 use Rattle.gltf_bundle.specs.declared.joining.Places.{Places}
 use Rattle.gltf_bundle.specs.declared.error.BundleError.{BundleError}
 use Rattle.gltf_bundle.specs.declared.error.BundleError.TheVariants as bundle
 use Rattle.gltf_bundle.proofs.Joins.{each_more}
 use Rattle.gltf_bundle.proofs.Sourced.{moved_depth}
+use Rattle.gltf_bundle.proofs.Taken.{fine_taken}
+use Rattle.gltf_bundle.specs.declared.options.Keep.{Keep}
+use Rattle.gltf_bundle.specs.declared.options.Keep.TheVariants.{Missing}
 
 -- ---- the import
 
-or_memory : (P : Error → Type 0) (e : Error) → P e → OutOfMemoryOr P e
-or_memory P error.Memory p = tt
-or_memory P _ p = p
+lacks_or : (M : Type 0) (P : Error → Type 0) (e : Error) → (e ≡ error.Memory → M) → P e
+    → LacksMemoryOr M P e
+lacks_or M P error.Memory same p = same refl
+lacks_or M P e same p = p
+
+weaker : (M N : Type 0) (P : Error → Type 0) (e : Error) → (M → N) → LacksMemoryOr M P e
+    → LacksMemoryOr N P e
+weaker M N P error.Memory f told = f told
+weaker M N P e f told = told
 
 no_rules : (required : Required) (r : Root) (cause : IoError) → TellsAs required r (error.Io cause)
     → ⊥
@@ -63,15 +76,18 @@ no_io required bytes cause (inr told) = no_rules required told.root cause told.f
 module _ (required : Required) (names : Names) (path : List ℕ) where
   behind : (bytes : List ℕ) (old new : List Named) (e : Error) → Gives names (File path) bytes
       → FailsOrRefusesAs required names bytes old new e
-      → OutOfMemoryOr (RefusesFileAs required names path old new) e
+      → LacksMemoryOr (new ≡ old) (RefusesFileAs required names path old new) e
   behind bytes old new e gives told =
-      or_memory (RefusesFileAs required names path old new) e
+      lacks_or (new ≡ old) (RefusesFileAs required names path old new) e
+      (λ is. subst (λ (e : Error). FailsOrRefusesAs required names bytes old new e) is told)
       (inr (record { bytes = bytes; gives = gives; told = told }))
 
   pub unanswered : (old new : List Named) (e : Error)
       → IsUnanswered names (File path) old new e
       → RefusesSource required names path old new (bundle.Import e)
-  unanswered old new e told = or_memory (RefusesFileAs required names path old new) e (inl told)
+  unanswered old new e told =
+      lacks_or (new ≡ old) (RefusesFileAs required names path old new) e
+      (λ is. subst (λ (e : Error). IsUnanswered names (File path) old new e) is told) (inl told)
 
   document_told : (bytes : List ℕ) (old new : List Named) (e : Error) → new ≡ old
       → OutOfMemoryOr (RefusesDocumentAs required bytes) e
@@ -124,70 +140,59 @@ module _ (required : Required) (names : Names) (path : List ℕ) where
 
 -- ---- the images
 
-pub load_refused : (required : Required) (names : Names) (path : List ℕ) (keep : Bool)
+pub load_refused : (required : Required) (names : Names) (path : List ℕ) (keep : Keep)
     (old new : List Named) (e : BundleError) → RefusesSource required names path old new e
     → RefusesFile required names path keep old new e
-load_refused required names path keep old new (bundle.Import e) told = told
+load_refused required names path keep old new (bundle.Import e) told =
+    weaker (new ≡ old) (keep ≢ Missing → new ≡ old) (RefusesFileAs required names path old new) e
+    (λ same some. same) told
 load_refused required names path keep old new (bundle.View i) told = absurd told
-load_refused required names path keep old new (bundle.Image i e) told = absurd told
+load_refused required names path keep old new (bundle.Image i u e) told = absurd told
 load_refused required names path keep old new (bundle.ImageType i) told = absurd told
 load_refused required names path keep old new bundle.TooLong told = absurd told
 load_refused required names path keep old new (bundle.Answer e) told = absurd told
 
-pub images_refused : (required : Required) (names : Names) (path : List ℕ) (keep : Bool)
+pub images_refused : (required : Required) (names : Names) (path : List ℕ) (keep : Keep)
     (old new : List Named) (value : Data) (r : Root) (buffers : List (List ℕ)) (e : BundleError)
-    → IsSource required names path value r buffers → keep ≡ false
-    → RefusesImages names (items_at (codes "images") value) old new e
+    → IsSource required names path value r buffers
+    → RefusesImages keep names (items_at (codes "images") value) old new e
     → RefusesFile required names path keep old new e
-images_refused required names path keep old new value r buffers (bundle.Import e) source
-    not_kept told =
-    subst (λ e. OutOfMemoryOr (RefusesFileAs required names path old new) e) (sym told) tt
-images_refused required names path keep old new value r buffers (bundle.View i) source not_kept
-    told =
+images_refused required names path keep old new value r buffers (bundle.Import e) source told =
+    subst (λ e.
+    LacksMemoryOr (keep ≢ Missing → new ≡ old) (RefusesFileAs required names path old new) e)
+    (sym told.0) told.1
+images_refused required names path keep old new value r buffers (bundle.View i) source told =
     absurd told
-images_refused required names path keep old new value r buffers (bundle.Image i e) source
-    not_kept told =
-    record {
-      value = value;
-      root_ = r;
-      buffers = buffers;
-      source = source;
-      not_kept = not_kept;
-      told = told;
-    }
-images_refused required names path keep old new value r buffers (bundle.ImageType i) source
-    not_kept told =
-    record {
-      value = value;
-      root_ = r;
-      buffers = buffers;
-      source = source;
-      not_kept = not_kept;
-      told = told;
-    }
-images_refused required names path keep old new value r buffers bundle.TooLong source not_kept
-    told =
+images_refused required names path keep old new value r buffers (bundle.Image i u e) source told =
+    record { value = value; root_ = r; buffers = buffers; source = source; told = told }
+images_refused required names path keep old new value r buffers (bundle.ImageType i) source told =
+    record { value = value; root_ = r; buffers = buffers; source = source; told = told }
+images_refused required names path keep old new value r buffers bundle.TooLong source told =
     absurd told
-images_refused required names path keep old new value r buffers (bundle.Answer e) source not_kept
-    told =
+images_refused required names path keep old new value r buffers (bundle.Answer e) source told =
     absurd told
 
 -- ---- the steps after it
 
-pub file_refused : (required : Required) (names : Names) (path : List ℕ) (keep : Bool)
+pub file_refused : (required : Required) (names : Names) (path : List ℕ) (keep : Keep)
     (old new : List Named) (e : BundleError) → RefusesFile required names path keep old new e
     → RefusesBundle required names path keep old new e
 file_refused required names path keep old new (bundle.Import e) told = told
 file_refused required names path keep old new (bundle.View i) told = absurd told
-file_refused required names path keep old new (bundle.Image i e) told = told
+file_refused required names path keep old new (bundle.Image i u e) told = told
 file_refused required names path keep old new (bundle.ImageType i) told = told
 file_refused required names path keep old new bundle.TooLong told = absurd told
 file_refused required names path keep old new (bundle.Answer e) told = absurd told
 
-module _ (required : Required) (names : Names) (path : List ℕ) (keep : Bool)
+module _ (required : Required) (names : Names) (path : List ℕ) (keep : Keep)
     (old new : List Named) (value : Data) (r : Root) (buffers images : List (List ℕ))
-    (ps : List (Option Picture))
-    (gathered : IsGathered required names path keep value r buffers images ps) where
+    (ps : List (Option Picture)) (lost : List Named)
+    (gathered : IsGathered required names path keep value r buffers images ps lost)
+    (after : new ≡ lost ++ old) where
+  -- where there is no memory behind the images
+  pub fine : keep ≢ Missing → new ≡ old
+  fine = fine_taken keep names value ps images lost old new gathered.taken after
+
   abbrev whole : List (List ℕ)
   whole = buffers ++ images
 
@@ -201,10 +206,11 @@ module _ (required : Required) (names : Names) (path : List ℕ) (keep : Bool)
         buffers = buffers;
         images = images;
         pictures = ps;
+        lost = lost;
         gathered = gathered;
         long = told;
       }
-  join_refused fault.Memory told = tt
+  join_refused fault.Memory told = fine
 
   pub edit_refused : (f : Fault) → NamesStray (spans_from 0 whole) (embedded ps value) f
       → RefusesBundle required names path keep old new (of_fault f)
@@ -215,19 +221,22 @@ module _ (required : Required) (names : Names) (path : List ℕ) (keep : Bool)
         buffers = buffers;
         images = images;
         pictures = ps;
+        lost = lost;
         gathered = gathered;
         stray = told;
       }
   edit_refused fault.TooLong told = absurd told
-  edit_refused fault.Memory told = tt
+  edit_refused fault.Memory told = fine
 
   container_refused : (e : BundleError) → ArePlaced (spans_from 0 whole) (embedded ps value)
       → RefusesContainerOf (moved_value whole ps value) (blob_of whole) e
       → RefusesBundle required names path keep old new e
   container_refused (bundle.Import e) placed told =
-      subst (λ e. OutOfMemoryOr (RefusesFileAs required names path old new) e) (sym told) tt
+      subst (λ e.
+      LacksMemoryOr (keep ≢ Missing → new ≡ old) (RefusesFileAs required names path old new) e)
+      (sym told) fine
   container_refused (bundle.View i) placed told = absurd told
-  container_refused (bundle.Image i e) placed told = absurd told
+  container_refused (bundle.Image i u e) placed told = absurd told
   container_refused (bundle.ImageType i) placed told = absurd told
   container_refused bundle.TooLong placed told = absurd told
   container_refused (bundle.Answer e) placed told =
@@ -237,11 +246,14 @@ module _ (required : Required) (names : Names) (path : List ℕ) (keep : Bool)
         buffers = buffers;
         images = images;
         pictures = ps;
+        lost = lost;
         gathered = gathered;
         placed = placed;
         json = told.0;
         reads = told.1 (moved_depth whole ps value gathered.source.nests);
-        fault = inl told.2;
+        compact = told.2;
+        not_memory = told.3;
+        fault = inl told.4;
       }
 
   pub answer_refused : (all : Places) → ArePlaces whole all
@@ -257,24 +269,44 @@ module _ (required : Required) (names : Names) (path : List ℕ) (keep : Bool)
       (subst (λ (d : Data). RefusesContainerOf d (blob_of whole) e) same told)
 
 -- the container was made, and the import refuses it
-pub import_refused : (required : Required) (names : Names) (path : List ℕ) (keep : Bool)
+no_container : (required : Required) (names : Names) (path : List ℕ) (keep : Keep)
     (answer : List ℕ) (e : Error) → IsBundle required names path keep answer
-    → OutOfMemoryOr (RefusesImportAs required Nowhere answer) e
+    → is_memory e ≡ false → RefusesImportAs required Nowhere answer e
     → HasNoContainer required names path keep e
-import_refused required names path keep answer e is told = record {
+no_container required names path keep answer e is not_memory told = record {
   value = is.value;
   root_ = is.root_;
   buffers = is.buffers;
   images = is.images;
   pictures = is.pictures;
+  lost = is.lost;
   gathered = is.gathered;
   placed = is.placed;
   json = is.json;
   reads = is.reads;
+  compact = is.compact;
+  not_memory = not_memory;
   fault =
-      inr (subst (λ (bytes : List ℕ). OutOfMemoryOr (RefusesImportAs required Nowhere bytes) e)
-      is.written told);
+      inr (subst (λ (bytes : List ℕ). RefusesImportAs required Nowhere bytes e) is.written told);
 }
+
+pub import_refused : (required : Required) (names : Names) (path : List ℕ) (keep : Keep)
+    (old new : List Named) (answer : List ℕ) (e : Error)
+    → Bundles required names path keep old new answer
+    → OutOfMemoryOr (RefusesImportAs required Nowhere answer) e
+    → RefusesBundle required names path keep old new (of_answer e)
+import_refused required names path keep old new answer error.Memory is told =
+    fine_taken keep names is.0.value is.0.pictures is.0.images is.0.lost old new
+    is.0.gathered.taken is.1
+import_refused required names path keep old new answer e is told =
+    no_container required names path keep answer e is.0 refl told
+
+-- the container is too long to be written
+pub write_refused : (value : Data) (blob : Option (List ℕ)) (json : List ℕ) (e : Error)
+    → (depth value ≤ max_depth → Reads json value) → IsCompact value json
+    → RefusesToWrite json blob e → RefusesContainerOf value blob (of_answer e)
+write_refused value blob json error.Memory reads compact told = refl
+write_refused value blob json e reads compact told = (json, reads, compact, refl, told)
 
 -- ---- the bytes so far are no more than all
 

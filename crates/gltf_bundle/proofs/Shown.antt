@@ -2,17 +2,19 @@
 use Rattle.std.proofs.Common.{◌≡◌, ℕ, zero, suc, ◌+◌, List, [], ◌∷◌, ◌++◌, Option, Some, None}
 use Rattle.std.proofs.Common.{refl, sym, ap, subst, ◌∙◌, arith, codes, unwrap_or, option_map}
 use Rattle.std.proofs.Common.{String}
-use Rattle.std.proofs.Common.{Global, string_bytes, false, Ok}
+use Rattle.std.proofs.Common.{Global, string_bytes, Ok}
 use Rattle.std.specs.Prelude.{MatchOption, option_and_then, slice_get}
 use Rattle.serde_json.specs.Data.{Data, null, boolean, number, string, array, object, Items}
 use Rattle.serde_json.specs.Data.{no_items, item}
-use Rattle.serde_json.specs.Find.{get, get_item, as_array, as_str}
+use Rattle.serde_json.specs.Find.{get, get_item, as_array, as_str, as_number, as_u64}
 use Rattle.gltf_json_record.specs.Items.{AllRead}
 use Rattle.gltf_json_record.specs.Member.{unless_null}
+use Rattle.gltf_json_record.specs.Scalars.{as_n32}
 use Rattle.gltf_json.specs.Documents.{root}
 use Rattle.gltf_json_scene.specs.Images.{image}
 use Rattle.gltf_json_scene.specs.declared.image.Image.{Image}
-use Rattle.gltf_edit.specs.Embedded.{seats}
+use Rattle.gltf_edit.specs.Bundled.{size_at}
+use Rattle.gltf_edit.specs.Embedded.{seats, own_uri, own_uri_at}
 use Rattle.gltf_edit.specs.declared.picture.Picture.{Picture}
 use Rattle.gltf_moved.specs.Images.{IsInView, ShowsImages as MovedShows, seats_before}
 use Rattle.gltf_glb.specs.Laws.{ReadsBack}
@@ -23,6 +25,8 @@ use Rattle.gltf_buffers.specs.Names.{Names}
 use Rattle.gltf_buffers.specs.Uri.{uri_of}
 use Rattle.gltf_bundle.specs.Images.{AllTaken, Takes, IsTaken, text_at}
 use Rattle.gltf_bundle.specs.Laws.{ShowsImages}
+use Rattle.gltf_bundle.specs.declared.options.Keep.TheVariants.{Nothing}
+use Rattle.gltf_names.specs.Named.{Named}
 use Rattle.gltf_bundle.specs.Media.{media_of}
 use Rattle.gltf_bundle.proofs.Imported.{is_moved, the_buffers}
 use Rattle.gltf_bundle.proofs.Uris.{ReadsImages}
@@ -85,6 +89,38 @@ uri_read : (e : Data) (x : Image) → image.is e x
 unfolding image
 uri_read e x is = text_read (get (codes "uri") e) x.uri is.1.1.1.0
 
+-- what names no view
+no_size_at : (o : Option Data) → option_and_then unless_null o ≡ None
+    → option_and_then as_u64 (option_and_then as_number o) ≡ None
+no_size_at None none = refl
+no_size_at (Some null) none = refl
+no_size_at (Some (boolean b)) none = cc
+no_size_at (Some (number n)) none = cc
+no_size_at (Some (string s)) none = cc
+no_size_at (Some (array ds)) none = cc
+no_size_at (Some (object ms)) none = cc
+
+absent : (o : Option Data) (f : Option ℕ) (P : Data → ℕ → Type 0)
+    → MatchOption o (f ≡ None) (λ e. MatchOption f ⊥ (P e)) → f ≡ None → o ≡ None
+absent None f P is none = refl
+absent (Some e) None P is none = absurd is
+absent (Some e) (Some n) P is none = cc
+
+no_view : (e : Data) (x : Image) → image.is e x → x.buffer_view ≡ None
+    → size_at (codes "bufferView") e ≡ None
+unfolding image
+no_view e x is none =
+    no_size_at (get (codes "bufferView") e)
+    (absent (option_and_then unless_null (get (codes "bufferView") e)) x.buffer_view
+    (λ e n. as_n32 e ≡ Some n) is.1.0 none)
+
+-- the URI by which it is read
+own_read : (e : Data) (x : Image) → image.is e x → x.buffer_view ≡ None
+    → own_uri e ≡ option_map string_bytes x.uri
+own_read e x is none =
+    ap (λ (v : Option ℕ). own_uri_at v (text_at (codes "uri") e)) (no_view e x is none)
+    ∙ uri_read e x is
+
 type_read : (e : Data) (x : Image) → image.is e x
     → text_at (codes "mimeType") e ≡ option_map string_bytes x.mime_type
 unfolding image
@@ -101,11 +137,12 @@ record TakenAt (names : Names) (e : Data) (ps : List (Option Picture)) (taken : 
   is_taken : IsTaken names e picture bytes
 
 module _ (names : Names) (e : Data) (uri : List ℕ)
-    (with_uri : text_at (codes "uri") e ≡ Some uri) where
+    (with_uri : own_uri e ≡ Some uri) where
   here : (p : Option Picture) (ps : List (Option Picture)) (one more taken : List (List ℕ))
-      → Takes names e p one → taken ≡ one ++ more → TakenAt names e (p ∷ ps) taken 0
-  here None ps one more taken takes is = let none = takes.0 in cc
-  here (Some p) ps one more taken takes is =
+      (lost : List Named) → Takes Nothing names e p one lost → taken ≡ one ++ more
+      → TakenAt names e (p ∷ ps) taken 0
+  here None ps one more taken lost takes is = let none = takes.0.none in cc
+  here (Some p) ps one more taken lost takes is =
       record {
         picture = p;
         has = refl;
@@ -116,32 +153,36 @@ module _ (names : Names) (e : Data) (uri : List ℕ)
         is_taken = takes.1;
       }
 
-  seat : (d : Data) (p : Option Picture) (one more : List (List ℕ)) (k : ℕ) → Takes names d p one
+  seat : (d : Data) (p : Option Picture) (one more : List (List ℕ)) (lost : List Named) (k : ℕ)
+      → Takes Nothing names d p one lost
       → slice_get (one ++ more) (seats p + k) ≡ slice_get more k
-  seat d None one more k takes =
+  seat d None one more lost k takes =
       ap (λ (xs : List (List ℕ)). slice_get (xs ++ more) (0 + k)) takes.1
       ∙ ap (slice_get more) (omega arith)
-  seat d (Some p) one more k takes =
+  seat d (Some p) one more lost k takes =
       let next : 1 + k ≡ suc k = omega arith in
       ap (λ (xs : List (List ℕ)). slice_get (xs ++ more) (1 + k)) takes.2
       ∙ ap (slice_get (takes.0 ∷ more)) next
 
-  taken_at : (ds : Items) (ps : List (Option Picture)) (taken : List (List ℕ)) (i : ℕ)
-      → AllTaken names ds ps taken → get_item i ds ≡ Some e → TakenAt names e ps taken i
-  taken_at no_items ps taken i all there = cc
-  taken_at (item d ds) [] taken i all there = absurd all
-  taken_at (item d ds) (p ∷ ps) taken zero (one, more, first, rest, is) there =
+  taken_at : (ds : Items) (ps : List (Option Picture)) (taken : List (List ℕ)) (lost : List Named)
+      (i : ℕ) → AllTaken Nothing names ds ps taken lost → get_item i ds ≡ Some e
+      → TakenAt names e ps taken i
+  taken_at no_items ps taken lost i all there = cc
+  taken_at (item d ds) [] taken lost i all there = absurd all
+  taken_at (item d ds) (p ∷ ps) taken lost zero
+      (one, more, was, behind, first, rest, is, lost_is) there =
       let same : d ≡ e = cc in
-      here p ps one more taken (subst (λ d. Takes names d p one) same first) is
-  taken_at (item d ds) (p ∷ ps) taken (suc i) (one, more, first, rest, is) there =
-      let later = taken_at ds ps more i rest there in
+      here p ps one more taken was (subst (λ d. Takes Nothing names d p one was) same first) is
+  taken_at (item d ds) (p ∷ ps) taken lost (suc i)
+      (one, more, was, behind, first, rest, is, lost_is) there =
+      let later = taken_at ds ps more behind i rest there in
       record {
         picture = later.picture;
         has = later.has;
         bytes = later.bytes;
         given =
             ap (λ (xs : List (List ℕ)). slice_get xs (seats p + seats_before i ps)) is
-            ∙ seat d p one more (seats_before i ps) first ∙ later.given;
+            ∙ seat d p one more was (seats_before i ps) first ∙ later.given;
         is_taken = later.is_taken;
       }
 
@@ -153,19 +194,19 @@ of_some same = cc
 pub shows_images : OneTextAndBlob → ReadsBack → SpacesBehind → MovedShows → ShowsImages
 unfolding root
 shows_images one back spaces law required names path answer is over s others accepted i x there
-    uri with_uri =
+    uri with_uri no_view_named =
     let value = is.value in
     let source = is.gathered.source in
     let read = listed (get (codes "images") value) is.root_.images.items i x
     source.records.1.1.1.1.1.1.1.0 there in
     let e = read.value in
-    let text = uri_read e x read.reads ∙ with_uri in
+    let text = own_read e x read.reads no_view_named ∙ with_uri in
     let found = taken_at names e uri text
     (unwrap_or (option_and_then as_array (get (codes "images") value)) no_items) is.pictures
-    is.images i is.gathered.taken read.there in
+    is.images is.lost i is.gathered.taken read.there in
     let picture = found.is_taken in
     let same : picture.uri ≡ uri = of_some (sym picture.there ∙ text) in
-    let moved = is_moved one back spaces required names path false answer is over s others
+    let moved = is_moved one back spaces required names path Nothing answer is over s others
     accepted in
     let view = law is.buffers is.images is.root_ s moved i e read.there found.picture found.has
     found.bytes
@@ -181,7 +222,7 @@ shows_images one back spaces law required names path answer is over s others acc
       in_view =
           subst (λ (bs : List (List ℕ)). IsInView bs s i
           (string_bytes found.picture.media) found.bytes)
-          (sym (the_buffers one back spaces required names path false answer is over s others
+          (sym (the_buffers one back spaces required names path Nothing answer is over s others
           accepted))
           view;
     }

@@ -1,15 +1,14 @@
 -- What was loaded, and what is made of it.
-use Rattle.std.proofs.Common.{◌≡◌, ℕ, ◌≤◌, List, length, Option, Bool, sym, subst}
+use Rattle.std.proofs.Common.{◌≡◌, ℕ, ◌≤◌, List, length, Option, sym, subst}
 use Rattle.std.proofs.Common.{◌∙◌, arith}
-use Rattle.std.proofs.Common.{◌++◌, false}
+use Rattle.std.proofs.Common.{◌++◌}
 use Rattle.serde_json.specs.Data.{Data, depth}
 use Rattle.serde_json.specs.Read.{max_depth}
-use Rattle.serde_json.specs.Written.{has_float, compact_text}
 use Rattle.gltf_json.specs.Documents.{root}
 use Rattle.gltf_json.specs.Reading.{Reads}
 use Rattle.gltf_json.specs.declared.root.Root.{Root}
 use Rattle.gltf.specs.Laws.{OneTextAndBlob}
-use Rattle.gltf_names.specs.Named.{File}
+use Rattle.gltf_names.specs.Named.{Named, File}
 use Rattle.gltf_buffers.specs.Buffers.{Source, sources_of, AreBytes}
 use Rattle.gltf_buffers.specs.Names.{Names, Gives}
 use Rattle.gltf_required.specs.Import.{IsOpenedAs}
@@ -24,8 +23,10 @@ use Rattle.gltf_edit.specs.declared.picture.Picture.{Picture}
 use Rattle.gltf_moved.specs.Laws.{moved_value}
 use Rattle.gltf_bundle.specs.declared.joining.Places.{Places}
 use Rattle.gltf_bundle.specs.Bundle.{IsValueOf, IsSource, IsGathered, ArePlaces, IsContainerOf}
-use Rattle.gltf_bundle.specs.Bundle.{IsBundle, blob_of}
+use Rattle.gltf_bundle.specs.Bundle.{IsCompact, Bundles}
+use Rattle.gltf_bundle.specs.Bundle.{blob_of}
 use Rattle.gltf_bundle.proofs.Parts.{one_value}
+use Rattle.gltf_bundle.specs.declared.options.Keep.{Keep}
 
 -- the bytes of the buffers of what is left are those of the document
 pub whole_bytes : (required : Required) (names : Names) (bytes : List ℕ) (left : Root)
@@ -74,35 +75,37 @@ moved_depth all ps value nests =
     (omega arith)
     (embedded_depth ps value max_depth (omega arith) nests)
 
-pub is_bundle : (required : Required) (names : Names) (path : List ℕ) (keep : Bool) (value : Data)
-    (r : Root) (buffers images : List (List ℕ)) (ps : List (Option Picture))
-    → IsGathered required names path keep value r buffers images ps
+pub is_bundle : (required : Required) (names : Names) (path : List ℕ) (keep : Keep) (value : Data)
+    (r : Root) (buffers images : List (List ℕ)) (ps : List (Option Picture)) (lost : List Named)
+    → IsGathered required names path keep value r buffers images ps lost
     → (all : Places) → ArePlaces (buffers ++ images) all
     → ArePlaced all.spans.items (embedded ps value)
     → (after : Data) → after ≡ bundled all.spans.items all.total (embedded ps value)
     → (answer : List ℕ) → IsContainerOf after (blob_of (buffers ++ images)) answer
-    → IsBundle required names path keep answer
-is_bundle required names path keep value r buffers images ps gathered all is placed after edited
-    answer container =
+    → (old new : List Named) → new ≡ lost ++ old
+    → Bundles required names path keep old new answer
+is_bundle required names path keep value r buffers images ps lost gathered all is placed after
+    edited answer container old new fails =
     let same : after ≡ moved_value (buffers ++ images) ps value =
     edited ∙ (λ i. bundled (is.spans i) (is.total i) (embedded ps value)) in
     let short : depth after ≤ max_depth =
     subst (λ (d : Data). depth d ≤ max_depth) (sym same)
-    (moved_depth (buffers ++ images) ps value gathered.source.nests) in
-    record {
-      value = value;
-      root_ = r;
-      buffers = buffers;
-      images = images;
-      pictures = ps;
-      gathered = gathered;
-      placed = subst (λ spans. ArePlaced spans (embedded ps value)) is.spans placed;
-      short = is.fits;
-      json = container.json;
-      reads = subst (λ (d : Data). Reads container.json d) same (container.reads short);
-      compact =
-          subst (λ (d : Data). has_float d ≡ false → container.json ≡ compact_text d) same
-          container.compact;
-      fits = container.fits;
-      written = container.written;
-    }
+    (moved_depth (buffers ++ images) ps value gathered.source.nests) in (
+      record {
+        value = value;
+        root_ = r;
+        buffers = buffers;
+        images = images;
+        pictures = ps;
+        lost = lost;
+        gathered = gathered;
+        placed = subst (λ spans. ArePlaced spans (embedded ps value)) is.spans placed;
+        short = is.fits;
+        json = container.json;
+        reads = subst (λ (d : Data). Reads container.json d) same (container.reads short);
+        compact = subst (λ (d : Data). IsCompact d container.json) same container.compact;
+        fits = container.fits;
+        written = container.written;
+      },
+      fails,
+    )

@@ -1,5 +1,6 @@
 -- Laws over the definitions.
-use Rattle.std.specs.Prelude.{◌≡◌, ◌↔◌, ◌++◌, ℕ, List, Option, Some, None, Bool, true, false, All}
+use Rattle.std.specs.Prelude.{◌≡◌, ◌↔◌, ◌++◌, ℕ, List, Option, Some, None, false, All}
+use Rattle.std.specs.Prelude.{◌≢◌}
 use Rattle.std.specs.Prelude.{Ok, option_map, string_bytes, slice_get}
 use Rattle.serde_json.specs.Written.{has_float}
 use Rattle.gltf_json.specs.declared.root.Root.{Root}
@@ -14,31 +15,37 @@ use Rattle.gltf_required.specs.Import.{IsRead}
 use Rattle.gltf_required.specs.declared.required.Required.{Required}
 use Rattle.gltf_moved.specs.Images.{IsInView}
 use Rattle.gltf_moved.specs.Laws.{IsMoved, one_list, moved_value}
-use Rattle.gltf_bundle.specs.Bundle.{IsBundle, blob_of}
+use Rattle.gltf_glb.specs.declared.error.Error.TheVariants.{Memory}
+use Rattle.gltf_bundle.specs.Bundle.{IsBundle, IsAcceptedAs, blob_of}
 use Rattle.gltf_bundle.specs.Media.{media_of}
+use Rattle.gltf_bundle.specs.Refusals.{RefusesBundle}
+use Rattle.gltf_bundle.specs.declared.error.BundleError.{BundleError}
+use Rattle.gltf_bundle.specs.declared.error.BundleError.TheVariants.{Import}
+use Rattle.gltf_bundle.specs.declared.options.Keep.{Keep}
+use Rattle.gltf_bundle.specs.declared.options.Keep.TheVariants.{Nothing, Every}
 
 -- whatever a bundle is read as, over any source, whatever rules it breaks: the records are those of
 -- the edited value, and the buffers are the one
 abbrev pub HasOneBuffer : Type 0
 HasOneBuffer =
-    (required : Required) (names : Names) (path : List ℕ) (keep : Bool) (answer : List ℕ)
+    (required : Required) (names : Names) (path : List ℕ) (keep : Keep) (answer : List ℕ)
     (is : IsBundle required names path keep answer) (over : Names) (s : Root)
     (others : List (List ℕ)) → IsRead over answer s others
     → IsMoved is.buffers is.images is.root_ s × (others ≡ one_list (is.buffers ++ is.images))
 
--- no buffer has a URI, and no image has one, unless images are kept
+-- no buffer has a URI, and no image has one, unless images may stay
 abbrev pub NeedsNoFile : Type 0
 NeedsNoFile =
-    (required : Required) (names : Names) (path : List ℕ) (keep : Bool) (answer : List ℕ)
+    (required : Required) (names : Names) (path : List ℕ) (keep : Keep) (answer : List ℕ)
     → IsBundle required names path keep answer → (over : Names) (s : Root)
     (others : List (List ℕ)) → IsRead over answer s others
     → All (λ b. b.uri ≡ None) s.buffers.items
-    × (keep ≡ false → All (λ i. i.uri ≡ None) s.images.items)
+    × (keep ≡ Nothing → All (λ i. i.uri ≡ None) s.images.items)
 
 -- and each accessor has the items that it has in the file
 abbrev pub KeepsItems : {X : Type 0} → Ghosts X → Type 0
 KeepsItems {X} t =
-    (required : Required) (names : Names) (path : List ℕ) (keep : Bool) (answer : List ℕ)
+    (required : Required) (names : Names) (path : List ℕ) (keep : Keep) (answer : List ℕ)
     (is : IsBundle required names path keep answer) (over : Names) (s : Root)
     (others : List (List ℕ)) → IsRead over answer s others → (index : ℕ) (result : Option (List X))
     → ReadsAt t is.root_ (slice_get is.buffers) index result
@@ -54,14 +61,14 @@ pub record IsShown (names : Names) (uri : List ℕ) (own : Option (List ℕ))
   pub is_media : media_of uri own bytes ≡ Some media
   pub in_view : IsInView buffers s i media bytes
 
--- so is each image that has one, unless images are kept
+-- so is each image that has one and names no view, unless images may stay
 abbrev pub ShowsImages : Type 0
 ShowsImages =
     (required : Required) (names : Names) (path answer : List ℕ)
-    (is : IsBundle required names path false answer) (over : Names) (s : Root)
+    (is : IsBundle required names path Nothing answer) (over : Names) (s : Root)
     (others : List (List ℕ)) → IsRead over answer s others
     → (i : ℕ) (image : Image) → slice_get is.root_.images.items i ≡ Some image
-    → (uri : List ℕ) → option_map string_bytes image.uri ≡ Some uri
+    → (uri : List ℕ) → option_map string_bytes image.uri ≡ Some uri → image.buffer_view ≡ None
     → IsShown names uri (option_map string_bytes image.mime_type) others s i
 
 -- ---- once more
@@ -69,7 +76,7 @@ ShowsImages =
 -- two bundles have the same JSON value and the same binary buffer; where the value has no float
 -- they are the same bytes
 pub record IsTheSame {required others : Required} {names over : Names} {path other : List ℕ}
-    {keep kept : Bool} {answer again : List ℕ} (is : IsBundle required names path keep answer)
+    {keep kept : Keep} {answer again : List ℕ} (is : IsBundle required names path keep answer)
     (more : IsBundle others over other kept again) : Type 0 where
   pub value : moved_value (more.buffers ++ more.images) more.pictures more.value
       ≡ moved_value (is.buffers ++ is.images) is.pictures is.value
@@ -77,11 +84,25 @@ pub record IsTheSame {required others : Required} {names over : Names} {path oth
   pub bytes : has_float (moved_value (is.buffers ++ is.images) is.pictures is.value) ≡ false
       → again ≡ answer
 
--- so has a bundle, bundled again out of a source that has it; images that were kept are kept
+-- so has a bundle, bundled again out of a source that has it; where images could stay, all do
 abbrev pub BundlesAgain : Type 0
 BundlesAgain =
-    (required : Required) (names : Names) (path : List ℕ) (keep : Bool) (answer : List ℕ)
+    (required : Required) (names : Names) (path : List ℕ) (keep : Keep) (answer : List ℕ)
     (is : IsBundle required names path keep answer) (from : Named → Option (List ℕ))
-    (other : List ℕ) → from (File other) ≡ Some answer → (kept : Bool) → (keep ≡ true → kept ≡ true)
+    (other : List ℕ) → from (File other) ≡ Some answer → (kept : Keep)
+    → (keep ≢ Nothing → kept ≡ Every)
     → (others : Required) (again : List ℕ) (more : IsBundle others (Held from) other kept again)
     → IsTheSame is more
+
+-- and it is refused for lack of memory alone, where the source does not fail, these extensions pass
+-- for it, and its value has no float
+abbrev pub LacksOnlyMemoryAgain : Type 0
+LacksOnlyMemoryAgain =
+    (required : Required) (names : Names) (path : List ℕ) (keep : Keep) (answer : List ℕ)
+    (is : IsBundle required names path keep answer)
+    → has_float (moved_value (is.buffers ++ is.images) is.pictures is.value) ≡ false
+    → (others : Required) → IsAcceptedAs others answer
+    → (from : Named → Option (List ℕ)) (other : List ℕ) → from (File other) ≡ Some answer
+    → (kept : Keep) → (keep ≢ Nothing → kept ≡ Every) → (failures : List Named)
+    (e : BundleError) → RefusesBundle others (Held from) other kept failures failures e
+    → e ≡ Import Memory

@@ -1,4 +1,5 @@
 pub mod Causes
+pub mod Keep
 pub mod Media
 pub mod Images
 pub mod Bundle

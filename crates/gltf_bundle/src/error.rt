@@ -1,7 +1,7 @@
 //! Why a file was not bundled.
 ghost use Rattle.std.specs.Prelude.{◌≡◌};
 ghost use Rattle.gltf_bundle.specs.declared.error.BundleError.TheVariants.{Import};
-ghost use Rattle.gltf_bundle.specs.Causes.{of_fault};
+ghost use Rattle.gltf_bundle.specs.Causes.{of_answer, of_fault};
 ghost use Rattle.gltf_glb.specs.declared.error.Error.TheVariants.{Memory};
 
 use gltf_edit::Fault;
@@ -15,23 +15,37 @@ pub enum BundleError {
     /// The file is not imported: the error of [`gltf::import_from`]. Or there was not enough
     /// memory.
     Import(Error),
-    /// The view at this index, or what `EXT_meshopt_compression` says of it, does not lie in its
-    /// buffer: over the one buffer it would read the bytes of another.
+    /// The view at this index, or what `EXT_meshopt_compression` or `KHR_meshopt_compression` says
+    /// of it, does not lie in its buffer: over the one buffer it would read the bytes of another.
     View(usize),
     /// The URI of an image leads to no bytes: the error that a buffer with this URI would have.
     Image {
         /// The image's index.
         image: usize,
+        /// Its URI.
+        uri: String,
         /// What is wrong with its URI.
         cause: Error,
     },
-    /// The image at this index has a URI, which leads to bytes of no known media type, and it has
-    /// no member `mimeType`.
+    /// The image at this index has a URI, which leads to bytes of no known media type, and neither
+    /// a `data:` URI nor the member `mimeType` names one of images.
     ImageType(usize),
     /// The one buffer would have more than 4294967295 bytes.
     TooLong,
     /// The container would be too long, or not be accepted.
     Answer(Error),
+}
+
+impl BundleError {
+    /// The error where what was made is refused, or there was not enough memory to make it.
+    pub fn of_answer(error: Error) -> BundleError
+        ensures { result ≡ of_answer error }
+    {
+        match error {
+            Error::Memory => BundleError::Import(Error::Memory),
+            error => BundleError::Answer(error),
+        }
+    }
 }
 
 impl From<AllocError> for BundleError {
@@ -67,13 +81,24 @@ impl fmt::Display for BundleError {
         match self {
             BundleError::Import(error) => write!(f, "{error}"),
             BundleError::View(view) => write!(f, "bufferViews[{view}]: not within its buffer"),
-            BundleError::Image { image, cause } => write!(f, "images[{image}].uri: {cause}"),
+            BundleError::Image { image, uri, cause } => {
+                write!(f, "images[{image}].uri: {:?}: {cause}", shown(uri.as_str()))
+            }
             BundleError::ImageType(image) => write!(
                 f,
-                "images[{image}]: neither a mimeType nor bytes of PNG, JPEG, WebP or KTX2"
+                "/images/{image}: no image/ type in a data: URI or mimeType, nor bytes of PNG, \
+                 JPEG, WebP, KTX2, AVIF or DDS; give it a mimeType"
             ),
             BundleError::TooLong => write!(f, "more than 4294967295 bytes of buffers and images"),
             BundleError::Answer(error) => write!(f, "what would be written: {error}"),
         }
+    }
+}
+
+/// A URI, without the data that stand in it.
+fn shown(uri: &str) -> &str {
+    match uri.split_once(',') {
+        Some((head, _)) if uri.starts_with("data:") => head,
+        _ => uri,
     }
 }

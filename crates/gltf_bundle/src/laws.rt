@@ -1,12 +1,18 @@
 //! Laws of bundles. Each is a statement over definitions, proved as the contract of a function that
 //! does nothing.
 ghost use Rattle.gltf_bundle.specs.Laws.{HasOneBuffer, NeedsNoFile, KeepsItems, ShowsImages};
-ghost use Rattle.gltf_bundle.specs.Laws.{BundlesAgain};
+ghost use Rattle.gltf_bundle.specs.Laws.{BundlesAgain, LacksOnlyMemoryAgain};
 
 use gltf::laws::one_text_and_blob;
 use gltf_glb::laws::reads_back;
 use gltf_items::Item;
+use gltf_json::laws::what_shows_the_same_is_alike_in_each_member;
+use gltf_options::laws::{
+    the_same_rules_are_broken_without_the_names, what_shows_the_same_breaks_the_same_rules_besides,
+    what_shows_the_same_has_the_same_buffers, what_shows_the_same_is_left_alike,
+};
 use gltf_pack::laws::spaces_behind;
+use gltf_validation::laws::what_shows_the_same_breaks_the_same_rules;
 
 /// Whatever document and buffers a bundle is imported as, the document is that of the file whose
 /// images went into buffers of their own and whose buffers became one, and its buffer is all
@@ -36,8 +42,8 @@ pub fn items_are_kept<T: Item>()
     gltf_moved::laws::items_are_kept::<T>();
 }
 
-/// Each image of the file that has a URI is, in a bundle where images are not kept, in a view of
-/// the bytes that the URI leads to.
+/// Each image of the file that has a URI and names no view is, in a bundle where images are not
+/// kept, in a view of the bytes that the URI leads to.
 pub fn images_are_shown()
     ensures { ShowsImages }
 {
@@ -56,4 +62,22 @@ pub fn bundled_again()
     one_text_and_blob();
     reads_back();
     spaces_behind();
+}
+
+/// A bundle that is bundled again, out of a source that has it and does not fail, with extensions
+/// that pass for it, is refused only where there is not enough memory, if the value has no float:
+/// what a float is spelled as is not determined, so that a longer text could be too long. Where
+/// images could stay, all do.
+pub fn again_lacks_only_memory()
+    ensures { LacksOnlyMemoryAgain }
+{
+    one_text_and_blob();
+    reads_back();
+    spaces_behind();
+    what_shows_the_same_is_alike_in_each_member();
+    what_shows_the_same_breaks_the_same_rules();
+    what_shows_the_same_breaks_the_same_rules_besides();
+    the_same_rules_are_broken_without_the_names();
+    what_shows_the_same_is_left_alike();
+    what_shows_the_same_has_the_same_buffers();
 }

@@ -10,6 +10,7 @@ ghost use Rattle.serde_json.specs.View.{view};
 
 use crate::error::BundleError;
 use crate::images::pictures_of;
+use crate::options::Keep;
 use gltf::buffer::Data;
 use gltf::laws::one_text_and_blob;
 use gltf::{Gltf, Name, NamedBytes, import_buffers_from, text_and_blob};
@@ -92,16 +93,16 @@ pub(crate) struct Gathered {
     pub(crate) buffers: Vec<Data>,
 }
 
-/// Imports the file at the path, and takes in its images, unless they are kept as they are.
+/// Imports the file at the path, and takes in its images, but for those that stay as they are.
 pub(crate) fn gather<S: NamedBytes>(
     alloc: Global,
     source: &mut S,
     path: &str,
-    keep: bool,
+    keep: Keep,
     required: &Required<'_>,
 ) -> Result<Gathered, BundleError>
     ensures gathered { IfOk result (AreGathered required.now (names_of (S.bytes_by_name source.old))
-        path.now keep) }
+        path.now keep (S.failures source.old) (S.failures source.new)) }
     ensures refused { IfErr result (RefusesFile required.now (names_of (S.bytes_by_name source.old))
         path.now keep (S.failures source.old) (S.failures source.new)) }
 {

@@ -2,9 +2,6 @@
 -- KHR_texture_transform).
 use Rattle.std.specs.Prelude.{ℕ, Float, Option, Some, None, unwrap_or}
 use Rattle.std.specs.Option.{option_and_then}
-use Rattle.gltf_extension_records.specs.declared.defaults.TheConstants.{TEXTURE_OFFSET}
-use Rattle.gltf_extension_records.specs.declared.defaults.TheConstants.{TEXTURE_ROTATION}
-use Rattle.gltf_extension_records.specs.declared.defaults.TheConstants.{TEXTURE_SCALE}
 use Rattle.gltf_extension_records.specs.declared.texture.NormalTextureInfo.{NormalTextureInfo}
 use Rattle.gltf_extension_records.specs.declared.texture.TextureInfo.{TextureInfo}
 use Rattle.gltf_extension_records.specs.declared.texture.TextureInfoExtensions.{
@@ -14,6 +11,8 @@ use Rattle.gltf_extension_records.specs.declared.texture.TextureTransform.{Textu
 use Rattle.gltf_c_look.specs.declared.number.TheConstants.{NO_SCALE}
 use Rattle.gltf_c_look.specs.declared.uses.GltfTextureUse.{GltfTextureUse}
 use Rattle.gltf_c_scene.specs.declared.numbers.TheConstants.{NONE}
+use Rattle.gltf_numbers.specs.Defaults.{default_texture_offset, default_texture_rotation}
+use Rattle.gltf_numbers.specs.Defaults.{default_texture_scale}
 
 -- the transformation among the extensions of a use
 abbrev pub transform_of : Option TextureInfoExtensions → Option TextureTransform
@@ -26,9 +25,9 @@ moved_use texture tex_coord scale None = record {
   tex_coord = tex_coord;
   has_transform = 0;
   scale = scale;
-  offset = TEXTURE_OFFSET;
-  rotation = TEXTURE_ROTATION;
-  size = TEXTURE_SCALE;
+  offset = default_texture_offset;
+  rotation = default_texture_rotation;
+  size = default_texture_scale;
 }
 moved_use texture tex_coord scale (Some t) = record {
   texture = texture;

@@ -12,13 +12,13 @@ use Rattle.gltf_json_scene.specs.declared.extensions.scene.khr_lights_punctual.�
   Spot,
 }
 use Rattle.gltf_handles.specs.Sizes.{code_of}
-use Rattle.gltf_numbers.specs.declared.defaults.TheConstants.{INNER_CONE_ANGLE, LIGHT_COLOR}
-use Rattle.gltf_numbers.specs.declared.defaults.TheConstants.{LIGHT_INTENSITY, OUTER_CONE_ANGLE}
 use Rattle.gltf_validation.specs.Lights.{lights_of}
 use Rattle.gltf_c_scene.specs.Values.{numbers_else}
 use Rattle.gltf_c_look.specs.Numbers.{number_else}
 use Rattle.gltf_c_look.specs.declared.number.TheConstants.{NO_NUMBER}
 use Rattle.gltf_c_look.specs.declared.light.GltfLight.{GltfLight}
+use Rattle.gltf_numbers.specs.Defaults.{default_inner_cone_angle, default_light_color}
+use Rattle.gltf_numbers.specs.Defaults.{default_light_intensity, default_outer_cone_angle}
 
 -- the number of a type
 abbrev pub type_number : light.«Type» → ℕ
@@ -28,20 +28,20 @@ type_number Spot = 2
 
 -- the angles of a spot's cone
 abbrev pub inner_of : Option spot.Spot → Float
-inner_of None = INNER_CONE_ANGLE
-inner_of (Some s) = number_else INNER_CONE_ANGLE s.inner_cone_angle
+inner_of None = default_inner_cone_angle
+inner_of (Some s) = number_else default_inner_cone_angle s.inner_cone_angle
 
 abbrev pub outer_of : Option spot.Spot → Float
-outer_of None = OUTER_CONE_ANGLE
-outer_of (Some s) = number_else OUTER_CONE_ANGLE s.outer_cone_angle
+outer_of None = default_outer_cone_angle
+outer_of (Some s) = number_else default_outer_cone_angle s.outer_cone_angle
 
 -- what C sees of a light
 abbrev pub shown_light : Light → GltfLight
 shown_light l = record {
   type_ = code_of type_number l.type_;
   reserved_word = 0;
-  color = numbers_else 3 LIGHT_COLOR l.color;
-  intensity = number_else LIGHT_INTENSITY l.intensity;
+  color = numbers_else 3 default_light_color l.color;
+  intensity = number_else default_light_intensity l.intensity;
   range = number_else NO_NUMBER l.range;
   inner_cone_angle = inner_of l.spot;
   outer_cone_angle = outer_of l.spot;

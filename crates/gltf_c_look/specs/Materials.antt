@@ -17,14 +17,6 @@ use Rattle.gltf_json_material.specs.declared.material.AlphaMode.TheVariants.{Opa
 use Rattle.gltf_json_material.specs.declared.material.Material.{Material}
 use Rattle.gltf_json_material.specs.declared.material.PbrMetallicRoughness.{PbrMetallicRoughness}
 use Rattle.gltf_handles.specs.Sizes.{code_of}
-use Rattle.gltf_numbers.specs.declared.defaults.TheConstants.{ALPHA_CUTOFF, ATTENUATION_COLOR}
-use Rattle.gltf_numbers.specs.declared.defaults.TheConstants.{BASE_COLOR_FACTOR, DIFFUSE_FACTOR}
-use Rattle.gltf_numbers.specs.declared.defaults.TheConstants.{EMISSIVE_FACTOR, GLOSSINESS_FACTOR}
-use Rattle.gltf_numbers.specs.declared.defaults.TheConstants.{GLOSSY_SPECULAR_FACTOR}
-use Rattle.gltf_numbers.specs.declared.defaults.TheConstants.{METALLIC_FACTOR, ROUGHNESS_FACTOR}
-use Rattle.gltf_numbers.specs.declared.defaults.TheConstants.{SPECULAR_COLOR_FACTOR}
-use Rattle.gltf_numbers.specs.declared.defaults.TheConstants.{SPECULAR_FACTOR, THICKNESS_FACTOR}
-use Rattle.gltf_numbers.specs.declared.defaults.TheConstants.{TRANSMISSION_FACTOR}
 use Rattle.gltf_c_scene.specs.Values.{numbers_else, one_or_zero}
 use Rattle.gltf_c_scene.specs.declared.numbers.TheConstants.{NONE}
 use Rattle.gltf_c_look.specs.Numbers.{number_else}
@@ -37,19 +29,27 @@ use Rattle.gltf_c_look.specs.declared.material.Surface.{Surface}
 use Rattle.gltf_c_look.specs.declared.material.SurfaceTextures.{SurfaceTextures}
 use Rattle.gltf_c_look.specs.declared.material.Volume.{Volume}
 use Rattle.gltf_c_look.specs.declared.uses.GltfTextureUse.{GltfTextureUse}
-use Rattle.gltf_c_look.specs.declared.material.TheConstants.{IOR, EMISSIVE_STRENGTH, NO_DISTANCE}
+use Rattle.gltf_c_look.specs.declared.material.TheConstants.{NO_DISTANCE}
+use Rattle.gltf_numbers.specs.Defaults.{default_alpha_cutoff, default_attenuation_color}
+use Rattle.gltf_numbers.specs.Defaults.{default_base_color_factor, default_diffuse_factor}
+use Rattle.gltf_numbers.specs.Defaults.{default_emissive_factor, default_emissive_strength}
+use Rattle.gltf_numbers.specs.Defaults.{default_glossiness_factor, default_glossy_specular_factor}
+use Rattle.gltf_numbers.specs.Defaults.{default_ior, default_metallic_factor}
+use Rattle.gltf_numbers.specs.Defaults.{default_roughness_factor, default_specular_color_factor}
+use Rattle.gltf_numbers.specs.Defaults.{default_specular_factor, default_thickness_factor}
+use Rattle.gltf_numbers.specs.Defaults.{default_transmission_factor}
 
 -- metalness and roughness (section 5.22)
 abbrev pub surface_of : Option PbrMetallicRoughness → Surface
 surface_of None = record {
-  base_color_factor = BASE_COLOR_FACTOR;
-  metallic_factor = METALLIC_FACTOR;
-  roughness_factor = ROUGHNESS_FACTOR;
+  base_color_factor = default_base_color_factor;
+  metallic_factor = default_metallic_factor;
+  roughness_factor = default_roughness_factor;
 }
 surface_of (Some p) = record {
-  base_color_factor = numbers_else 4 BASE_COLOR_FACTOR p.base_color_factor;
-  metallic_factor = number_else METALLIC_FACTOR p.metallic_factor;
-  roughness_factor = number_else ROUGHNESS_FACTOR p.roughness_factor;
+  base_color_factor = numbers_else 4 default_base_color_factor p.base_color_factor;
+  metallic_factor = number_else default_metallic_factor p.metallic_factor;
+  roughness_factor = number_else default_roughness_factor p.roughness_factor;
 }
 
 abbrev pub surface_textures_of : Option PbrMetallicRoughness → SurfaceTextures
@@ -62,24 +62,24 @@ surface_textures_of (Some p) = record {
 -- KHR_materials_pbrSpecularGlossiness
 abbrev pub glossiness_of : Option PbrSpecularGlossiness → Glossiness
 glossiness_of None = record {
-  diffuse_factor = DIFFUSE_FACTOR;
-  specular_glossiness_factor = GLOSSY_SPECULAR_FACTOR;
-  glossiness_factor = GLOSSINESS_FACTOR;
+  diffuse_factor = default_diffuse_factor;
+  specular_glossiness_factor = default_glossy_specular_factor;
+  glossiness_factor = default_glossiness_factor;
   diffuse = no_use;
   specular_glossiness = no_use;
 }
 glossiness_of (Some g) = record {
-  diffuse_factor = numbers_else 4 DIFFUSE_FACTOR g.diffuse_factor;
-  specular_glossiness_factor = numbers_else 3 GLOSSY_SPECULAR_FACTOR g.specular_factor;
-  glossiness_factor = number_else GLOSSINESS_FACTOR g.glossiness_factor;
+  diffuse_factor = numbers_else 4 default_diffuse_factor g.diffuse_factor;
+  specular_glossiness_factor = numbers_else 3 default_glossy_specular_factor g.specular_factor;
+  glossiness_factor = number_else default_glossiness_factor g.glossiness_factor;
   diffuse = info_use g.diffuse_texture;
   specular_glossiness = info_use g.specular_glossiness_texture;
 }
 
 -- KHR_materials_transmission
 abbrev pub transmission_factor_of : Option Transmission → Float
-transmission_factor_of None = TRANSMISSION_FACTOR
-transmission_factor_of (Some t) = number_else TRANSMISSION_FACTOR t.transmission_factor
+transmission_factor_of None = default_transmission_factor
+transmission_factor_of (Some t) = number_else default_transmission_factor t.transmission_factor
 
 abbrev pub transmission_use_of : Option Transmission → GltfTextureUse
 transmission_use_of None = no_use
@@ -87,40 +87,40 @@ transmission_use_of (Some t) = info_use t.transmission_texture
 
 -- KHR_materials_ior
 abbrev pub ior_of : Option Ior → Float
-ior_of None = IOR
-ior_of (Some i) = number_else IOR i.ior
+ior_of None = default_ior
+ior_of (Some i) = number_else default_ior i.ior
 
 -- KHR_materials_emissive_strength
 abbrev pub emissive_strength_of : Option EmissiveStrength → Float
-emissive_strength_of None = EMISSIVE_STRENGTH
-emissive_strength_of (Some e) = number_else EMISSIVE_STRENGTH e.emissive_strength
+emissive_strength_of None = default_emissive_strength
+emissive_strength_of (Some e) = number_else default_emissive_strength e.emissive_strength
 
 -- KHR_materials_volume
 abbrev pub volume_of : Option volume_record.Volume → Volume
 volume_of None = record {
-  thickness_factor = THICKNESS_FACTOR;
+  thickness_factor = default_thickness_factor;
   attenuation_distance = NO_DISTANCE;
-  attenuation_color = ATTENUATION_COLOR;
+  attenuation_color = default_attenuation_color;
   thickness = no_use;
 }
 volume_of (Some v) = record {
-  thickness_factor = number_else THICKNESS_FACTOR v.thickness_factor;
+  thickness_factor = number_else default_thickness_factor v.thickness_factor;
   attenuation_distance = number_else NO_DISTANCE v.attenuation_distance;
-  attenuation_color = numbers_else 3 ATTENUATION_COLOR v.attenuation_color;
+  attenuation_color = numbers_else 3 default_attenuation_color v.attenuation_color;
   thickness = info_use v.thickness_texture;
 }
 
 -- KHR_materials_specular
 abbrev pub specular_of : Option specular_record.Specular → Specular
 specular_of None = record {
-  specular_factor = SPECULAR_FACTOR;
-  specular_color_factor = SPECULAR_COLOR_FACTOR;
+  specular_factor = default_specular_factor;
+  specular_color_factor = default_specular_color_factor;
   specular = no_use;
   specular_color = no_use;
 }
 specular_of (Some s) = record {
-  specular_factor = number_else SPECULAR_FACTOR s.specular_factor;
-  specular_color_factor = numbers_else 3 SPECULAR_COLOR_FACTOR s.specular_color_factor;
+  specular_factor = number_else default_specular_factor s.specular_factor;
+  specular_color_factor = numbers_else 3 default_specular_color_factor s.specular_color_factor;
   specular = info_use s.specular_texture;
   specular_color = info_use s.specular_color_texture;
 }
@@ -151,7 +151,7 @@ core_of m = record {
   double_sided = one_or_zero m.double_sided;
   has = stated_bits m;
   reserved_word = 0;
-  alpha_cutoff = number_else ALPHA_CUTOFF m.alpha_cutoff;
+  alpha_cutoff = number_else default_alpha_cutoff m.alpha_cutoff;
 }
 
 -- what C sees of a material
@@ -159,7 +159,7 @@ abbrev pub shown_material : Material → GltfMaterial
 shown_material m = record {
   core = core_of m;
   surface = surface_of m.pbr_metallic_roughness;
-  emissive_factor = numbers_else 3 EMISSIVE_FACTOR m.emissive_factor;
+  emissive_factor = numbers_else 3 default_emissive_factor m.emissive_factor;
   surface_textures = surface_textures_of m.pbr_metallic_roughness;
   normal = normal_use m.normal_texture;
   occlusion = occlusion_use m.occlusion_texture;
@@ -184,18 +184,18 @@ default_material = record {
     double_sided = 0;
     has = 0;
     reserved_word = 0;
-    alpha_cutoff = ALPHA_CUTOFF;
+    alpha_cutoff = default_alpha_cutoff;
   };
   surface = surface_of None;
-  emissive_factor = EMISSIVE_FACTOR;
+  emissive_factor = default_emissive_factor;
   surface_textures = surface_textures_of None;
   normal = no_use;
   occlusion = no_use;
   emissive = no_use;
   glossiness = glossiness_of None;
-  transmission_factor = TRANSMISSION_FACTOR;
-  ior = IOR;
-  emissive_strength = EMISSIVE_STRENGTH;
+  transmission_factor = default_transmission_factor;
+  ior = default_ior;
+  emissive_strength = default_emissive_strength;
   transmission = no_use;
   volume = volume_of None;
   specular = specular_of None;

@@ -13,24 +13,24 @@ use Rattle.gltf_json_material.specs.declared.material.OcclusionTexture.{Occlusio
 use Rattle.gltf_json_material.specs.declared.texture.Info.{Info}
 use Rattle.gltf_json_record.specs.declared.extensions.Others.{Others}
 use Rattle.gltf_numbers.specs.Numbers.{exactly, number_of}
-use Rattle.gltf_numbers.specs.declared.defaults.TheConstants.{NORMAL_SCALE, OCCLUSION_STRENGTH}
-use Rattle.gltf_numbers.specs.declared.defaults.TheConstants.{TEXTURE_OFFSET, TEXTURE_ROTATION}
-use Rattle.gltf_numbers.specs.declared.defaults.TheConstants.{TEXTURE_SCALE}
 use Rattle.gltf_c_scene.specs.Values.{numbers_else}
 use Rattle.gltf_c_scene.specs.declared.numbers.TheConstants.{NONE}
 use Rattle.gltf_c_look.specs.Numbers.{number_else}
 use Rattle.gltf_c_look.specs.declared.number.TheConstants.{NO_SCALE}
 use Rattle.gltf_c_look.specs.declared.uses.GltfTextureUse.{GltfTextureUse}
 use Rattle.gltf_c_look.specs.declared.uses.Transform.{Transform}
+use Rattle.gltf_numbers.specs.Defaults.{default_normal_scale, default_occlusion_strength}
+use Rattle.gltf_numbers.specs.Defaults.{default_texture_offset, default_texture_rotation}
+use Rattle.gltf_numbers.specs.Defaults.{default_texture_scale}
 
 -- what stands where there is no transformation
 abbrev pub no_transform : Transform
 no_transform = record {
   is_there = 0;
   tex_coord = None;
-  offset = TEXTURE_OFFSET;
-  rotation = TEXTURE_ROTATION;
-  size = TEXTURE_SCALE;
+  offset = default_texture_offset;
+  rotation = default_texture_rotation;
+  size = default_texture_scale;
 }
 
 -- a use of a texture: the set of coordinates is that of the transformation, where it names one
@@ -53,9 +53,9 @@ abbrev pub transform_of : TextureTransform → Transform
 transform_of t = record {
   is_there = 1;
   tex_coord = t.tex_coord;
-  offset = numbers_else 2 TEXTURE_OFFSET t.offset;
-  rotation = number_else TEXTURE_ROTATION t.rotation;
-  size = numbers_else 2 TEXTURE_SCALE t.scale;
+  offset = numbers_else 2 default_texture_offset t.offset;
+  rotation = number_else default_texture_rotation t.rotation;
+  size = numbers_else 2 default_texture_scale t.scale;
 }
 
 abbrev pub transform_if : Option TextureTransform → Transform
@@ -90,9 +90,9 @@ transform_in d =
     then record {
       is_there = 1;
       tex_coord = whole_member (codes "texCoord") d;
-      offset = numbers_member 2 (codes "offset") TEXTURE_OFFSET d;
-      rotation = number_member (codes "rotation") TEXTURE_ROTATION d;
-      size = numbers_member 2 (codes "scale") TEXTURE_SCALE d;
+      offset = numbers_member 2 (codes "offset") default_texture_offset d;
+      rotation = number_member (codes "rotation") default_texture_rotation d;
+      size = numbers_member 2 (codes "scale") default_texture_scale d;
     }
     else no_transform
 
@@ -109,10 +109,10 @@ unread_transform extensions =
 abbrev pub normal_use : Option NormalTexture → GltfTextureUse
 normal_use None = no_use
 normal_use (Some n) =
-    shown_use n.index n.tex_coord (number_else NORMAL_SCALE n.scale) (unread_transform n.extensions)
+    shown_use n.index n.tex_coord (number_else default_normal_scale n.scale) (unread_transform n.extensions)
 
 abbrev pub occlusion_use : Option OcclusionTexture → GltfTextureUse
 occlusion_use None = no_use
 occlusion_use (Some o) =
-    shown_use o.index o.tex_coord (number_else OCCLUSION_STRENGTH o.strength)
+    shown_use o.index o.tex_coord (number_else default_occlusion_strength o.strength)
     (unread_transform o.extensions)

@@ -5,11 +5,11 @@ use Rattle.std.specs.Option.{option_and_then}
 use Rattle.gltf_json.specs.declared.root.Root.{Root}
 use Rattle.gltf_json_scene.specs.declared.scene.Node.{Node}
 use Rattle.gltf_json_scene.specs.declared.scene.Scene.{Scene}
-use Rattle.gltf_numbers.specs.declared.defaults.TheConstants.{TRANSLATION, ROTATION, SCALE}
 use Rattle.gltf_c_scene.specs.Values.{one_or_zero, index_or_none, numbers_else, listed_numbers}
 use Rattle.gltf_c_scene.specs.declared.node.GltfNode.{GltfNode}
 use Rattle.gltf_c_scene.specs.declared.node.GltfScene.{GltfScene}
-use Rattle.gltf_c_scene.specs.declared.node.TheConstants.{MATRIX}
+use Rattle.gltf_numbers.specs.Defaults.{default_matrix, default_rotation, default_scale}
+use Rattle.gltf_numbers.specs.Defaults.{default_translation}
 
 -- the light of a node (KHR_lights_punctual)
 abbrev pub light_of : Node → ℕ
@@ -34,10 +34,10 @@ shown_node n = record {
   weights = length (listed_numbers n.weights);
   has = transform_bits n;
   reserved_word = 0;
-  matrix = numbers_else 16 MATRIX n.matrix;
-  translation = numbers_else 3 TRANSLATION n.translation;
-  rotation = numbers_else 4 ROTATION n.rotation;
-  scale = numbers_else 3 SCALE n.scale;
+  matrix = numbers_else 16 default_matrix n.matrix;
+  translation = numbers_else 3 default_translation n.translation;
+  rotation = numbers_else 4 default_rotation n.rotation;
+  scale = numbers_else 3 default_scale n.scale;
   reserved = 0 ∷ 0 ∷ 0 ∷ 0 ∷ [];
 }
 

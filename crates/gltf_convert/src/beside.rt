@@ -13,19 +13,19 @@ use std::rt::Files;
 /// Refuses to write over what stands at a path, but for the files that an earlier text of that name
 /// names; with `--force` over each one. A file that was read is never written over, unless the text
 /// takes the place of the file that names it. `read` are the paths of the files that were read, and
-/// `json` is the new text, which names those that it keeps.
+/// `staying` the images of the new text that keep their URIs.
 pub(crate) fn spare<'w>(
     rt: &(impl Files + AllocGlobal),
     asked: &Conversion<'w>,
     read: &[String],
-    json: &str,
+    staying: &[(usize, &str)],
     paths: &[String],
 ) -> Result<(), Refusal<'w>> {
     let there = those_there(rt, paths)?;
     if there.is_empty() {
         return Ok(());
     }
-    let sources = sources_of(rt, asked, read, json)?;
+    let sources = sources_of(rt, asked, read, staying)?;
     let own = own_of(rt, asked.to)?;
     for (path, file) in &there {
         if let Some(why) = stays(*file, &sources, &own, asked.force) {
@@ -73,7 +73,7 @@ fn sources_of(
     rt: &(impl Files + AllocGlobal),
     asked: &Conversion<'_>,
     read: &[String],
-    json: &str,
+    staying: &[(usize, &str)],
 ) -> Result<Vec<FileId>, AllocError> {
     let alloc = rt.alloc();
     let mut files = Vec::new(alloc);
@@ -84,11 +84,13 @@ fn sources_of(
     for path in read {
         add(rt, path.as_str(), &mut files)?;
     }
-    if asked.keep_images {
-        let named = named_in(alloc, json.as_bytes(), base_of(asked.from), &["images"])?;
-        for path in &named {
-            add(rt, path.as_str(), &mut files)?;
-        }
+    let mut names = Noted::new(alloc, Shelf::new(alloc), base_of(asked.from));
+    for (_, uri) in staying {
+        ask_for(alloc, *uri, &mut names);
+    }
+    let kept = names.into_paths();
+    for path in &kept {
+        add(rt, path.as_str(), &mut files)?;
     }
     Ok(files)
 }
@@ -130,7 +132,9 @@ fn named_in(
         for member in members {
             if let Some(items) = value.get(*member).and_then(Value::as_array) {
                 for item in items {
-                    ask_for(alloc, item, &mut names);
+                    if let Some(uri) = item.get("uri").and_then(Value::as_str) {
+                        ask_for(alloc, uri, &mut names);
+                    }
                 }
             }
         }
@@ -139,11 +143,9 @@ fn named_in(
 }
 
 /// Asks for the file that the URI of a buffer or an image leads to.
-fn ask_for(alloc: Global, item: &Value, names: &mut Noted<'_, Shelf>) {
-    if let Some(uri) = item.get("uri").and_then(Value::as_str) {
-        if !uri.starts_with("data:") {
-            // The shelf is empty: that it was asked is noted.
-            let _ = bytes_of_uri(alloc, uri, names);
-        }
+fn ask_for(alloc: Global, uri: &str, names: &mut Noted<'_, Shelf>) {
+    if !uri.starts_with("data:") {
+        // The shelf is empty: that it was asked is noted.
+        let _ = bytes_of_uri(alloc, uri, names);
     }
 }

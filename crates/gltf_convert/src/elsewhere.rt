@@ -7,19 +7,15 @@ use std::alloc::{AllocError, Global};
 use std::io::Write;
 
 /// Looks for the members `buffer`, `buffers`, `uri` and `uris` in the objects of extensions, in a
-/// text that is to be written: what they name is not moved, so that the first of them is a refusal.
-/// With `--keep-unknown` none is, and a line on `err` says where each one stands.
+/// document that is to be written: what they name is not moved, so that the first of them is a
+/// refusal. With `--keep-unknown` none is, and a line on `err` says where each one stands.
 pub(crate) fn look<'w, E: Write>(
     alloc: Global,
     asked: &Conversion<'w>,
-    json: &[u8],
+    document: &Value,
     err: &mut E,
 ) -> Result<(), Refusal<'w>> {
-    // It is a text of JSON, which was written here.
-    let Ok(value) = Value::from_slice(alloc, json) else {
-        return Err(Refusal::Memory);
-    };
-    let places = named_elsewhere(alloc, &value)?;
+    let places = named_elsewhere(alloc, document)?;
     if asked.keep_unknown {
         for place in &places {
             // Where this write fails, the file is converted all the same.

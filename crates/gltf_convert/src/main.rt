@@ -3,9 +3,12 @@
 
 mod beside;
 mod elsewhere;
+mod fallback;
+mod left;
 mod noted;
 mod refusal;
 mod run;
+mod staying;
 mod words;
 
 use gltf_names::{Folder, Inside, OwnFolder};

@@ -5,31 +5,37 @@ use gltf_put::PutFault;
 use std::alloc::AllocError;
 use std::{fmt, io};
 
-const USAGE: &str = "usage: gltf_convert IN OUT.glb [--keep-images] [--keep-unknown] [--outside]
-       gltf_convert IN OUT.gltf [--keep-images|--drop-image-views] [--pretty] [--keep-unknown]
-           [--outside] [--force]
+const USAGE: &str = "usage: gltf_convert IN OUT.glb [--keep-images|--keep-missing-images]
+           [--keep-unknown] [--outside]
+       gltf_convert IN OUT.gltf
+           [--keep-images|[--keep-missing-images] [--drop-image-views]]
+           [--pretty] [--keep-unknown] [--outside] [--force]
 
 Writes the glTF file IN, GLB or JSON, anew. Each accessor has the same items. Unless images are
 kept, what is written needs no other file than those that are written with it.
 
 A file may require any extension. What an extension says is written as it stands, but for the buffer
-that EXT_meshopt_compression names in a view; views, accessors, images and textures keep their
-indices, but for the views that --drop-image-views takes away.
+that EXT_meshopt_compression or KHR_meshopt_compression names in a view; views, accessors, images
+and textures keep their indices, but for the views that --drop-image-views takes away.
+
+A buffer that one of these two calls a fallback, and to whose bytes nothing leads, as gltfpack -c
+writes it, stays as it is, in OUT.glb behind the one that has bytes. So do the views in it: what
+they are compressed to moves. Only a reader that knows the compression takes such a file.
 
 Where the object of an extension has a member buffer, buffers, uri or uris, but for that buffer, it
 names what is not moved, and nothing is written. With --keep-unknown it is written as it stands, and
 a line on standard error says where.
 
-OUT.glb is one GLB container. The buffers become one without a URI, and each image with a URI goes
-into a view of that buffer. The media type of such an image is that which its data: URI names,
-where it is PNG, JPEG, WebP or KTX2, else its mimeType, else the one of these four whose files
-begin so. Where there is none, nothing is written.
+OUT.glb is one GLB container. The buffers become one without a URI, and each image with a URI and no
+view goes into a view of that buffer. The media type of such an image is that which its data: URI
+names, where it is one of images, else its mimeType, where it is, else the one of PNG, JPEG, WebP,
+KTX2, AVIF and DDS whose files begin so. Where there is none, nothing is written.
 
 OUT.gltf is JSON text. The bytes of its buffers go to OUT.bin, or to OUT0.bin and so on where
 there are several, and those of each image, in a view or with a URI, to OUT_image0.png and so on,
-by its index. The name ends in .png, .jpg, .webp or .ktx2 where the bytes begin so, or else the
-mimeType says so, and in .bin where neither does. With --pretty the text has line breaks and two
-spaces a step.
+by its index. The name ends in .png, .jpg, .webp, .ktx2, .avif or .dds where the bytes begin so,
+or else the mimeType says so, and in .bin where neither does. With --pretty the text has line
+breaks and two spaces a step.
 
 The bytes of images in views are in the files of buffers too. With --drop-image-views the views at
 the end of the list go that images name, and that no accessor names. All views stay where the file
@@ -38,8 +44,15 @@ a member extensions, at any depth and in extras too, listed or not. The buffer o
 ends where the last view that stays in it ends, but has one byte at least. It stays whole where more
 stands behind that end than bytes of views that go, and zeros.
 
-Where the bytes of an image cannot be read, nothing is written. With --keep-images images are not
-touched: each one stays in its view, or keeps its URI.
+Where the bytes of an image cannot be read, nothing is written. With --keep-missing-images such an
+image is not touched, nor is one in OUT.glb that has no media type: it keeps its URI, and a line on
+standard error says where. With --keep-images no image is touched: each one stays in its view, or
+keeps its URI.
+
+Members of objects are sorted by their names. What is left out of IN is told on standard error, a
+line for each kind: names, extras and extensions of buffers, where these become one; chunks of
+other types than JSON and BIN; bytes behind the end of a container; a BIN chunk that no buffer
+takes. URIs in extensions and extras stay as they are.
 
 Only files in the folder of IN, and in folders below it, are read. An absolute path, a file: URI, a
 path that climbs out by .., and a symbolic link out of that folder are refused, and nothing is

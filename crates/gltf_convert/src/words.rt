@@ -22,6 +22,8 @@ pub(crate) struct Conversion<'w> {
     pub(crate) form: Form<'w>,
     /// Whether images are not touched.
     pub(crate) keep_images: bool,
+    /// Whether an image that is missing is not touched.
+    pub(crate) keep_missing_images: bool,
     /// Whether the views go that only images name.
     pub(crate) drop_image_views: bool,
     /// Whether JSON text has line breaks.
@@ -33,7 +35,8 @@ pub(crate) struct Conversion<'w> {
 }
 
 /// What the words ask for: two names, and each flag at most once after them. `--pretty`, `--force`
-/// and `--drop-image-views` are for JSON text alone, and the latter for images that have files.
+/// and `--drop-image-views` are for JSON text alone, and the latter for images that have files, as
+/// `--keep-missing-images` is for images that are taken in.
 /// `--outside` is a matter of the source that is asked.
 pub(crate) fn request<'w>(words: &[&'w str]) -> Result<Conversion<'w>, Refusal<'w>> {
     let (from, to, flags) = match words {
@@ -42,6 +45,7 @@ pub(crate) fn request<'w>(words: &[&'w str]) -> Result<Conversion<'w>, Refusal<'
     };
     let Flags {
         keep_images,
+        keep_missing_images,
         drop_image_views,
         pretty,
         force,
@@ -52,7 +56,7 @@ pub(crate) fn request<'w>(words: &[&'w str]) -> Result<Conversion<'w>, Refusal<'
     if matches!(form, Form::Container) && (pretty || drop_image_views || force) {
         return Err(Refusal::Usage);
     }
-    if keep_images && drop_image_views {
+    if keep_images && (drop_image_views || keep_missing_images) {
         return Err(Refusal::Usage);
     }
     Ok(Conversion {
@@ -60,6 +64,7 @@ pub(crate) fn request<'w>(words: &[&'w str]) -> Result<Conversion<'w>, Refusal<'
         to,
         form,
         keep_images,
+        keep_missing_images,
         drop_image_views,
         pretty,
         force,
@@ -71,6 +76,7 @@ pub(crate) fn request<'w>(words: &[&'w str]) -> Result<Conversion<'w>, Refusal<'
 #[derive(Clone, Copy, Debug, Default)]
 struct Flags {
     keep_images: bool,
+    keep_missing_images: bool,
     drop_image_views: bool,
     pretty: bool,
     force: bool,
@@ -84,6 +90,7 @@ fn flags_of<'w>(words: &[&'w str]) -> Result<Flags, Refusal<'w>> {
     for word in words {
         let again = match *word {
             "--keep-images" => replace(&mut flags.keep_images, true),
+            "--keep-missing-images" => replace(&mut flags.keep_missing_images, true),
             "--drop-image-views" => replace(&mut flags.drop_image_views, true),
             "--pretty" => replace(&mut flags.pretty, true),
             "--force" => replace(&mut flags.force, true),

@@ -8,6 +8,7 @@ use Rattle.gltf_buffers.specs.Names.{Names, Held}
 use Rattle.gltf_required.specs.Import.{IsRead}
 use Rattle.gltf_required.specs.declared.required.Required.{Required}
 use Rattle.gltf_bundle.specs.Bundle.{IsBundle}
+use Rattle.gltf_bundle.specs.declared.options.Keep.{Keep}
 use Rattle.gltf_split.specs.Laws.{Holds, HoldsBuffers}
 use Rattle.gltf_split.specs.Splits.{IsSplit}
 use Rattle.gltf_split.specs.declared.splitting.Pieces.{Pieces}
@@ -16,10 +17,11 @@ use Rattle.gltf_split.specs.declared.splitting.Pieces.{Pieces}
 -- at each accessor the items of the file that the set is of, whatever it is read as
 abbrev pub KeepsItemsThere : {X : Type 0} → Ghosts X → Type 0
 KeepsItemsThere {X} t =
-    (required : Required) (names : Names) (path stem : List ℕ) (keep drop : Bool) (set : Pieces)
+    (required : Required) (names : Names) (path stem : List ℕ) (keep : Keep) (drop : Bool)
+    (set : Pieces)
     (is : IsSplit required names path stem keep drop set) (there : Holds) → HoldsBuffers there set
     → (other : List ℕ) → there (File other) ≡ Some (string_bytes set.json)
-    → (passing : Required) (kept : Bool) (answer : List ℕ)
+    → (passing : Required) (kept : Keep) (answer : List ℕ)
     → IsBundle passing (Held there) other kept answer
     → (over : Names) (s : Root) (others : List (List ℕ)) → IsRead over answer s others
     → (index : ℕ) (result : Option (List X))
@@ -30,10 +32,10 @@ KeepsItemsThere {X} t =
 -- container is of, whatever its text is read as over a source that has the files of its buffers
 abbrev pub KeepsItemsBack : {X : Type 0} → Ghosts X → Type 0
 KeepsItemsBack {X} t =
-    (required : Required) (names : Names) (path : List ℕ) (keep : Bool) (answer : List ℕ)
+    (required : Required) (names : Names) (path : List ℕ) (keep : Keep) (answer : List ℕ)
     (is : IsBundle required names path keep answer) (from : Holds) (other : List ℕ)
     → from (File other) ≡ Some answer
-    → (passing : Required) (stem : List ℕ) (kept drop : Bool) (set : Pieces)
+    → (passing : Required) (stem : List ℕ) (kept : Keep) (drop : Bool) (set : Pieces)
     → IsSplit passing (Held from) other stem kept drop set
     → (there : Holds) → HoldsBuffers there set → (s : Root) (others : List (List ℕ))
     → IsRead (Held there) (string_bytes set.json) s others

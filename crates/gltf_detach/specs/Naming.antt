@@ -16,13 +16,15 @@ buffer_name stem count i = stem ++ (numeral count i ++ codes ".bin")
 abbrev pub image_name : List ℕ → ℕ → List ℕ → List ℕ
 image_name stem i ending = stem ++ (codes "_image" ++ (decimal i ++ ending))
 
--- the ending for a media type
+-- the ending for a media type, of one of six
 abbrev pub ending_for : List ℕ → List ℕ
 ending_for media =
     if bytes_eq media (codes "image/png") then codes ".png"
     else if bytes_eq media (codes "image/jpeg") then codes ".jpg"
     else if bytes_eq media (codes "image/webp") then codes ".webp"
     else if bytes_eq media (codes "image/ktx2") then codes ".ktx2"
+    else if bytes_eq media (codes "image/avif") then codes ".avif"
+    else if bytes_eq media (codes "image/vnd-ms.dds") then codes ".dds"
     else codes ".bin"
 
 -- that of what an image begins as goes before that of what it says

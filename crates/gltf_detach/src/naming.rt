@@ -60,7 +60,7 @@ pub fn ending_of(begun: Option<&str>, own: Option<&str>) -> &'static str
     }
 }
 
-/// The ending for a media type.
+/// The ending for a media type: that of one of six, or `.bin`.
 fn ending_for(media: &str) -> &'static str
     ensures { result.now ≡ ending_for media.now }
 {
@@ -72,6 +72,10 @@ fn ending_for(media: &str) -> &'static str
         ".webp"
     } else if media == "image/ktx2" {
         ".ktx2"
+    } else if media == "image/avif" {
+        ".avif"
+    } else if media == "image/vnd-ms.dds" {
+        ".dds"
     } else {
         ".bin"
     }

@@ -68,12 +68,31 @@ placed p d =
 abbrev pub relocated : List Span → Data → Data
 relocated spans d = unwrap_or (option_map (λ s. placed s.place d) (span_of spans d)) d
 
+-- the extensions of a view that name a buffer as it does
 abbrev pub meshopt : List ℕ
 meshopt = codes "EXT_meshopt_compression"
 
--- the extensions of a view: EXT_meshopt_compression names a buffer as a view does
+abbrev pub khr_meshopt : List ℕ
+khr_meshopt = codes "KHR_meshopt_compression"
+
+-- a member that is null is absent
+abbrev pub unless_null : Data → Option Data
+unless_null null = None
+unless_null (boolean b) = Some (boolean b)
+unless_null (number n) = Some (number n)
+unless_null (string s) = Some (string s)
+unless_null (array ds) = Some (array ds)
+unless_null (object ms) = Some (object ms)
+
+abbrev pub member_at : List ℕ → Data → Option Data
+member_at name d = option_and_then unless_null (get name d)
+
+-- the extensions of a view, with what one of them says in the one buffer
+abbrev pub relocated_at : List ℕ → List Span → Data → Data
+relocated_at name spans d = with_some name (option_map (relocated spans) (member_at name d)) d
+
 abbrev pub relocated_extensions : List Span → Data → Data
-relocated_extensions spans d = with_some meshopt (option_map (relocated spans) (get meshopt d)) d
+relocated_extensions spans d = relocated_at khr_meshopt spans (relocated_at meshopt spans d)
 
 -- a view with its extensions
 abbrev pub moved : List Span → Data → Data
@@ -81,9 +100,14 @@ moved spans d =
     with_some (codes "extensions")
     (option_map (relocated_extensions spans) (get (codes "extensions") d)) (relocated spans d)
 
--- what EXT_meshopt_compression says, where it is there, lies in the buffer that it names
-abbrev pub ExtensionLies : List Span → Data → Type 0
-ExtensionLies spans d = MatchOption (get meshopt d) ⊤ (Lies spans)
+-- what an extension says, where it is there, lies in the buffer that it names
+abbrev pub LiesAt : List ℕ → List Span → Data → Type 0
+LiesAt name spans d = MatchOption (member_at name d) ⊤ (Lies spans)
+
+-- so do both
+pub record ExtensionLies (spans : List Span) (d : Data) : Type 0 where
+  pub first : LiesAt meshopt spans d
+  pub second : LiesAt khr_meshopt spans d
 
 -- a view lies in its buffer, and so does what is compressed of it
 pub record IsPlaced (spans : List Span) (d : Data) : Type 0 where

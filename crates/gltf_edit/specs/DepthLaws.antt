@@ -4,13 +4,14 @@ use Rattle.std.proofs.Common.{Equal, Greater}
 use Rattle.std.proofs.Common.{max, refl, subst, arith, codes}
 use Rattle.std.specs.Cmp.Lexicographic.{slice_cmp}
 use Rattle.std.specs.Ordering.{match_ordering, nat_cmp}
-use Rattle.std.specs.Prelude.{option_map, unwrap_or}
+use Rattle.std.specs.Prelude.{option_map, option_and_then, unwrap_or}
 use Rattle.serde_json.specs.Data.{Data, null, boolean, number, string, array, object, Items}
 use Rattle.serde_json.specs.Data.{no_items, item, Members, no_members, member, put, depth}
 use Rattle.serde_json.specs.Data.{items_depth, members_depth}
 use Rattle.serde_json.specs.Find.{get, get_member}
 use Rattle.gltf_edit.specs.Bundled.{with_member, with_some, placed, whole, relocated, moved}
-use Rattle.gltf_edit.specs.Bundled.{relocated_extensions, meshopt, span_of, mapped, each_item}
+use Rattle.gltf_edit.specs.Bundled.{relocated_extensions, relocated_at, meshopt, khr_meshopt}
+use Rattle.gltf_edit.specs.Bundled.{unless_null, span_of, mapped, each_item}
 use Rattle.gltf_edit.specs.Bundled.{one_buffer, one_of, bundled, views_after}
 use Rattle.gltf_edit.specs.Bundled.{size_or_zero}
 use Rattle.gltf_edit.specs.declared.span.Span.{Span}
@@ -82,10 +83,17 @@ with_changed k f d base n (Some e) is short base_short less =
     let within = get_depth k e d is in
     with_shallow k (f e) base n base_short (less e (omega arith))
 
-relocated_at : (d : Data) (o : Option Span)
+-- f of a member of d in its place, where f nests nothing deeper
+changed : (k : List ℕ) (f : Data → Data) (d e : Data) → get k d ≡ Some e
+    → ((e : Data) → depth (f e) ≤ depth e) → depth (with_some k (Some (f e)) d) ≤ depth d
+changed k f d e there less =
+    with_changed k f d d (depth d) (Some e) there (omega arith) (omega arith)
+    (λ e below. let no_more = less e in omega arith)
+
+span_placed : (d : Data) (o : Option Span)
     → depth (unwrap_or (option_map (λ s. placed s.place d) o) d) ≤ depth d
-relocated_at d None = omega arith
-relocated_at d (Some s) =
+span_placed d None = omega arith
+span_placed d (Some s) =
     let inner = with_member (codes "buffer") (whole 0) d in
     let buffer = with_leaf (codes "buffer") 0 d in
     let at = s.place + size_or_zero (codes "byteOffset") d in
@@ -95,12 +103,28 @@ relocated_at d (Some s) =
 
 module _ (spans : List Span) where
   relocated_depth : (d : Data) → depth (relocated spans d) ≤ depth d
-  relocated_depth d = relocated_at d (span_of spans d)
+  relocated_depth d = span_placed d (span_of spans d)
+
+  -- a member that is not null is the member
+  not_null : (o : Option Data) (f : Data → Data) (k : List ℕ) (d : Data) → get k d ≡ o
+      → ((e : Data) → depth (f e) ≤ depth e)
+      → depth (with_some k (option_map f (option_and_then unless_null o)) d) ≤ depth d
+  not_null None f k d there less = omega arith
+  not_null (Some null) f k d there less = omega arith
+  not_null (Some (boolean b)) f k d there less = changed k f d (boolean b) there less
+  not_null (Some (number n)) f k d there less = changed k f d (number n) there less
+  not_null (Some (string s)) f k d there less = changed k f d (string s) there less
+  not_null (Some (array ds)) f k d there less = changed k f d (array ds) there less
+  not_null (Some (object ms)) f k d there less = changed k f d (object ms) there less
+
+  at_depth : (k : List ℕ) (d : Data) → depth (relocated_at k spans d) ≤ depth d
+  at_depth k d = not_null (get k d) (relocated spans) k d refl relocated_depth
 
   extensions_depth : (d : Data) → depth (relocated_extensions spans d) ≤ depth d
   extensions_depth d =
-      with_changed meshopt (relocated spans) d d (depth d) (get meshopt d) refl (omega arith)
-      (omega arith) (λ e less. let no_more = relocated_depth e in omega arith)
+      let once = at_depth meshopt d in
+      let twice = at_depth khr_meshopt (relocated_at meshopt spans d) in
+      omega arith
 
   moved_depth : (d : Data) → depth (moved spans d) ≤ depth d
   moved_depth d =

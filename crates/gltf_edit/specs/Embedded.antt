@@ -1,12 +1,14 @@
 -- The JSON value of a document whose images go into buffers of their own (glTF 2.0, sections 3.8.3,
 -- 5.10, 5.11 and 5.18).
-use Rattle.std.specs.Prelude.{◌+◌, ℕ, List, [], ◌∷◌, Option, Some, None, codes, bytes_eq}
+use Rattle.std.specs.Prelude.{◌+◌, ℕ, List, [], ◌∷◌, Option, Some, None, Bool, codes, bytes_eq}
+use Rattle.std.specs.Prelude.{◌&&◌}
+use Rattle.std.specs.Option.{is_some}
 use Rattle.std.specs.Prelude.{option_map, option_and_then, unwrap_or, string_bytes, if◌then◌else◌}
 use Rattle.serde_json.specs.Data.{Data, null, boolean, number, string, array, object}
 use Rattle.serde_json.specs.Data.{Items, no_items, item, Members, no_members, member}
 use Rattle.serde_json.specs.Events.{items_len}
-use Rattle.serde_json.specs.Find.{get, as_array}
-use Rattle.gltf_edit.specs.Bundled.{with_member, with_some, whole}
+use Rattle.serde_json.specs.Find.{get, as_array, as_str}
+use Rattle.gltf_edit.specs.Bundled.{with_member, with_some, whole, size_at}
 use Rattle.gltf_edit.specs.declared.picture.Picture.{Picture}
 
 -- ---- words for edits
@@ -70,9 +72,33 @@ with_picture n p d =
     with_member (codes "mimeType") (string (string_bytes p.media))
     (with_member (codes "bufferView") (whole n) (without_member (codes "uri") d))
 
--- an image that has no picture stays as it is
+-- a member that is a text
+abbrev pub text_at : List ℕ → Data → Option (List ℕ)
+text_at name d = option_and_then as_str (get name d)
+
+-- the URI of an image that names this view, or none
+abbrev pub own_uri_at : Option ℕ → Option (List ℕ) → Option (List ℕ)
+own_uri_at None uri = uri
+own_uri_at (Some n) uri = None
+
+-- the URI by which an image is read, where it names no view (glTF 2.0, section 3.8.3, forbids both)
+abbrev pub own_uri : Data → Option (List ℕ)
+own_uri d = own_uri_at (size_at (codes "bufferView") d) (text_at (codes "uri") d)
+
+-- an image has a URI beside the view that it names
+abbrev pub has_both : Data → Bool
+has_both d = is_some (text_at (codes "uri") d) && is_some (size_at (codes "bufferView") d)
+
+-- an image that names a view is what this holds: it has no URI beside it
+abbrev pub sole_if : Bool → Data → Data
+sole_if both d = if both then without_member (codes "uri") d else d
+
+abbrev pub sole : Data → Data
+sole d = sole_if (has_both d) d
+
+-- an image that has no picture stays as it is, but for that
 abbrev pub shown : ℕ → Option Picture → Data → Data
-shown n None d = d
+shown n None d = sole d
 shown n (Some p) d = with_picture n p d
 
 abbrev pub seats : Option Picture → ℕ
@@ -112,8 +138,8 @@ images_after [] d = None
 images_after (p ∷ ps) d =
     option_map (pictured_in (count_at (codes "bufferViews") d) (p ∷ ps)) (get (codes "images") d)
 
--- a buffer and a view for each picture, behind those that are there, and the images in these; all
--- else stays as it is
+-- a buffer and a view for each picture, behind those that are there, and the images in these; those
+-- without a picture have no URI beside a view; all else stays as it is
 abbrev pub embedded : List (Option Picture) → Data → Data
 embedded ps d =
     with_some (codes "images") (images_after ps d)

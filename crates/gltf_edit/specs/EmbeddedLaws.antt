@@ -7,18 +7,20 @@ use Rattle.std.proofs.lemmas.Slice.Eq.{bytes_eq-Decides}
 use Rattle.std.proofs.lemmas.Map.Text.{is_eq-slice_cmp}
 use Rattle.std.specs.Cmp.Lexicographic.{slice_cmp}
 use Rattle.std.specs.Ordering.{match_ordering, nat_cmp}
-use Rattle.std.specs.Prelude.{IsSome, option_and_then, unwrap_or}
+use Rattle.std.specs.Prelude.{IsSome, option_and_then, unwrap_or, ◌&&◌}
+use Rattle.std.specs.Option.{is_some}
 use Rattle.serde_json.specs.Data.{Data, null, boolean, number, string, array, object, Items}
 use Rattle.serde_json.specs.Data.{no_items, item, Members, no_members, member, depth}
 use Rattle.serde_json.specs.Data.{items_depth, members_depth}
 use Rattle.serde_json.specs.Events.{items_len}
-use Rattle.serde_json.specs.Find.{get, get_member, as_object, as_array}
-use Rattle.gltf_edit.specs.Bundled.{with_member, with_some, whole}
+use Rattle.serde_json.specs.Find.{get, get_member, as_object, as_array, as_str}
+use Rattle.gltf_edit.specs.Bundled.{with_member, with_some, whole, size_at}
 use Rattle.gltf_edit.specs.BundledLaws.{differ, get_with, get_with_other, get_with_some_other}
 use Rattle.gltf_edit.specs.BundledLaws.{object_with_some}
 use Rattle.gltf_edit.specs.DepthLaws.{with_shallow, with_leaf, get_depth}
 use Rattle.gltf_edit.specs.Embedded.{without, without_member, with_items, items_at, list_after}
 use Rattle.gltf_edit.specs.Embedded.{buffers_of, views_of, with_picture, shown}
+use Rattle.gltf_edit.specs.Embedded.{text_at, has_both, sole_if, sole, own_uri_at, own_uri}
 use Rattle.gltf_edit.specs.Embedded.{first, rest, seats, pictured, pictured_in, count_at}
 use Rattle.gltf_edit.specs.Embedded.{images_after, embedded}
 use Rattle.gltf_edit.specs.declared.picture.Picture.{Picture}
@@ -98,6 +100,36 @@ no_uri n p d =
     ∙ get_with_other (codes "uri") (codes "bufferView") (whole n) (without_member (codes "uri") d)
     (differ _ _ refl)
     ∙ get_without (codes "uri") d
+
+-- ---- an image without a picture
+
+-- an image that is not read by a URI has none
+pub sole_no_uri : (d : Data) → own_uri d ≡ None → text_at (codes "uri") (sole d) ≡ None
+sole_no_uri d none =
+    by_cases (size_at (codes "bufferView") d) (text_at (codes "uri") d) refl refl none where
+      by_cases : (view : Option ℕ) (uri : Option (List ℕ)) → size_at (codes "bufferView") d ≡ view
+          → text_at (codes "uri") d ≡ uri → own_uri_at view uri ≡ None
+          → text_at (codes "uri") (sole_if (is_some uri && is_some view) d) ≡ None
+      by_cases None None names has none = has
+      by_cases None (Some u) names has none = cc
+      by_cases (Some n) None names has none = has
+      by_cases (Some n) (Some u) names has none =
+          ap (option_and_then as_str) (get_without (codes "uri") d)
+
+-- an image without a URI is not read by one
+pub no_own_uri : (d : Data) → text_at (codes "uri") d ≡ None → own_uri d ≡ None
+no_own_uri d none =
+    ap (own_uri_at (size_at (codes "bufferView") d)) none
+    ∙ none_at (size_at (codes "bufferView") d) where
+      none_at : (view : Option ℕ) → own_uri_at view None ≡ None
+      none_at None = refl
+      none_at (Some n) = refl
+
+-- and stays as it is
+pub sole_same : (d : Data) → text_at (codes "uri") d ≡ None → sole d ≡ d
+sole_same d none =
+    ap (λ (o : Option (List ℕ)).
+    sole_if (is_some o && is_some (size_at (codes "bufferView") d)) d) none
 
 -- ---- items
 
@@ -246,8 +278,12 @@ with_text k s (array ds) = omega arith
 with_text k s (object ms) =
     with_shallow k (string s) (object ms) (depth (object ms)) (omega arith) (omega arith)
 
+sole_depth : (both : Bool) (d : Data) → depth (sole_if both d) ≤ depth d
+sole_depth true d = without_depth (codes "uri") d
+sole_depth false d = omega arith
+
 shown_depth : (n : ℕ) (o : Option Picture) (d : Data) → depth (shown n o d) ≤ depth d
-shown_depth n None d = omega arith
+shown_depth n None d = sole_depth (has_both d) d
 shown_depth n (Some p) d =
     let bare = without_member (codes "uri") d in
     let view = with_member (codes "bufferView") (whole n) bare in

@@ -1,7 +1,8 @@
 //! The JSON value of a document whose buffers become one.
-ghost use Rattle.std.specs.Prelude.{◌≡◌, IfOk, OnOk, IfErr, MatchOption};
+ghost use Rattle.std.specs.Prelude.{◌≡◌, IfOk, OnOk, IfErr, MatchOption, option_map};
 ghost use Rattle.serde_json.specs.View.{view};
 ghost use Rattle.gltf_edit.specs.Bundled.{bundled, moved, relocated, relocated_extensions};
+ghost use Rattle.gltf_edit.specs.Bundled.{relocated_at, member_at, LiesAt};
 ghost use Rattle.gltf_edit.specs.Bundled.{one_buffer, each_item, span_of};
 ghost use Rattle.gltf_edit.specs.Bundled.{Lies, ExtensionLies, IsPlaced, EachPlaced, ArePlaced};
 ghost use Rattle.gltf_edit.specs.Faults.{NamesStray, NamesStrayOf};
@@ -17,8 +18,8 @@ use std::alloc::{AllocError, Global};
 ///
 /// The list of buffers becomes one without a URI; it stays where it is empty or absent. Each view
 /// names that buffer, at its offset after the place of its own; so does what
-/// `EXT_meshopt_compression` says of it. All else stays as it is. The names and extras of the
-/// buffers are not kept.
+/// `EXT_meshopt_compression` and `KHR_meshopt_compression` say of it, where it is not null. All
+/// else stays as it is. The names and extras of the buffers are not kept.
 ///
 /// [`Fault::Outside`] names a view that does not lie in its buffer, the first.
 pub fn bundled(alloc: Global, document: Value, spans: &[Span], total: u32) -> Result<Value, Fault>
@@ -98,23 +99,48 @@ fn relocated_extensions(
     extensions: &Value,
     spans: &[Span],
 ) -> Result<Option<Value>, AllocError>
-    ensures { IfOk result (λ o. MatchOption o (ExtensionLies spans.now (view extensions.now) → ⊥)
+    ensures { IfOk result (λ o. MatchOption o
+        (ExtensionLies spans.now (view extensions.now) → ⊥)
         (λ v. (view v ≡ relocated_extensions spans.now (view extensions.now))
         × ExtensionLies spans.now (view extensions.now))) }
 {
-    let Some(compressed) = extensions.get("EXT_meshopt_compression") else {
+    let Some(once) = relocated_at(alloc, extensions, "EXT_meshopt_compression", spans)? else {
+        return Ok(None);
+    };
+    relocated_at(alloc, &once, "KHR_meshopt_compression", spans)
+}
+
+/// The extensions of a view, with what one of them says in the one buffer. None where this does not
+/// lie in its buffer.
+fn relocated_at(
+    alloc: Global,
+    extensions: &Value,
+    name: &str,
+    spans: &[Span],
+) -> Result<Option<Value>, AllocError>
+    ensures { IfOk result (λ o. MatchOption o
+        (LiesAt name.now spans.now (view extensions.now) → ⊥)
+        (λ v. (view v ≡ relocated_at name.now spans.now (view extensions.now))
+        × LiesAt name.now spans.now (view extensions.now))) }
+{
+    let Some(said) = member_at(extensions, name) else {
         return Ok(Some(extensions.clone()?));
     };
-    let Some(compressed) = relocated(alloc, compressed, spans)? else {
+    let Some(said) = relocated(alloc, said, spans)? else {
         return Ok(None);
     };
     let extensions = extensions.clone()?;
-    Ok(Some(with_some(
-        alloc,
-        extensions,
-        "EXT_meshopt_compression",
-        Some(compressed),
-    )?))
+    Ok(Some(with_some(alloc, extensions, name, Some(said))?))
+}
+
+/// A member that is there, and not null.
+fn member_at<'a>(value: &'a Value, name: &str) -> Option<&'a Value>
+    ensures { option_map (λ v. view v.now) result ≡ member_at name.now (view value.now) }
+{
+    match value.get(name) {
+        Some(Value::Null) => None,
+        member => member,
+    }
 }
 
 /// What names a buffer as a view does, in the one buffer. None where it does not lie in its buffer.

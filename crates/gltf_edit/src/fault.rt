@@ -7,8 +7,8 @@ use std::alloc::{AllocError, AllocFailed};
 /// Why a document was not edited.
 #[derive(Clone, Copy, Debug, Drop, PartialEq, Eq)]
 pub enum Fault {
-    /// The view at this index, or what `EXT_meshopt_compression` says of it, does not lie in its
-    /// buffer.
+    /// The view at this index, or what `EXT_meshopt_compression` or `KHR_meshopt_compression` says
+    /// of it, does not lie in its buffer.
     Outside(usize),
     /// The one buffer would have more than 4294967295 bytes.
     TooLong,

@@ -6,9 +6,9 @@ ghost use Rattle.serde_json.specs.Events.{items_len};
 ghost use Rattle.gltf_edit.specs.Embedded.{embedded, images_after, list_after, items_at};
 ghost use Rattle.gltf_edit.specs.Embedded.{with_items};
 ghost use Rattle.gltf_edit.specs.Embedded.{buffers_of, views_of, sized, view_on, pictured_in};
-ghost use Rattle.gltf_edit.specs.Embedded.{first, shown, with_picture, seats};
+ghost use Rattle.gltf_edit.specs.Embedded.{first, shown, with_picture, seats, sole, has_both};
 
-use crate::members::{with_member, with_some, without_member};
+use crate::members::{size_at, with_member, with_some, without_member};
 use crate::picture::Picture;
 use serde_json::{Map, Value, put};
 use std::alloc::{AllocError, Global};
@@ -17,7 +17,8 @@ use std::alloc::{AllocError, Global};
 /// buffer and a view of its own (glTF 2.0, sections 3.8.3, 5.10, 5.11 and 5.18).
 ///
 /// These stand behind the document's own, in the order of the images. Such an image has no URI any
-/// more: it names its view, with its media type. All else stays as it is.
+/// more: it names its view, with its media type. Where there are pictures, an image that has none
+/// and names a view has no URI beside it: it is what the view holds. All else stays as it is.
 pub fn embedded(
     alloc: Global,
     document: Value,
@@ -48,7 +49,8 @@ fn items_len_at(document: &Value, name: &str) -> usize
 
 /// A copy of the elements of a list.
 fn items_at(alloc: Global, document: &Value, name: &str) -> Result<Vec<Value>, AllocError>
-    ensures { IfOk result (λ list. items_view list.items ≡ items_at name.now (view document.now)) }
+    ensures { IfOk result (λ list. items_view list.items
+        ≡ items_at name.now (view document.now)) }
 {
     let Some(list) = document.get(name) else {
         return Ok(Vec::new(alloc));
@@ -174,7 +176,8 @@ fn images_after(
     document: &Value,
     pictures: &[Option<Picture>],
 ) -> Result<Option<Value>, AllocError>
-    ensures { IfOk result (λ o. option_map view o ≡ images_after pictures.now (view document.now)) }
+    ensures { IfOk result (λ o. option_map view o
+        ≡ images_after pictures.now (view document.now)) }
 {
     if pictures.is_empty() {
         return Ok(None);
@@ -241,8 +244,26 @@ fn shown(
 {
     match picture {
         Some(picture) => with_picture(alloc, image, index, picture),
-        None => image.clone(),
+        None => Ok(sole(image.clone()?)),
     }
+}
+
+/// An image that names a view, without a URI beside it: it is what the view holds.
+fn sole(image: Value) -> Value
+    ensures { view result ≡ sole (view image) }
+{
+    if has_both(&image) {
+        without_member(image, "uri")
+    } else {
+        image
+    }
+}
+
+/// Whether an image has a URI beside the view that it names.
+fn has_both(image: &Value) -> bool
+    ensures { result ≡ has_both (view image.now) }
+{
+    image.get("uri").and_then(Value::as_str).is_some() && size_at(image, "bufferView").is_some()
 }
 
 /// An image whose bytes are in a view.

@@ -2,7 +2,6 @@
 //! become one, and its views follow (glTF 2.0, sections 3.6.1, 3.8.3, 5.10, 5.11 and 5.18).
 #![tactic(auto)]
 
-mod bytes;
 mod documents;
 mod fault;
 mod images;
@@ -10,7 +9,6 @@ mod members;
 mod picture;
 mod span;
 
-pub use bytes::append;
 pub use documents::bundled;
 pub use fault::Fault;
 pub use images::embedded;

@@ -2,11 +2,12 @@
 use crate::written::{write_fault, write_found};
 use gltf::Document;
 use gltf_extensions::{
-    anisotropy, basisu, clearcoat, diffuse_transmission, dispersion, iridescence,
-    mesh_gpu_instancing, meshopt_compression, node_visibility, sheen, webp, xmp_packet,
-    xmp_packets,
+    animation_pointer, anisotropy, basisu, clearcoat, diffuse_transmission, dispersion,
+    iridescence, mesh_gpu_instancing, meshopt_compression, node_visibility,
+    normal_texture_transform, occlusion_texture_transform, sheen, webp, xmp_packet, xmp_packets,
 };
 use gltf_guide::extensions::wetness_of;
+use serde_json::Value;
 use std::alloc::{AllocError, Global};
 
 /// Writes what a call gives of the first material, texture, node, view or scene.
@@ -52,6 +53,16 @@ fn of_material(
         "diffuse_transmission" => {
             write_found(alloc, diffuse_transmission(alloc, material), line)
         }
+        "normal_transform" => match material.normal_texture() {
+            Some(normal) => write_found(alloc, normal_texture_transform(alloc, &normal), line),
+            None => line.push_str("no texture"),
+        },
+        "occlusion_transform" => match material.occlusion_texture() {
+            Some(occlusion) => {
+                write_found(alloc, occlusion_texture_transform(alloc, &occlusion), line)
+            }
+            None => line.push_str("no texture"),
+        },
         _ => line.push_str("no call"),
     }
 }
@@ -66,6 +77,22 @@ fn of_node(
         "visibility" => write_found(alloc, node_visibility(alloc, node), line),
         "instancing" => write_found(alloc, mesh_gpu_instancing(alloc, node), line),
         _ => line.push_str("no call"),
+    }
+}
+
+/// Writes what the channel with this target changes.
+pub(crate) fn write_pointer(
+    alloc: Global,
+    text: &str,
+    line: &mut String,
+) -> Result<(), AllocError> {
+    let Ok(target) = Value::from_slice(alloc, text.as_bytes()) else {
+        return line.push_str("no JSON");
+    };
+    match animation_pointer(alloc, &target) {
+        Some(Ok(pointer)) => write!(line, "{pointer:?}"),
+        Some(Err(fault)) => write_fault(alloc, &fault, line),
+        None => line.push_str("none"),
     }
 }
 

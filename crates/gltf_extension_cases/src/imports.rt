@@ -7,7 +7,8 @@ use gltf_extensions::supported;
 use gltf_items::Item;
 use gltf_options::{Options, import_slice_with};
 use gltf_quantization::{
-    Integers, Quantized, read_normals, read_positions, read_tangents, read_tex_coords,
+    Integers, Quantized, QuantizedAttribute, read_normals, read_positions, read_tangents,
+    read_tex_coords, read_vec3s,
 };
 use std::alloc::{AllocError, Global};
 use std::fmt::Debug;
@@ -57,6 +58,17 @@ fn write_integers(
         "normals" => write_read(read_normals(&primitive, &given), line),
         "tangents" => write_read(read_tangents(&primitive, &given), line),
         "tex_coords" => write_read(read_tex_coords(&primitive, 0, &given), line),
+        "displacements" => match primitive
+            .morph_targets()
+            .nth(0)
+            .and_then(|it| it.positions())
+        {
+            Some(accessor) => {
+                let attribute = QuantizedAttribute::PositionDisplacement;
+                write_read(read_vec3s(attribute, accessor, &given), line)
+            }
+            None => line.push_str("no target"),
+        },
         _ => line.push_str("no call"),
     }
 }

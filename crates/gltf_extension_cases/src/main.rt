@@ -53,13 +53,17 @@ fn answer(rt: &HostRuntime, case: &str, line: &mut String) -> Result<(), Error> 
         instances::write(alloc, text, line)?;
         return Ok(());
     }
+    if call == "pointer" {
+        calls::write_pointer(alloc, text, line)?;
+        return Ok(());
+    }
     if call == "mended" {
         mended::write(alloc, text, line)?;
         return Ok(());
     }
     if matches!(
         call,
-        "import" | "plain" | "positions" | "normals" | "tangents" | "tex_coords"
+        "import" | "plain" | "positions" | "normals" | "tangents" | "tex_coords" | "displacements"
     ) {
         imports::write(alloc, call, text, line)?;
         return Ok(());

@@ -190,6 +190,71 @@ def other_cases():
     yield "packet", of_scene(two, {}), "/packet: missing member"
     yield "packet", of_scene(two, {"packet": "0"}), "/packet: wrong kind"
     yield "packet", document(scenes=[{}]), "none"
+    for packets in (5, "1", {}, True):
+        yield "packet", of_scene({"packets": packets}, {"packet": 0}), (
+            "/packet: Index out of bounds;")
+    yield "packet", of_scene([], {"packet": 0}), "/packet: Index out of bounds;"
+
+
+def transform(offset=(0, 0), rotation=0, scale=(1, 1), coord=None):
+    return record("TextureTransform", offset=numbers(offset), rotation=number(rotation),
+                  scale=numbers(scale), tex_coord=some(coord))
+
+
+TRANSFORMS = [
+    # KHR_texture_transform: a value, and what it means or the fault in it
+    ({"offset": [0.5, 0.25], "rotation": 1.5, "scale": [2, 3], "texCoord": 4},
+     transform((0.5, 0.25), 1.5, (2, 3), 4)),
+    ({}, transform()),
+    ({"offset": None, "rotation": None, "scale": None, "texCoord": None}, transform()),
+    ({"scale": [0, -1]}, transform(scale=(0, -1))),
+    ({"offset": [1]}, "/offset: wrong kind"),
+    ({"offset": [0, "0"]}, "/offset: wrong kind"),
+    ({"rotation": [0]}, "/rotation: wrong kind"),
+    ({"scale": 2}, "/scale: wrong kind"),
+    ({"texCoord": -1}, "/texCoord: wrong kind"),
+    ({"texCoord": 0.5}, "/texCoord: wrong kind"),
+    ([], ": wrong kind"),
+]
+
+
+def transform_cases():
+    name = "KHR_texture_transform"
+    for call, texture in (("normal_transform", "normalTexture"),
+                          ("occlusion_transform", "occlusionTexture")):
+        def of_use(**members):
+            return document(materials=[{texture: {"index": 0, **members}}], **IMAGES)
+        for value, answer in TRANSFORMS:
+            yield call, of_use(extensions={name: value}), answer
+        yield call, of_use(extensions={"X": {}}), "none"
+        yield call, of_use(), "none"
+        yield call, document(materials=[{}]), "no texture"
+    for value, answer in TRANSFORMS:
+        used = {"index": 0, "extensions": {name: value}}
+        place = f"/anisotropyTexture/extensions/{name}"
+        is_fault = not answer.startswith("TextureTransform")
+        yield "anisotropy", of_material("KHR_materials_anisotropy", {"anisotropyTexture": used}), (
+            place + answer if is_fault else record(
+                "Anisotropy", anisotropy_strength=number(0), anisotropy_rotation=number(0),
+                anisotropy_texture=some(info(0, 0, record(
+                    "TextureInfoExtensions", texture_transform=some(answer))))))
+
+
+def pointer_cases():
+    name = "KHR_animation_pointer"
+
+    def target(value):
+        return json.dumps({"path": "pointer", "extensions": {name: value}})
+    yield "pointer", target({"pointer": "/nodes/0/rotation"}), (
+        'AnimationPointer { pointer: "/nodes/0/rotation" }')
+    yield "pointer", target({"pointer": ""}), 'AnimationPointer { pointer: "" }'
+    yield "pointer", target({"pointer": 5}), "/pointer: wrong kind"
+    yield "pointer", target({"pointer": None}), "/pointer: missing member"
+    yield "pointer", target({}), "/pointer: missing member"
+    yield "pointer", target("/nodes/0"), ": wrong kind"
+    yield "pointer", target(None), "none"
+    yield "pointer", json.dumps({"path": "rotation", "node": 0}), "none"
+    yield "pointer", json.dumps({"extensions": {"X": {}}}), "none"
 
 
 def own_cases():
@@ -207,4 +272,4 @@ def own_cases():
 
 
 ROWS = [(f"{call} {text}", answer) for call, text, answer in (
-    *material_cases(), *other_cases(), *own_cases())]
+    *material_cases(), *other_cases(), *transform_cases(), *pointer_cases(), *own_cases())]

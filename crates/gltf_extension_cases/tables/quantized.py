@@ -1,7 +1,8 @@
 """Which types KHR_mesh_quantization adds to which attributes, out of all that there are, and attributes
-that are read as integers. And files that require extensions."""
+that are read as integers. And files that require extensions, one of them as gltfpack makes it (pack.py)."""
 import base64
 import json
+import pathlib
 import struct
 
 # KHR_mesh_quantization, "Extending Mesh Attributes" and "Extending Morph Target Attributes": the
@@ -96,3 +97,44 @@ ROWS += [
     (quantized("tangents", "I8", True, ITEMS["I8"], 3), "none"),
     (quantized("tex_coords", "F32", False, [(0.5, 1)]), "none"),
 ]
+
+
+def displaced(type_, normalized, items):
+    """A file whose first primitive has a morph target with these displacements of positions."""
+    call, text_of = quantized("positions", type_, normalized, items).split(" ", 1)
+    value = json.loads(text_of)
+    value["meshes"] = [{"primitives": [{"attributes": {}, "targets": [{"POSITION": 0}]}]}]
+    return "displacements " + json.dumps(value, separators=(",", ":"))
+
+
+for type_, items in ITEMS.items():
+    for normalized in (False, True):
+        flag = str(normalized).lower()
+        answer = "none"
+        if f"{type_} {flag}" in SIGNED:
+            answer = f"{flag} {type_}" + "".join(f" {list(item[:3])}" for item in items)
+        ROWS.append((displaced(type_, normalized, items), answer))
+
+
+PACKED = json.loads((pathlib.Path(__file__).parent / "packed.gltf").read_text("utf-8"))
+LETTERS = {code: (name, letter) for name, (code, letter) in TYPES.items()}
+
+
+def unpacked(accessor):
+    """What is read of an accessor of that file, by the standard alone."""
+    one = PACKED["accessors"][accessor]
+    view = PACKED["bufferViews"][one["bufferView"]]
+    held = base64.b64decode(PACKED["buffers"][view["buffer"]]["uri"].partition(",")[2])
+    name, letter = LETTERS[one["componentType"]]
+    size, start = int(one["type"][-1]), one.get("byteOffset", 0) + view.get("byteOffset", 0)
+    items = (list(struct.unpack_from(f"<{size}{letter}", held, start + i * view["byteStride"]))
+             for i in range(one["count"]))
+    return f"{str(one.get('normalized', False)).lower()} {name}" + "".join(
+        f" {item}" for item in items)
+
+
+ATTRIBUTES_OF_BOX = PACKED["meshes"][0]["primitives"][0]["attributes"]
+ROWS += [(f"{call} " + json.dumps(PACKED, separators=(",", ":")),
+          unpacked(ATTRIBUTES_OF_BOX[attribute]))
+         for call, (attribute, _) in ATTRIBUTES.items()
+         if attribute in ATTRIBUTES_OF_BOX and attribute != "TEXCOORD_0"]

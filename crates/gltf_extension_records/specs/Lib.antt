@@ -1,3 +1,4 @@
+pub mod Defaults
 pub mod Numbers
 pub mod Textures
 pub mod Materials

@@ -60,7 +60,8 @@ abbrev mutual
 
 -- this step leads to what a view says is compressed of it
 abbrev pub is_compression_step : Part → Bool
-is_compression_step s = is_name (codes "EXT_meshopt_compression") s
+is_compression_step s =
+    is_name (codes "EXT_meshopt_compression") s || is_name (codes "KHR_meshopt_compression") s
 
 abbrev pub is_said : Part → Part → Bool
 is_said b m = is_name (codes "buffer") b && is_compression_step m

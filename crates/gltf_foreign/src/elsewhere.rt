@@ -12,8 +12,8 @@ use std::alloc::{AllocError, Global};
 
 /// The members `buffer`, `buffers`, `uri` and `uris` that stand in the object of an extension, at
 /// any depth of a document, with their places, in the order of the document. A member that is null
-/// is absent. Not among them is the member `buffer` of what `EXT_meshopt_compression` says of a
-/// view, which a conversion moves.
+/// is absent. Not among them is the member `buffer` of what `EXT_meshopt_compression` or
+/// `KHR_meshopt_compression` says of a view, which a conversion moves.
 pub fn named_elsewhere(alloc: Global, document: &Value) -> Result<Vec<Place>, AllocError>
     ensures { IfOk result (λ all. places_view all.items
         ≡ named_elsewhere (view document.now)) }
@@ -59,5 +59,5 @@ fn is_of_view(extensions: &Step, view: &Step, views: &Step) -> bool
 fn is_compression(step: &Step) -> bool
     ensures { result ≡ is_compression_step (step_view step.now) }
 {
-    is_name(step, "EXT_meshopt_compression")
+    is_name(step, "EXT_meshopt_compression") || is_name(step, "KHR_meshopt_compression")
 }

@@ -2,7 +2,8 @@
 -- (glTF 2.0, section 3.8.3).
 use Rattle.std.specs.Prelude.{◌≡◌, ◌≤◌, ◌+◌, ℕ, zero, suc, List, [], ◌∷◌, ◌++◌, length, take, drop}
 use Rattle.std.specs.Prelude.{Option, Some, None, option_map, slice_get, string_bytes, codes}
-use Rattle.std.specs.Prelude.{option_and_then}
+use Rattle.std.specs.Prelude.{option_and_then, String}
+use Rattle.std.specs.declared.alloc.Global.{Global}
 use Rattle.serde_json.specs.Data.{Data}
 use Rattle.serde_json.specs.Find.{get_item}
 use Rattle.gltf_json.specs.declared.root.Root.{Root}
@@ -51,16 +52,27 @@ ShowsImages =
 abbrev pub picture_at : ℕ → List (Option Picture) → Option Picture
 picture_at i ps = option_and_then (λ p. p) (slice_get ps i)
 
--- there is an image that shows what x shows, and names the same view
-pub record StaysImage (x : Image) (after : Option Image) : Type 0 where
+-- the URI of an image that names this view, or none
+abbrev pub own_uri : Option ℕ → Option (String Global) → Option (String Global)
+own_uri None uri = uri
+own_uri (Some view) uri = None
+
+-- what an image without a picture becomes: where there are pictures, one that names a view has no
+-- URI beside it
+abbrev pub left : List (Option Picture) → Image → Image
+left [] x = x
+left (p ∷ ps) x = record x { uri = own_uri x.buffer_view x.uri }
+
+-- there is an image that shows what x shows, and names the same view, where these are the pictures
+pub record StaysImage (ps : List (Option Picture)) (x : Image) (after : Option Image) : Type 0 where
   pub image_ : Image
   pub there : after ≡ Some image_
-  pub shows : image.content image_ ≡ image.content x
+  pub shows : image.content image_ ≡ image.content (left ps x)
   pub view : image_.buffer_view ≡ x.buffer_view
 
--- each image that has no picture shows what it showed
+-- each image that has no picture shows what it showed, but for a URI beside a view
 abbrev pub KeepsImages : Type 0
 KeepsImages =
     (buffers images : List (List ℕ)) (r s : Root) (m : IsMoved buffers images r s)
     (i : ℕ) (x : Image) → slice_get r.images.items i ≡ Some x → picture_at i m.pictures ≡ None
-    → StaysImage x (slice_get s.images.items i)
+    → StaysImage m.pictures x (slice_get s.images.items i)

@@ -32,7 +32,8 @@ pub fn views_are_kept()
 }
 
 /// Each image that did not go into a buffer of its own shows what it showed, and names the same
-/// view, which has the same bytes ([`views_are_kept`]).
+/// view, which has the same bytes ([`views_are_kept`]). Where there are pictures, one that names a
+/// view has no URI beside it.
 pub fn images_stay()
     ensures { KeepsImages }
 {}

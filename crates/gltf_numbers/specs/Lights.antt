@@ -7,12 +7,6 @@ use Rattle.gltf_json_scene.specs.declared.extensions.scene.khr_lights_punctual.L
 use Rattle.gltf_look.specs.declared.khr_lights_punctual.Kind.{Kind as KindHandle}
 use Rattle.gltf_look.specs.declared.khr_lights_punctual.Kind.TheVariants as handles
 use Rattle.gltf_numbers.specs.Numbers.{given, number_if, number_or, numbers_or}
-use Rattle.gltf_numbers.specs.declared.defaults.TheConstants.{
-  INNER_CONE_ANGLE,
-  LIGHT_COLOR,
-  LIGHT_INTENSITY,
-  OUTER_CONE_ANGLE,
-}
 use Rattle.gltf_numbers.specs.declared.khr_lights_punctual.Light.{Light}
 use Rattle.gltf_numbers.specs.declared.khr_lights_punctual.Kind.{Kind}
 use Rattle.gltf_numbers.specs.declared.khr_lights_punctual.Kind.TheVariants.{
@@ -20,12 +14,14 @@ use Rattle.gltf_numbers.specs.declared.khr_lights_punctual.Kind.TheVariants.{
   Point,
   Spot,
 }
+use Rattle.gltf_numbers.specs.Defaults.{default_inner_cone_angle, default_light_color}
+use Rattle.gltf_numbers.specs.Defaults.{default_light_intensity, default_outer_cone_angle}
 
 -- of a light, which may have no range ("Light Shared Properties")
 abbrev pub light_numbers : LightRecord → Option Light
 light_numbers l =
-    given (numbers_or 3 LIGHT_COLOR l.color) (λ color.
-    given (number_or LIGHT_INTENSITY l.intensity) (λ intensity.
+    given (numbers_or 3 default_light_color l.color) (λ color.
+    given (number_or default_light_intensity l.intensity) (λ intensity.
     given (number_if l.range) (λ range.
     Some (record { color = color; intensity = intensity; range = range }))))
 
@@ -34,6 +30,6 @@ abbrev pub kind_numbers : KindHandle → Option Kind
 kind_numbers handles.Directional = Some Directional
 kind_numbers handles.Point = Some Point
 kind_numbers (handles.Spot inner outer) =
-    given (number_or INNER_CONE_ANGLE (option_copied inner)) (λ i.
-    given (number_or OUTER_CONE_ANGLE (option_copied outer)) (λ o.
+    given (number_or default_inner_cone_angle (option_copied inner)) (λ i.
+    given (number_or default_outer_cone_angle (option_copied outer)) (λ o.
     Some (Spot i o)))

@@ -4,16 +4,13 @@ use Rattle.gltf_json_material.specs.declared.extensions.texture.TextureTransform
   TextureTransform as TransformRecord,
 }
 use Rattle.gltf_numbers.specs.Numbers.{given, number_or, numbers_or}
-use Rattle.gltf_numbers.specs.declared.defaults.TheConstants.{
-  TEXTURE_OFFSET,
-  TEXTURE_ROTATION,
-  TEXTURE_SCALE,
-}
 use Rattle.gltf_numbers.specs.declared.texture.TextureTransform.{TextureTransform}
+use Rattle.gltf_numbers.specs.Defaults.{default_texture_offset, default_texture_rotation}
+use Rattle.gltf_numbers.specs.Defaults.{default_texture_scale}
 
 abbrev pub transform_numbers : TransformRecord → Option TextureTransform
 transform_numbers t =
-    given (numbers_or 2 TEXTURE_OFFSET t.offset) (λ offset.
-    given (number_or TEXTURE_ROTATION t.rotation) (λ rotation.
-    given (numbers_or 2 TEXTURE_SCALE t.scale) (λ scale.
+    given (numbers_or 2 default_texture_offset t.offset) (λ offset.
+    given (number_or default_texture_rotation t.rotation) (λ rotation.
+    given (numbers_or 2 default_texture_scale t.scale) (λ scale.
     Some (record { offset = offset; rotation = rotation; scale = scale }))))

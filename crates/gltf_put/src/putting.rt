@@ -18,21 +18,25 @@ const PUBLIC: u32 = 0o666;
 ///
 /// What stands at the name has to be a regular file, a symbolic link to one, or nothing. A link is
 /// followed: the file that it leads to is replaced in its place. The new file has the mode of the
-/// old one.
+/// old one. At last the system is asked to keep the name, so that a power failure does not take it
+/// back; where it cannot, the file has its name all the same.
 pub fn put<'w>(
     rt: &(impl Files + AllocGlobal),
     name: &'w str,
     bytes: &[u8],
 ) -> Result<(), PutFault<'w>> {
     let part = write_part(rt, name, bytes)?;
-    give_name(rt, &part)
+    give_name(rt, &part)?;
+    keep_names(rt, folder_of(part.path.as_str()));
+    Ok(())
 }
 
 /// Writes each of these files, by its name, as [`put`] writes one: first the bytes of all to new
 /// files, which then take their names, in order.
 ///
 /// Where a write fails, all files are what they were before, and the new ones are removed. Where a
-/// new file cannot take its name, those before it have theirs, and the others are removed.
+/// new file cannot take its name, those before it have theirs, and the others are removed. A stop
+/// between two names leaves the new files of the first beside the old ones of the others.
 pub fn put_all<'w>(
     rt: &(impl Files + AllocGlobal),
     files: &[(&'w str, &[u8])],
@@ -55,7 +59,32 @@ pub fn put_all<'w>(
             return Err(fault);
         }
     }
+    let mut last = None;
+    for part in &parts {
+        let folder = folder_of(part.path.as_str());
+        if last != Some(folder) {
+            keep_names(rt, folder);
+        }
+        last = Some(folder);
+    }
     Ok(())
+}
+
+/// The folder of a path.
+fn folder_of(path: &str) -> &str {
+    match path.rsplit_once('/') {
+        None => ".",
+        Some(("", _)) => "/",
+        Some((folder, _)) => folder,
+    }
+}
+
+/// Has the system keep the names in a folder, where it can.
+fn keep_names(rt: &impl Files, folder: &str) {
+    if let Ok(folder) = OpenOptions::new().read(true).open(rt, folder) {
+        // Some file systems cannot: the files have their names all the same.
+        let _ = folder.sync_all();
+    }
 }
 
 /// A new file that is whole, and the path that it is to take.

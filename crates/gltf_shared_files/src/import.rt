@@ -51,7 +51,7 @@ pub fn import_shared<N: AskUpTo>(
 }
 
 /// The bytes of the buffers of a document.
-fn shared_buffers<N: AskUpTo>(
+pub(crate) fn shared_buffers<N: AskUpTo>(
     alloc: Global,
     document: &Document,
     names: &mut N,

@@ -3,6 +3,8 @@
 
 mod import;
 mod inside;
+mod mended;
 
 pub use import::import_shared;
 pub use inside::{InsideUpTo, Outsider};
+pub use mended::{SharedImport, import_shared_with};

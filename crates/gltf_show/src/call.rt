@@ -1,4 +1,5 @@
 //! What the words on the command line ask for.
+use crate::taken::Taken;
 
 /// A call of the program.
 #[derive(Drop)]
@@ -6,9 +7,9 @@ pub(crate) enum Call<'w> {
     /// `chunks PATH`: the header and the chunks of a GLB file.
     Chunks(&'w str),
     /// `check PATH`: whether a file is imported, and how much it has.
-    Check(&'w str),
+    Check(&'w str, Taken<'w>),
     /// `indices PATH MESH PRIMITIVE`: the indices of a primitive of a mesh.
-    Indices(&'w str, Place),
+    Indices(&'w str, Place, Taken<'w>),
 }
 
 /// Where a primitive stands.
@@ -21,15 +22,19 @@ pub(crate) struct Place {
 }
 
 impl<'w> Call<'w> {
-    /// The call that the words make, or `None` where they make none.
+    /// The call that the words make, or `None` where they make none. The flags of `check` and
+    /// `indices` stand behind the other words.
     pub(crate) fn of(words: &[&'w str]) -> Option<Call<'w>> {
         match words {
             [command, path] if *command == "chunks" => Some(Call::Chunks(*path)),
-            [command, path] if *command == "check" => Some(Call::Check(*path)),
-            [command, path, mesh, primitive] if *command == "indices" => {
+            [command, path, flags @ ..] if *command == "check" => {
+                Some(Call::Check(*path, Taken::of(flags)?))
+            }
+            [command, path, mesh, primitive, flags @ ..] if *command == "indices" => {
                 let mesh = number(*mesh)?;
                 let primitive = number(*primitive)?;
-                Some(Call::Indices(*path, Place { mesh, primitive }))
+                let taken = Taken::of(flags)?;
+                Some(Call::Indices(*path, Place { mesh, primitive }, taken))
             }
             _ => None,
         }

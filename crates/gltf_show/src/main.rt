@@ -8,9 +8,11 @@ mod indices;
 mod kept;
 mod looked;
 mod old;
+mod opened;
 mod refusal;
 mod run;
 mod summary;
+mod taken;
 
 use findings::inspect_files;
 use gltf_shared::RegularFolder;

@@ -1,5 +1,6 @@
 //! Why a call is not answered.
 use gltf::Error;
+use gltf_validation::error::Error as Broken;
 use std::alloc::AllocError;
 use std::{fmt, io};
 
@@ -41,6 +42,17 @@ impl Refusal {
         )
     }
 
+    /// Whether the file breaks no rule but that it requires extensions which the loader does not
+    /// support.
+    pub(crate) fn is_of_extensions(&self) -> bool {
+        match self {
+            Refusal::File(Error::Validation(broken)) => {
+                broken.iter().all(|rule| rule.1 == Broken::Unsupported)
+            }
+            _ => false,
+        }
+    }
+
     /// Whether a file could not be read.
     pub(crate) fn is_failed_read(&self) -> bool {
         matches!(self, Refusal::File(Error::Io(_)))
@@ -63,8 +75,10 @@ impl fmt::Display for Refusal {
     fn fmt<W: fmt::Write>(&self, f: &mut fmt::Formatter<W>) -> fmt::Result {
         match self {
             Refusal::Usage => {
-                write!(f, "usage: gltf_show chunks PATH | check PATH | ")?;
-                write!(f, "indices PATH MESH PRIMITIVE | ")?;
+                write!(f, "usage: gltf_show chunks PATH | ")?;
+                write!(f, "check PATH [--extensions[=NAME,..]] [--lenient] | ")?;
+                write!(f, "indices PATH MESH PRIMITIVE ")?;
+                write!(f, "[--extensions[=NAME,..]] [--lenient] | ")?;
                 write!(
                     f,
                     "inspect PATH.. [--json [--pretty]] [--no-files|--outside] | "

@@ -3,11 +3,11 @@ use crate::call::Call;
 use crate::chunks::Chunks;
 use crate::indices::write_indices;
 use crate::kept::{Kept, Part};
+use crate::opened::{open, tell_flag};
 use crate::refusal::Refusal;
 use crate::summary::Summary;
 use gltf::{Glb, Name};
 use gltf_shared::AskUpTo;
-use gltf_shared_files::import_shared;
 use std::alloc::Global;
 use std::io::{self, Write};
 
@@ -31,9 +31,8 @@ pub fn run<S: AskUpTo + Drop, O: Write, E: Write>(
         Err(refusal) => {
             // Where this write fails too, the status alone says so.
             let _ = tell(&refusal, source.last_failed(), err);
-            let is_check = matches!(Call::of(words), Some(Call::Check(_)));
-            if is_check && refusal.is_of_content() && source.says_first_version(alloc) {
-                let _ = writeln!(err, "this is a glTF 1.0 file; glTF 2.0 is supported");
+            if refusal.is_of_content() {
+                advise(alloc, &refusal, &mut source, words, err);
             }
             refusal.status()
         }
@@ -45,6 +44,27 @@ fn tell<E: Write>(refusal: &Refusal, failed: Option<&str>, err: &mut E) -> io::R
     match failed {
         Some(name) if refusal.is_failed_read() => writeln!(err, "{name}: {refusal}"),
         _ => writeln!(err, "{refusal}"),
+    }
+}
+
+/// Writes what else is to be known of a file that is refused for what stands in it: that it is of
+/// glTF 1.0, or by which flag it is taken.
+fn advise<S: AskUpTo + Drop, E: Write>(
+    alloc: Global,
+    refusal: &Refusal,
+    source: &mut Kept<S>,
+    words: &[&str],
+    err: &mut E,
+) {
+    let (path, is_check) = match Call::of(words) {
+        Some(Call::Check(path, _)) => (path, true),
+        Some(Call::Indices(path, _, _)) => (path, false),
+        _ => return,
+    };
+    if is_check && source.says_first_version(alloc) {
+        let _ = writeln!(err, "this is a glTF 1.0 file; glTF 2.0 is supported");
+    } else if refusal.is_of_extensions() {
+        tell_flag(alloc, source, path, err);
     }
 }
 
@@ -60,12 +80,12 @@ fn answer<S: AskUpTo, O: Write>(
             let glb = Glb::from_slice(&bytes)?;
             write!(out, "{}", Chunks(&glb)).map_err(Refusal::Write)
         }
-        Some(Call::Check(path)) => {
-            let (document, _buffers) = import_shared(alloc, source, path)?;
+        Some(Call::Check(path, taken)) => {
+            let (document, _buffers) = open(alloc, source, path, taken)?;
             write!(out, "{}", Summary(&document)).map_err(Refusal::Write)
         }
-        Some(Call::Indices(path, place)) => {
-            let (document, buffers) = import_shared(alloc, source, path)?;
+        Some(Call::Indices(path, place, taken)) => {
+            let (document, buffers) = open(alloc, source, path, taken)?;
             write_indices(&document, &buffers, place, out)
         }
         None => Err(Refusal::Usage),

@@ -19,6 +19,9 @@ use Rattle.gltf_split.specs.Laws.{IsNoneOf, AreApart, HasNamesApart}
 use Rattle.gltf_required.specs.declared.required.Required.{Required}
 use Rattle.gltf_split.specs.Splits.{IsSplit, AreNamed}
 use Rattle.gltf_split.specs.declared.splitting.Pieces.{Pieces}
+use Rattle.gltf_names.specs.Named.{Named}
+use Rattle.gltf_bundle.specs.declared.options.Keep.{Keep}
+use Rattle.gltf_bundle.specs.declared.options.Keep.TheVariants.{Nothing, Missing, Every}
 
 -- ---- digits
 
@@ -61,19 +64,23 @@ record IsDotted (e : List ℕ) : Type 0 where
   rest : List ℕ
   is : e ≡ 46 ∷ rest
 
-dotted_if : (a b c d : Bool)
+dotted_if : (a b c d e f : Bool)
     → IsDotted (if a then codes ".png" else if b then codes ".jpg" else if c then codes ".webp"
-    else if d then codes ".ktx2" else codes ".bin")
-dotted_if true b c d = record { rest = codes "png"; is = refl }
-dotted_if false true c d = record { rest = codes "jpg"; is = refl }
-dotted_if false false true d = record { rest = codes "webp"; is = refl }
-dotted_if false false false true = record { rest = codes "ktx2"; is = refl }
-dotted_if false false false false = record { rest = codes "bin"; is = refl }
+    else if d then codes ".ktx2" else if e then codes ".avif" else if f then codes ".dds"
+    else codes ".bin")
+dotted_if true b c d e f = record { rest = codes "png"; is = refl }
+dotted_if false true c d e f = record { rest = codes "jpg"; is = refl }
+dotted_if false false true d e f = record { rest = codes "webp"; is = refl }
+dotted_if false false false true e f = record { rest = codes "ktx2"; is = refl }
+dotted_if false false false false true f = record { rest = codes "avif"; is = refl }
+dotted_if false false false false false true = record { rest = codes "dds"; is = refl }
+dotted_if false false false false false false = record { rest = codes "bin"; is = refl }
 
 dotted_for : (media : List ℕ) → IsDotted (ending_for media)
 dotted_for media =
     dotted_if (bytes_eq media (codes "image/png")) (bytes_eq media (codes "image/jpeg"))
     (bytes_eq media (codes "image/webp")) (bytes_eq media (codes "image/ktx2"))
+    (bytes_eq media (codes "image/avif")) (bytes_eq media (codes "image/vnd-ms.dds"))
 
 dotted : (begun own : Option (List ℕ)) → IsDotted (ending_of begun own)
 dotted (Some media) own = dotted_for media
@@ -239,17 +246,18 @@ buffers_rise stem count i (p ∷ ps) named h = (
   buffers_rise stem count (i + 1) ps named.1 (omega arith),
 )
 
-module _ (names : Names) (stem : List ℕ) (buffers : List (List ℕ)) (document : Data) where
+module _ (keep : Keep) (names : Names) (stem : List ℕ) (buffers : List (List ℕ))
+    (document : Data) where
   images_rise : (i : ℕ) (ds : Items) (ps : List (Option Part))
-      → AreParts names stem buffers document i ds ps → i + length ps < 2 ^ 64
-      → AreRising (IsImageName stem) i (names_of_images ps)
-  images_rise i no_items [] are h = tt
-  images_rise i no_items (p ∷ ps) are h = absurd are
-  images_rise i (item d ds) [] are h = absurd are
-  images_rise i (item d ds) (None ∷ ps) are h =
+      (lost : List Named) → AreParts keep names stem buffers document i ds ps lost
+      → i + length ps < 2 ^ 64 → AreRising (IsImageName stem) i (names_of_images ps)
+  images_rise i no_items [] lost are h = tt
+  images_rise i no_items (p ∷ ps) lost are h = absurd are
+  images_rise i (item d ds) [] lost are h = absurd are
+  images_rise i (item d ds) (None ∷ ps) lost are h =
       sooner (IsImageName stem) i (i + 1) (names_of_images ps) (omega arith)
-      (images_rise (i + 1) ds ps are.1 (omega arith))
-  images_rise i (item d ds) (Some p ∷ ps) are h = (
+      (images_rise (i + 1) ds ps are.1 are.3 (omega arith))
+  images_rise i (item d ds) (Some p ∷ ps) lost are h = (
     record {
       number = i;
       from = omega arith;
@@ -257,20 +265,25 @@ module _ (names : Names) (stem : List ℕ) (buffers : List (List ℕ)) (document
       is = record {
         ending = ending_of (begun_media p.bytes.items) (text_at (codes "mimeType") d);
         point = dotted (begun_media p.bytes.items) (text_at (codes "mimeType") d);
-        is = are.0.name;
+        is = are.2.0.name;
       };
     },
-    images_rise (i + 1) ds ps are.1 (omega arith),
+    images_rise (i + 1) ds ps are.1 are.3 (omega arith),
   )
 
-  all_images_rise : (keep : Bool) (ps : List (Option Part))
-      → AreImages names stem keep buffers document ps → length ps < 2 ^ 64
-      → AreRising (IsImageName stem) 0 (names_of_images ps)
-  all_images_rise true ps are h =
-      subst (λ (qs : List (Option Part)). AreRising (IsImageName stem) 0 (names_of_images qs))
-      (sym are) tt
-  all_images_rise false ps are h =
-      images_rise 0 (items_at (codes "images") document) ps are (omega arith)
+all_images_rise : (keep : Keep) (names : Names) (stem : List ℕ) (buffers : List (List ℕ))
+    (document : Data) (ps : List (Option Part)) (lost : List Named)
+    → AreImages keep names stem buffers document ps lost → length ps < 2 ^ 64
+    → AreRising (IsImageName stem) 0 (names_of_images ps)
+all_images_rise Every names stem buffers document ps lost are h =
+    subst (λ (qs : List (Option Part)). AreRising (IsImageName stem) 0 (names_of_images qs))
+    (sym are.0) tt
+all_images_rise Nothing names stem buffers document ps lost are h =
+    images_rise Nothing names stem buffers document 0 (items_at (codes "images") document) ps lost
+    are (omega arith)
+all_images_rise Missing names stem buffers document ps lost are h =
+    images_rise Missing names stem buffers document 0 (items_at (codes "images") document) ps lost
+    are (omega arith)
 
 differ_buffers : (stem : List ℕ) (count : ℕ) → (count == 1) ≡ false → (i j : ℕ) (x y : List ℕ)
     → IsBufferName stem count i x → IsBufferName stem count j y → i < j → j < 2 ^ 64 → x ≢ y
@@ -299,7 +312,7 @@ buffers_apart stem ps false is named h =
 few : {X : Type 0} (v : Vec X Global) → length v.items < 2 ^ 64
 few v = omega (arith, v.ok.0, v.ok.1, v.small)
 
-module _ (required : Required) (names : Names) (path stem : List ℕ) (keep drop : Bool)
+module _ (required : Required) (names : Names) (path stem : List ℕ) (keep : Keep) (drop : Bool)
     (set : Pieces) (is : IsSplit required names path stem keep drop set) where
   abbrev buffers : List (List ℕ)
   buffers = names_of_buffers set.buffers.items
@@ -317,8 +330,8 @@ module _ (required : Required) (names : Names) (path stem : List ℕ) (keep drop
 
   images_are : AreRising (IsImageName stem) 0 images
   images_are =
-      all_images_rise names stem is.whole is.value keep set.images.items
-      is.images (few set.images)
+      all_images_rise keep names stem is.whole is.value set.images.items is.lost is.images
+      (few set.images)
 
   files_apart : AreApart (buffers ++ images)
   files_apart =

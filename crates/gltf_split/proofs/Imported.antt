@@ -1,5 +1,5 @@
 -- What the text of a set is imported as, over a source that has its files.
-use Rattle.std.proofs.Common.{◌≡◌, ℕ, ◌<◌, ◌≤◌, ◌-◌, ◌%◌, ◌+◌, List, [], ◌∷◌, ◌++◌, length, map}
+use Rattle.std.proofs.Common.{◌≡◌, ℕ, ◌<◌, ◌≤◌, ◌-◌, ◌%◌, List, [], ◌∷◌, ◌++◌, length, map}
 use Rattle.std.proofs.Common.{Bool}
 use Rattle.std.proofs.Common.{true, false, Vec, Global}
 use Rattle.std.proofs.Common.{Option, Some, Ok, Err, Result, refl, sym, ap, subst, ◌∙◌, arith}
@@ -22,7 +22,7 @@ use Rattle.gltf_buffers.specs.Names.{Names, Held, MayBeGiven, name_of}
 use Rattle.gltf_buffers.specs.Padding.{padded}
 use Rattle.gltf_buffers.specs.Uri as uri
 use Rattle.gltf.specs.Import.{IsDocument}
-use Rattle.gltf_required.specs.Import.{IsRead, IsValidAs}
+use Rattle.gltf_required.specs.Import.{IsValidAs}
 use Rattle.gltf_required.specs.declared.required.Required.{Required}
 use Rattle.gltf_detach.specs.Naming.{buffer_uris, image_uris, image_uri, uri_of_part}
 use Rattle.gltf_detach.specs.declared.part.Part.{Part}
@@ -36,13 +36,14 @@ use Rattle.gltf_split.specs.Laws.{IsAcceptedOver, IsTakenOver}
 use Rattle.gltf_split.specs.Splits.{IsSplit, bytes_of_parts, split_value, value_left, bytes_left}
 use Rattle.gltf_split.specs.declared.splitting.Pieces.{Pieces}
 use Rattle.gltf_split.proofs.Texts.{the_text}
+use Rattle.gltf_bundle.specs.declared.options.Keep.{Keep}
 
 of_some : {d e : Data} → ◌≡◌ {A = Option Data} (Some d) (Some e) → d ≡ e
 of_some same = cc
 
 -- ---- the records
 
-module _ (required : Required) (names : Names) (path stem : List ℕ) (keep drop : Bool)
+module _ (required : Required) (names : Names) (path stem : List ℕ) (keep : Keep) (drop : Bool)
     (set : Pieces) (is : IsSplit required names path stem keep drop set) (s : Root)
     (blob : Option (List ℕ)) (document : IsDocument (string_bytes set.json) s blob) where
   abbrev left : Data
@@ -188,15 +189,15 @@ left_over trimmed true value r whole over =
     record { root_ = found.0; over = found.1; images = found.2 }
 left_over trimmed false value r whole over = record { root_ = r; over = over; images = refl }
 
-pub split_over : (required : Required) (names : Names) (path stem : List ℕ) (keep drop : Bool)
-    (set : Pieces) (is : IsSplit required names path stem keep drop set)
+pub split_over : (required : Required) (names : Names) (path stem : List ℕ) (keep : Keep)
+    (drop : Bool) (set : Pieces) (is : IsSplit required names path stem keep drop set)
     → IsReadOver is.value is.root_ is.whole
 split_over required names path stem keep drop set is =
     source_over required names path is.value is.root_ is.whole is.source
 
 -- what is left of the file that a set is of
 pub split_left : IsReadTrimmed → (required : Required) (names : Names) (path stem : List ℕ)
-    (keep drop : Bool) (set : Pieces) (is : IsSplit required names path stem keep drop set)
+    (keep : Keep) (drop : Bool) (set : Pieces) (is : IsSplit required names path stem keep drop set)
     → IsLeftOver drop is.value is.root_ is.whole (bytes_of_parts set.buffers.items)
 split_left trimmed required names path stem keep drop set is =
     subst (λ (xs : List (List ℕ)). IsLeftOver drop is.value is.root_ is.whole xs) (sym is.bytes)
@@ -292,7 +293,8 @@ file_at (p ∷ ps) (suc i) h =
     record { part = later.part; there = later.there; is = later.is }
 
 module _ (named : NamesBuffers) (lead : LeadToNames) (trimmed : IsReadTrimmed)
-    (required : Required) (names : Names) (path stem : List ℕ) (keep drop : Bool) (set : Pieces)
+    (required : Required) (names : Names) (path stem : List ℕ) (keep : Keep) (drop : Bool)
+    (set : Pieces)
     (is : IsSplit required names path stem keep drop set) (passing : Required) (there : Holds)
     (holds : HoldsBuffers there set) (s : Root) (blob : Option (List ℕ))
     (valid : IsValidAs passing (string_bytes set.json) s blob) where

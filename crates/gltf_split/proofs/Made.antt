@@ -1,12 +1,13 @@
 -- The files of buffers and images, one after the other.
 use Rattle.std.proofs.Common.{◌≡◌, ℕ, zero, suc, ◌+◌, ◌<◌, List, [], ◌∷◌, ◌++◌, length, take}
 use Rattle.std.proofs.Common.{refl, sym, ap, subst, ◌∙◌, arith, add-one, get_or, Option}
-use Rattle.std.proofs.Common.{string_bytes, drop, None, Vec, Global}
+use Rattle.std.proofs.Common.{string_bytes, drop, None, Some, Vec, Global, append_assoc, ◌≢◌, codes}
 use Rattle.std.proofs.Math.Seq.{take-suc}
-use Rattle.std.proofs.lemmas.List.{map-append}
-use Rattle.serde_json.specs.Data.{Data}
+use Rattle.std.proofs.lemmas.List.{map-append, append-nil}
+use Rattle.serde_json.specs.Data.{Data, Items, no_items, item}
 use Rattle.serde_json.specs.View.{view, items_view}
 use Rattle.serde_json.specs.declared.value.Value.{Value}
+use Rattle.gltf_names.specs.Named.{Named}
 use Rattle.gltf_buffers.specs.Names.{Names}
 use Rattle.gltf_buffers.specs.Shown.{bytes_of_each}
 use Rattle.gltf_buffers.specs.declared.data.Data.{Data as Buffer}
@@ -15,7 +16,10 @@ use Rattle.gltf_detach.specs.declared.part.Part.{Part}
 use Rattle.gltf_trim.specs.Tails.{bytes_of}
 use Rattle.gltf_trim.specs.Trimmed.{first}
 use Rattle.gltf_trimmed.specs.Laws.{cut, cut_all}
-use Rattle.gltf_split.specs.Images.{AreParts, MayBePart}
+use Rattle.gltf_bundle.specs.declared.options.Keep.{Keep}
+use Rattle.gltf_bundle.specs.declared.options.Keep.TheVariants.{Nothing, Missing, Every}
+use Rattle.gltf_edit.specs.Embedded.{items_at}
+use Rattle.gltf_split.specs.Images.{AreParts, AreImages, MayBePart, Stays, IsBare}
 use Rattle.gltf_split.specs.Splits.{AreNamed, bytes_of_parts}
 
 -- ---- buffers
@@ -108,32 +112,115 @@ length_of_take zero vs h = refl
 length_of_take (suc n) [] h = absurd (omega arith)
 length_of_take (suc n) (v ∷ vs) h = ap suc (length_of_take n vs (omega arith))
 
-module _ (names : Names) (stem : List ℕ) (buffers : List (List ℕ)) (document : Data) where
-  part_at : (i : ℕ) (vs : List Value) (ps : List (Option Part)) (v : Value) (p : Option Part)
-      → AreParts names stem buffers document i (items_view vs) ps → (n : ℕ) → n ≡ i + length vs
-      → MayBePart names stem buffers document n (view v) p
-      → AreParts names stem buffers document i (items_view (vs ++ v ∷ [])) (ps ++ p ∷ [])
-  part_at i [] [] v p far n is here =
-      let same : n ≡ i = is ∙ omega arith in
-      (subst (λ (k : ℕ). MayBePart names stem buffers document k (view v) p) same here, tt)
-  part_at i [] (q ∷ ps) v p far n is here = absurd far
-  part_at i (w ∷ vs) [] v p far n is here = absurd far
-  part_at i (w ∷ vs) (q ∷ ps) v p far n is here =
-      let one : i + suc (length vs) ≡ i + 1 + length vs = omega arith in
-      (far.0, part_at (i + 1) vs ps v p far.1 n (is ∙ one) here)
+module _ (keep : Keep) (names : Names) (stem : List ℕ) (buffers : List (List ℕ))
+    (document : Data) where
+  part_at : (i : ℕ) (vs : List Value) (ps : List (Option Part)) (lost : List Named) (v : Value)
+      (p : Option Part) (first : List Named)
+      → AreParts keep names stem buffers document i (items_view vs) ps lost → (n : ℕ)
+      → n ≡ i + length vs → MayBePart keep names stem buffers document n (view v) p first
+      → AreParts keep names stem buffers document i (items_view (vs ++ v ∷ [])) (ps ++ p ∷ [])
+      (first ++ lost)
+  part_at i [] [] lost v p first far n is here =
+      let same : n ≡ i = is ∙ omega arith in (
+        first,
+        [],
+        subst (λ (k : ℕ). MayBePart keep names stem buffers document k (view v) p first) same here,
+        refl,
+        ap (λ (xs : List Named). first ++ xs) far ∙ append-nil first,
+      )
+  part_at i [] (q ∷ ps) lost v p first far n is here = absurd far
+  part_at i (w ∷ vs) [] lost v p first far n is here = absurd far
+  part_at i (w ∷ vs) (q ∷ ps) lost v p first (was, behind, head, rest, lost_is) n is here =
+      let one : i + suc (length vs) ≡ i + 1 + length vs = omega arith in (
+        was,
+        first ++ behind,
+        head,
+        part_at (i + 1) vs ps behind v p first rest n (is ∙ one) here,
+        ap (λ (xs : List Named). first ++ xs) lost_is ∙ sym (append_assoc first behind was),
+      )
 
   -- one more
-  pub one_more : (vs : List Value) (n : ℕ) (ps : List (Option Part)) (v : Value) (p : Option Part)
-      → n < length vs → v ≡ get_or vs n v
-      → AreParts names stem buffers document 0 (items_view (take n vs)) ps
-      → MayBePart names stem buffers document n (view v) p
-      → AreParts names stem buffers document 0 (items_view (take (n + 1) vs)) (ps ++ p ∷ [])
-  one_more vs n ps v p h is far here =
+  pub one_more : (vs : List Value) (n : ℕ) (ps : List (Option Part)) (lost : List Named) (v : Value)
+      (p : Option Part) (first : List Named) → n < length vs → v ≡ get_or vs n v
+      → AreParts keep names stem buffers document 0 (items_view (take n vs)) ps lost
+      → MayBePart keep names stem buffers document n (view v) p first
+      → AreParts keep names stem buffers document 0 (items_view (take (n + 1) vs)) (ps ++ p ∷ [])
+      (first ++ lost)
+  one_more vs n ps lost v p first h is far here =
       let more : take (n + 1) vs ≡ take n vs ++ v ∷ [] =
       ap (λ (n : ℕ). take n vs) (add-one n) ∙ take-suc vs n v h
       ∙ ap (λ (w : Value). take n vs ++ w ∷ []) (sym is) in
       let taken = length_of_take n vs h in
       let long : n ≡ 0 + length (take n vs) = omega arith in
       subst (λ (ws : List Value).
-      AreParts names stem buffers document 0 (items_view ws) (ps ++ p ∷ [])) (sym more)
-      (part_at 0 (take n vs) ps v p far n long here)
+      AreParts keep names stem buffers document 0 (items_view ws) (ps ++ p ∷ []) (first ++ lost))
+      (sym more)
+      (part_at 0 (take n vs) ps lost v p first far n long here)
+
+-- where an image that stays has no URI, the source does not fail
+no_loss : (keep : Keep) (names : Names)
+    → ((d : Data) (l : List Named) → Stays keep names d l → IsBare d l) → (stem : List ℕ)
+    (buffers : List (List ℕ)) (document : Data) (i : ℕ) (ds : Items) (ps : List (Option Part))
+    (lost : List Named) → AreParts keep names stem buffers document i ds ps lost → lost ≡ []
+no_loss keep names bare stem buffers document i no_items [] lost far = far
+no_loss keep names bare stem buffers document i no_items (p ∷ ps) lost far = absurd far
+no_loss keep names bare stem buffers document i (item d ds) [] lost far = absurd far
+no_loss keep names bare stem buffers document i (item d ds) (None ∷ ps) lost
+    (was, behind, head, rest, lost_is) =
+    lost_is
+    ∙ (λ k.
+    no_loss keep names bare stem buffers document (i + 1) ds ps behind rest k
+    ++ (bare d was head).fine k)
+no_loss keep names bare stem buffers document i (item d ds) (Some p ∷ ps) lost
+    (was, behind, head, rest, lost_is) =
+    lost_is
+    ∙ (λ k. no_loss keep names bare stem buffers document (i + 1) ds ps behind rest k ++ head.1 k)
+
+pub none_lost : (keep : Keep) (names : Names) (stem : List ℕ) (buffers : List (List ℕ))
+    (document : Data) (i : ℕ) (ds : Items) (ps : List (Option Part)) (lost : List Named)
+    → AreParts keep names stem buffers document i ds ps lost → keep ≢ Missing → lost ≡ []
+none_lost Nothing names stem buffers document i ds ps lost far some =
+    no_loss Nothing names (λ d l bare. bare) stem buffers document i ds ps lost far
+none_lost Every names stem buffers document i ds ps lost far some =
+    no_loss Every names (λ d l bare. bare) stem buffers document i ds ps lost far
+none_lost Missing names stem buffers document i ds ps lost far some = absurd (some refl)
+
+-- so it did not fail at any name of an image
+pub fine_parts : (keep : Keep) (names : Names) (stem : List ℕ) (buffers : List (List ℕ))
+    (document : Data) (ps : List (Option Part)) (lost old new : List Named)
+    → AreImages keep names stem buffers document ps lost → new ≡ lost ++ old → keep ≢ Missing
+    → new ≡ old
+fine_parts Every names stem buffers document ps lost old new are after some =
+    after ∙ ap (λ (l : List Named). l ++ old) are.1
+fine_parts Nothing names stem buffers document ps lost old new are after some =
+    after
+    ∙ ap (λ (l : List Named). l ++ old)
+    (none_lost Nothing names stem buffers document 0 (items_at (codes "images") document) ps lost
+    are some)
+fine_parts Missing names stem buffers document ps lost old new are after some =
+    absurd (some refl)
+
+no_missing : Nothing ≢ Missing
+no_missing same = cc
+
+-- all stay
+pub none_of_all : (keep : Keep) (names : Names) (stem : List ℕ) (buffers : List (List ℕ))
+    (document : Data) → keep ≡ Every → AreImages keep names stem buffers document [] []
+none_of_all keep names stem buffers document every =
+    subst (λ (k : Keep). AreImages k names stem buffers document [] []) (sym every) (refl, refl)
+
+-- of each image that has a file or stays, so do the others
+pub parts_all : (keep : Keep) (names : Names) (stem : List ℕ) (buffers : List (List ℕ))
+    (document : Data) (ps : List (Option Part)) (lost : List Named) → (keep ≡ Every → ⊥)
+    → AreParts keep names stem buffers document 0 (items_at (codes "images") document) ps lost
+    → AreImages keep names stem buffers document ps lost
+parts_all Nothing names stem buffers document ps lost some all = all
+parts_all Missing names stem buffers document ps lost some all = all
+parts_all Every names stem buffers document ps lost some all = absurd (some refl)
+
+pub none_before : (keep : Keep) (names : Names) (stem : List ℕ) (buffers : List (List ℕ))
+    (document : Data) (i : ℕ) (ds : Items) (ps : List (Option Part)) (lost : List Named)
+    → keep ≡ Nothing → AreParts keep names stem buffers document i ds ps lost → lost ≡ []
+none_before keep names stem buffers document i ds ps lost nothing far =
+    none_lost keep names stem buffers document i ds ps lost far
+    (subst (λ (k : Keep). k ≢ Missing) (sym nothing) no_missing)

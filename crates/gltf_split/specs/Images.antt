@@ -1,5 +1,5 @@
 -- The files of images, and why there are none (glTF 2.0, sections 2.8 and 3.8.3).
-use Rattle.std.specs.Prelude.{◌≡◌, ℕ, ◌+◌, List, [], ◌∷◌, Option, Some, None, Bool, true, false, ⊤}
+use Rattle.std.specs.Prelude.{◌≡◌, ◌≢◌, ◌⊎◌, ℕ, ◌+◌, List, [], ◌∷◌, ◌++◌, Option, Some, None}
 use Rattle.std.specs.Prelude.{MatchOption, string_bytes, Ok, codes}
 use Rattle.serde_json.specs.Data.{Data, Items, no_items, item}
 use Rattle.serde_json.specs.Find.{get_item}
@@ -7,13 +7,16 @@ use Rattle.gltf_edit.specs.Bundled.{size_at}
 use Rattle.gltf_edit.specs.Embedded.{items_at}
 use Rattle.gltf_detach.specs.Naming.{image_name, ending_of}
 use Rattle.gltf_detach.specs.declared.part.Part.{Part}
+use Rattle.gltf_glb.specs.declared.error.Error.{Error}
 use Rattle.gltf_glb.specs.declared.error.Error.TheVariants.{Memory}
 use Rattle.gltf_names.specs.Named.{Named}
 use Rattle.gltf_buffers.specs.Buffers.{IsMeant}
 use Rattle.gltf_buffers.specs.Names.{Names}
 use Rattle.gltf_buffers.specs.Uri.{uri_of}
-use Rattle.gltf_bundle.specs.Images.{text_at, IsUnread}
+use Rattle.gltf_bundle.specs.Images.{text_at, IsUnread, IsRefused}
 use Rattle.gltf_bundle.specs.Media.{begun_media}
+use Rattle.gltf_bundle.specs.declared.options.Keep.{Keep}
+use Rattle.gltf_bundle.specs.declared.options.Keep.TheVariants.{Nothing, Missing, Every}
 use Rattle.gltf_bundle.specs.declared.error.BundleError.{BundleError}
 use Rattle.gltf_bundle.specs.declared.error.BundleError.TheVariants as bundle
 use Rattle.gltf_split.specs.Views.{view_bytes}
@@ -54,25 +57,47 @@ pub record IsPart (names : Names) (stem : List ℕ) (buffers : List (List ℕ)) 
   pub bytes : HasBytes names buffers document d p.bytes.items
   pub name : string_bytes p.name ≡ name_for stem i d p.bytes.items
 
--- an image has a file exactly where it has bytes
-abbrev pub MayBePart : Names → List ℕ → List (List ℕ) → Data → ℕ → Data → Option Part → Type 0
-MayBePart names stem buffers document i d None = HasNone d
-MayBePart names stem buffers document i d (Some p) = IsPart names stem buffers document i d p
+-- an image has neither bytes nor a URI that leads to none
+pub record IsBare (d : Data) (lost : List Named) : Type 0 where
+  pub none : HasNone d
+  pub fine : lost ≡ []
+
+-- it names no view, and has a URI, which leads to no bytes; the source failed at these names
+pub record IsMissing (names : Names) (d : Data) (lost : List Named) : Type 0 where
+  pub no_view : size_at (codes "bufferView") d ≡ None
+  pub cause : Error
+  pub not_memory : cause ≢ Memory
+  pub unread : IsUnread names [] lost cause d
+
+-- it is not touched
+abbrev pub Stays : Keep → Names → Data → List Named → Type 0
+Stays Missing names d lost = IsBare d lost ⊎ IsMissing names d lost
+Stays keep names d lost = IsBare d lost
+
+-- an image has a file of its bytes, or stays; the source failed at these names, the last one first
+abbrev pub MayBePart : Keep → Names → List ℕ → List (List ℕ) → Data → ℕ → Data → Option Part
+    → List Named → Type 0
+MayBePart keep names stem buffers document i d None lost = Stays keep names d lost
+MayBePart keep names stem buffers document i d (Some p) lost =
+    IsPart names stem buffers document i d p × (lost ≡ [])
 
 -- so does each of some, in order, from index i on
-abbrev pub AreParts : Names → List ℕ → List (List ℕ) → Data → ℕ → Items → List (Option Part)
-    → Type 0
-AreParts names stem buffers document i no_items [] = ⊤
-AreParts names stem buffers document i no_items (p ∷ ps) = ⊥
-AreParts names stem buffers document i (item d ds) [] = ⊥
-AreParts names stem buffers document i (item d ds) (p ∷ ps) =
-    MayBePart names stem buffers document i d p × AreParts names stem buffers document (i + 1) ds ps
+abbrev pub AreParts : Keep → Names → List ℕ → List (List ℕ) → Data → ℕ → Items
+    → List (Option Part) → List Named → Type 0
+AreParts keep names stem buffers document i no_items [] lost = lost ≡ []
+AreParts keep names stem buffers document i no_items (p ∷ ps) lost = ⊥
+AreParts keep names stem buffers document i (item d ds) [] lost = ⊥
+AreParts keep names stem buffers document i (item d ds) (p ∷ ps) lost =
+    (first : List Named) × (rest : List Named)
+    × MayBePart keep names stem buffers document i d p first
+    × AreParts keep names stem buffers document (i + 1) ds ps rest × (lost ≡ rest ++ first)
 
--- the images of a document, where they are not kept as they are
-abbrev pub AreImages : Names → List ℕ → Bool → List (List ℕ) → Data → List (Option Part) → Type 0
-AreImages names stem true buffers document ps = ps ≡ []
-AreImages names stem false buffers document ps =
-    AreParts names stem buffers document 0 (items_at (codes "images") document) ps
+-- the images of a document
+abbrev pub AreImages : Keep → Names → List ℕ → List (List ℕ) → Data → List (Option Part)
+    → List Named → Type 0
+AreImages Every names stem buffers document ps lost = (ps ≡ []) × (lost ≡ [])
+AreImages keep names stem buffers document ps lost =
+    AreParts keep names stem buffers document 0 (items_at (codes "images") document) ps lost
 
 -- ---- why there is none
 
@@ -91,11 +116,19 @@ RefusesView buffers document v _ = ⊥
 -- what an error says of image i
 abbrev pub RefusesOwn : Names → List (List ℕ) → Data → ℕ → List Named → List Named → Data
     → BundleError → Type 0
-RefusesOwn names buffers document i old new d (bundle.Image j e) =
-    (j ≡ i) × IsUnread names old new e d
+RefusesOwn names buffers document i old new d (bundle.Image j u e) =
+    (j ≡ i) × (size_at (codes "bufferView") d ≡ None) × IsRefused names old new u e d
 RefusesOwn names buffers document i old new d (bundle.View v) = HasStrayView buffers document v d
-RefusesOwn names buffers document i old new d (bundle.Import e) = e ≡ Memory
+RefusesOwn names buffers document i old new d (bundle.Import e) = (e ≡ Memory) × (new ≡ old)
 RefusesOwn names buffers document i old new d _ = ⊥
+
+-- and where it may stay, it is no error that it is missing
+abbrev pub RefusesKept : Keep → Names → List (List ℕ) → Data → ℕ → List Named → List Named → Data
+    → BundleError → Type 0
+RefusesKept keep names buffers document i old new d (bundle.Image j u e) =
+    (keep ≢ Missing) × RefusesOwn names buffers document i old new d (bundle.Image j u e)
+RefusesKept keep names buffers document i old new d e =
+    RefusesOwn names buffers document i old new d e
 
 -- P holds of the item at an index
 pub record HoldsAt (ds : Items) (i : ℕ) (P : Data → Type 0) : Type 0 where
@@ -108,12 +141,13 @@ pub record HoldsSomewhere (ds : Items) (P : Data → Type 0) : Type 0 where
   pub index : ℕ
   pub holds : HoldsAt ds index P
 
--- what an error says of images
-abbrev pub RefusesImages : Names → List (List ℕ) → Data → Items → List Named → List Named
+-- what an error says of images: where those stay that are missing, none of them is an error
+abbrev pub RefusesImages : Keep → Names → List (List ℕ) → Data → Items → List Named → List Named
     → BundleError → Type 0
-RefusesImages names buffers document ds old new (bundle.Image i e) =
-    HoldsAt ds i (IsUnread names old new e)
-RefusesImages names buffers document ds old new (bundle.View v) =
-    HoldsSomewhere ds (HasStrayView buffers document v)
-RefusesImages names buffers document ds old new (bundle.Import e) = e ≡ Memory
-RefusesImages names buffers document ds old new _ = ⊥
+RefusesImages keep names buffers document ds old new (bundle.Image i u e) =
+    (keep ≡ Nothing) × HoldsAt ds i (IsRefused names old new u e)
+RefusesImages keep names buffers document ds old new (bundle.View v) =
+    (keep ≢ Every) × HoldsSomewhere ds (HasStrayView buffers document v)
+RefusesImages keep names buffers document ds old new (bundle.Import e) =
+    (e ≡ Memory) × (keep ≢ Missing → new ≡ old)
+RefusesImages keep names buffers document ds old new _ = ⊥

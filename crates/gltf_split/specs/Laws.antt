@@ -17,6 +17,7 @@ use Rattle.gltf_required.specs.Import.{AcceptsAs, IsRead}
 use Rattle.gltf_required.specs.declared.required.Required.{Required}
 use Rattle.gltf_split.specs.Splits.{IsSplit, IsValidTextAs, bytes_of_parts, value_left}
 use Rattle.gltf_split.specs.declared.splitting.Pieces.{Pieces}
+use Rattle.gltf_bundle.specs.declared.options.Keep.{Keep}
 
 abbrev pub Holds : Type 0
 Holds = Named → Option (List ℕ)
@@ -35,7 +36,8 @@ IsAcceptedOver required there set =
 -- so it is over each source that has the files of its buffers
 abbrev pub IsTakenOver : Type 0
 IsTakenOver =
-    (required : Required) (names : Names) (path stem : List ℕ) (keep drop : Bool) (set : Pieces)
+    (required : Required) (names : Names) (path stem : List ℕ) (keep : Keep) (drop : Bool)
+    (set : Pieces)
     → IsSplit required names path stem keep drop set → (passing : Required)
     → IsValidTextAs passing (string_bytes set.json)
     → (there : Holds) → HoldsBuffers there set → IsAcceptedOver passing there set
@@ -45,7 +47,8 @@ IsTakenOver =
 -- value of the file, and the buffers have the bytes of the files
 abbrev pub HasItsBuffers : Type 0
 HasItsBuffers =
-    (required : Required) (names : Names) (path stem : List ℕ) (keep drop : Bool) (set : Pieces)
+    (required : Required) (names : Names) (path stem : List ℕ) (keep : Keep) (drop : Bool)
+    (set : Pieces)
     (is : IsSplit required names path stem keep drop set) (there : Holds) → HoldsBuffers there set
     → (s : Root) (others : List (List ℕ)) → IsRead (Held there)
     (string_bytes set.json) s others
@@ -56,7 +59,8 @@ HasItsBuffers =
 -- and each accessor has the items that it has in the file
 abbrev pub KeepsItems : {X : Type 0} → Ghosts X → Type 0
 KeepsItems {X} t =
-    (required : Required) (names : Names) (path stem : List ℕ) (keep drop : Bool) (set : Pieces)
+    (required : Required) (names : Names) (path stem : List ℕ) (keep : Keep) (drop : Bool)
+    (set : Pieces)
     (is : IsSplit required names path stem keep drop set) (there : Holds) → HoldsBuffers there set
     → (s : Root) (others : List (List ℕ)) → IsRead (Held there)
     (string_bytes set.json) s others
@@ -76,7 +80,8 @@ pub record IsShown (there : Holds) (p : Part) (s : Root) (i : ℕ) : Type 0 wher
 -- so is each image that has a file, where a source has this one too
 abbrev pub ShowsImages : Type 0
 ShowsImages =
-    (required : Required) (names : Names) (path stem : List ℕ) (keep drop : Bool) (set : Pieces)
+    (required : Required) (names : Names) (path stem : List ℕ) (keep : Keep) (drop : Bool)
+    (set : Pieces)
     (is : IsSplit required names path stem keep drop set) (there : Holds) (s : Root)
     (others : List (List ℕ))
     → IsRead (Held there) (string_bytes set.json) s others
@@ -112,5 +117,6 @@ AreApart (x ∷ xs) = IsNoneOf x xs × AreApart xs
 -- no two files of a set have the same name, and none has that of the text
 abbrev pub HasNamesApart : Type 0
 HasNamesApart =
-    (required : Required) (names : Names) (path stem : List ℕ) (keep drop : Bool) (set : Pieces)
+    (required : Required) (names : Names) (path stem : List ℕ) (keep : Keep) (drop : Bool)
+    (set : Pieces)
     → IsSplit required names path stem keep drop set → AreApart (file_names stem set)

@@ -1,48 +1,52 @@
 -- What the errors of a split say.
-use Rattle.std.specs.Prelude.{◌≡◌, ℕ, List, Bool, false, string_bytes, codes}
+use Rattle.std.specs.Prelude.{◌≡◌, ◌≢◌, ℕ, List, Bool, string_bytes, codes}
 use Rattle.serde_json.specs.Data.{Data}
 use Rattle.gltf_json.specs.declared.root.Root.{Root}
 use Rattle.gltf_edit.specs.Embedded.{items_at}
 use Rattle.gltf_glb.specs.declared.error.Error.{Error}
+use Rattle.gltf_glb.specs.declared.error.Error.TheVariants.{Memory}
 use Rattle.gltf_names.specs.Named.{Named}
 use Rattle.gltf_buffers.specs.Names.{Names}
-use Rattle.gltf.specs.Errors.{OutOfMemoryOr}
 use Rattle.gltf_required.specs.Files.{RefusesFileAs}
 use Rattle.gltf_required.specs.Import.{RefusesDocumentAs}
 use Rattle.gltf_required.specs.declared.required.Required.{Required}
 use Rattle.gltf_bundle.specs.Bundle.{IsSource}
 use Rattle.gltf_bundle.specs.declared.error.BundleError.{BundleError}
+use Rattle.gltf_bundle.specs.declared.options.Keep.{Keep}
+use Rattle.gltf_bundle.specs.declared.options.Keep.TheVariants.{Missing}
+use Rattle.gltf_bundle.specs.Refusals.{LacksMemoryOr}
 use Rattle.gltf_bundle.specs.declared.error.BundleError.TheVariants as bundle
 use Rattle.gltf_split.specs.Images.{RefusesImages}
 use Rattle.gltf_split.specs.Splits.{IsSplit}
 use Rattle.gltf_split.specs.declared.splitting.Pieces.{Pieces}
 
--- the file is accepted, and its images are not kept and are refused so
-pub record HasBadImage (required : Required) (names : Names) (path : List ℕ) (keep : Bool)
+-- the file is accepted, and its images are refused so
+pub record HasBadImage (required : Required) (names : Names) (path : List ℕ) (keep : Keep)
     (old new : List Named) (e : BundleError) : Type 0 where
   pub value : Data
   pub root_ : Root
   pub buffers : List (List ℕ)
   pub source : IsSource required names path value root_ buffers
-  pub not_kept : keep ≡ false
-  pub told : RefusesImages names buffers value (items_at (codes "images") value) old new e
+  pub told : RefusesImages keep names buffers value (items_at (codes "images") value) old new e
 
 -- the text of the set is refused
-pub record HasBadText (required : Required) (names : Names) (path stem : List ℕ) (keep drop : Bool)
-    (e : Error) : Type 0 where
+pub record HasBadText (required : Required) (names : Names) (path stem : List ℕ) (keep : Keep)
+    (drop : Bool) (e : Error) : Type 0 where
   pub set : Pieces
   pub is : IsSplit required names path stem keep drop set
-  pub fault : OutOfMemoryOr (RefusesDocumentAs required (string_bytes set.json)) e
+  pub not_memory : e ≢ Memory
+  pub fault : RefusesDocumentAs required (string_bytes set.json) e
 
--- the error is that of the import, or names what does not hold
-abbrev pub RefusesSplit : Required → Names → List ℕ → List ℕ → Bool → Bool → List Named
+-- the error is that of the import, or names what does not hold; or out of memory, and then the
+-- source did not fail, unless images that are missing stay
+abbrev pub RefusesSplit : Required → Names → List ℕ → List ℕ → Keep → Bool → List Named
     → List Named → BundleError → Type 0
 RefusesSplit required names path stem keep drop old new (bundle.Import e) =
-    OutOfMemoryOr (RefusesFileAs required names path old new) e
+    LacksMemoryOr (keep ≢ Missing → new ≡ old) (RefusesFileAs required names path old new) e
 RefusesSplit required names path stem keep drop old new (bundle.View v) =
     HasBadImage required names path keep old new (bundle.View v)
-RefusesSplit required names path stem keep drop old new (bundle.Image i e) =
-    HasBadImage required names path keep old new (bundle.Image i e)
+RefusesSplit required names path stem keep drop old new (bundle.Image i u e) =
+    HasBadImage required names path keep old new (bundle.Image i u e)
 RefusesSplit required names path stem keep drop old new (bundle.Answer e) =
     HasBadText required names path stem keep drop e
 RefusesSplit required names path stem keep drop old new _ = ⊥

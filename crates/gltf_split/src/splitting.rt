@@ -7,15 +7,16 @@ ghost use Rattle.gltf_json.specs.Reading.{Reads};
 ghost use Rattle.gltf_buffers.specs.Names.{names_of};
 ghost use Rattle.gltf_buffers.specs.Shown.{bytes_of_each};
 ghost use Rattle.gltf_required.specs.declared.required.Required.TheVariants.{Supported};
-ghost use Rattle.gltf_split.specs.Splits.{IsSplit, IsValidText, IsValidTextAs, AreNamed};
-ghost use Rattle.gltf_split.specs.Splits.{bytes_of_parts, drops};
+ghost use Rattle.gltf_split.specs.Splits.{Splits, IsValidText, IsValidTextAs, AreNamed};
+ghost use Rattle.gltf_split.specs.Splits.{bytes_of_parts, drops, kept, IsLaidOut};
+ghost use Rattle.serde_json.specs.Written.{IsInOrder};
 ghost use Rattle.gltf_split.specs.Refusals.{RefusesSplit};
 
 use crate::images::image_parts;
 use crate::left::what_is_left;
 use crate::options::SplitOptions;
+use gltf::NamedBytes;
 use gltf::buffer::Data;
-use gltf::{Error, NamedBytes};
 use gltf_bundle::{BundleError, Loaded, load_with};
 use gltf_detach::{Part, buffer_name, detached};
 use gltf_required::{Required, from_slice_as};
@@ -39,10 +40,12 @@ pub struct Pieces {
 /// Each buffer has a file of the bytes that it is imported with, whose name is `STEM.bin`, or
 /// `STEM0.bin` and so on where there are several. Each image that names a view has a file of the
 /// bytes of this view, and each other one that has a URI has a file of the bytes that this leads
-/// to, as that of a buffer does; the source is asked once for each of these. Its name is
-/// `STEM_image0` with its index and an ending: `.png`, `.jpg`, `.webp` or `.ktx2` where the bytes
-/// begin so, or, where they begin as none of these, the member `mimeType` says so; else `.bin`.
-/// With [`SplitOptions::keep_images`] images have no files.
+/// to, as that of a buffer does. Its name is `STEM_image0` with its index and an ending: `.png`,
+/// `.jpg`, `.webp`, `.ktx2`, `.avif` or `.dds` where the bytes begin so, or, where they begin as
+/// none of these, the member `mimeType` says so; else `.bin`.
+/// With [`SplitOptions::keep_images`] images have no files. With
+/// [`SplitOptions::keep_missing_images`] one that names no view, and whose URI leads to no bytes,
+/// has none, and is no error.
 ///
 /// What has a file names it by its `uri`, and such an image names no view. All other members keep
 /// their values: views stay, also those that no image names any more. A chunk of unknown type and
@@ -69,11 +72,13 @@ pub fn split<S: NamedBytes>(
     stem: &str,
     options: &SplitOptions,
 ) -> Result<Pieces, BundleError>
-    ensures split { IfOk result (IsSplit Supported (names_of (S.bytes_by_name source.old)) path.now
-        stem.now options.now.keep_images (drops options.now)) }
+    ensures split { IfOk result (Splits Supported (names_of (S.bytes_by_name source.old)) path.now
+        stem.now (kept options.now) (drops options.now) (S.failures source.old)
+        (S.failures source.new)) }
+    ensures layout { IfOk result (λ set. IsLaidOut options.now.pretty (string_bytes set.json)) }
     ensures accepted { IfOk result (λ set. IsValidText (string_bytes set.json)) }
     ensures refused { IfErr result (RefusesSplit Supported (names_of (S.bytes_by_name source.old))
-        path.now stem.now options.now.keep_images (drops options.now) (S.failures source.old)
+        path.now stem.now (kept options.now) (drops options.now) (S.failures source.old)
         (S.failures source.new)) }
 {
     split_with(alloc, source, path, stem, options, &Required::Supported)
@@ -92,18 +97,19 @@ pub fn split_with<S: NamedBytes>(
     options: &SplitOptions,
     required: &Required<'_>,
 ) -> Result<Pieces, BundleError>
-    ensures split { IfOk result (IsSplit required.now (names_of (S.bytes_by_name source.old))
-        path.now stem.now options.now.keep_images (drops options.now)) }
+    ensures split { IfOk result (Splits required.now (names_of (S.bytes_by_name source.old))
+        path.now stem.now (kept options.now) (drops options.now) (S.failures source.old)
+        (S.failures source.new)) }
+    ensures layout { IfOk result (λ set. IsLaidOut options.now.pretty (string_bytes set.json)) }
     ensures accepted { IfOk result (λ set. IsValidTextAs required.now (string_bytes set.json)) }
     ensures refused { IfErr result (RefusesSplit required.now
-        (names_of (S.bytes_by_name source.old)) path.now stem.now options.now.keep_images
+        (names_of (S.bytes_by_name source.old)) path.now stem.now (kept options.now)
         (drops options.now) (S.failures source.old) (S.failures source.new)) }
 {
     let set = gathered(alloc, source, path, stem, options, required)?;
     match from_slice_as(alloc, set.json.as_bytes(), required) {
         Ok(_) => Ok(set),
-        Err(Error::Memory) => Err(BundleError::Import(Error::Memory)),
-        Err(error) => Err(BundleError::Answer(error)),
+        Err(error) => Err(BundleError::of_answer(error)),
     }
 }
 
@@ -116,14 +122,16 @@ fn gathered<S: NamedBytes>(
     options: &SplitOptions,
     required: &Required<'_>,
 ) -> Result<Pieces, BundleError>
-    ensures split { IfOk result (IsSplit required.now (names_of (S.bytes_by_name source.old))
-        path.now stem.now options.now.keep_images (drops options.now)) }
+    ensures split { IfOk result (Splits required.now (names_of (S.bytes_by_name source.old))
+        path.now stem.now (kept options.now) (drops options.now) (S.failures source.old)
+        (S.failures source.new)) }
+    ensures layout { IfOk result (λ set. IsLaidOut options.now.pretty (string_bytes set.json)) }
     ensures refused { IfErr result (RefusesSplit required.now
-        (names_of (S.bytes_by_name source.old)) path.now stem.now options.now.keep_images
+        (names_of (S.bytes_by_name source.old)) path.now stem.now (kept options.now)
         (drops options.now) (S.failures source.old) (S.failures source.new)) }
 {
     let Loaded { value, buffers } = load_with(alloc, source, path, required)?;
-    let images = image_parts(alloc, source, &value, options.keep_images, stem, &buffers)?;
+    let images = image_parts(alloc, source, &value, options.keep(), stem, &buffers)?;
     let Loaded {
         value: left,
         buffers: cut,
@@ -157,8 +165,10 @@ fn buffer_parts(alloc: Global, stem: &str, buffers: Vec<Data>) -> Result<Vec<Par
 
 /// The text of a value.
 fn written(alloc: Global, value: &Value, pretty: bool) -> Result<String, AllocError>
-    ensures { IfOk result (λ s. depth (view value.now) ≤ max_depth
+    ensures reads { IfOk result (λ s. depth (view value.now) ≤ max_depth
         → Reads (string_bytes s) (view value.now)) }
+    ensures order { IfOk result (λ s. IsInOrder (string_bytes s) (view value.now)) }
+    ensures layout { IfOk result (λ s. IsLaidOut pretty (string_bytes s)) }
 {
     if pretty {
         return value.to_string_pretty(alloc);

@@ -31,7 +31,10 @@ pub fn convert(
         text.renew();
         cube_bytes.renew(&mut random);
         let mut shelf = shelf(alloc, &text, &cube_bytes, cubes, &mut random)?;
-        let options = BundleOptions { keep_images: false };
+        let options = BundleOptions {
+            keep_images: false,
+            keep_missing_images: false,
+        };
         match bundle(alloc, &mut shelf, "scene.gltf", &options) {
             Ok(container) => {
                 digest.bytes(&container);
@@ -93,6 +96,7 @@ fn shelf(
 fn add_split(alloc: Global, shelf: &mut Shelf, digest: &mut Digest) -> Result<(), AllocError> {
     let options = SplitOptions {
         keep_images: false,
+        keep_missing_images: false,
         drop_image_views: true,
         pretty: false,
     };

@@ -1,33 +1,20 @@
-use Rattle.std.proofs.Common.{◌∷◌, [], refl, sym, ap, ◌∙◌, arith, ◌≡◌, length, Some, Option, ℕ}
-use Rattle.std.proofs.Common.{List}
-use Rattle.std.proofs.lemmas.Grind.{common_steps}
-use Rattle.std.specs.Prelude.{option_copied}
-use Rattle.gltf_bundle.specs.Media.{media_of}
-use Rattle.gltf_bundle.proofs.Taken.{each_last}
+use Rattle.std.proofs.Common.{[], refl, sym, ◌∙◌}
+use Rattle.std.proofs.lemmas.List.{append-nil}
+use Rattle.serde_json.specs.View.{view}
+use Rattle.gltf_bundle.proofs.Taken.{spared, not_spared}
 use Rattle.gltf_bundle.proofs.images.taken_in.Goals as goal
 
-pub returns-clause-taken : goal.returns-clause-taken
-returns-clause-taken g c =
-    let bytes = c.in_ok-bytes.bytes in
-    let uri = c.in-Some.uri.now in
-    let long : c.len.result ≡ length bytes.items = grind (arith, common_steps) in (
-      bytes.items ∷ [],
-      (
-        bytes.items,
-        record {
-          uri = uri;
-          there = sym c.text_at.ensures ∙ ap option_copied c.in-Some.is;
-          meant = c.in_ok-bytes.ensures.ok;
-          long = long;
-          media =
-              ap (λ (o : Option (List ℕ)). media_of uri o bytes.items) (sym c.text_at-2.ensures)
-              ∙ ap (media_of uri (option_copied c.text_at-2.result)) (sym c.deref.ensures.value)
-              ∙ sym c.media_of.ensures
-              ∙ ap option_copied c.in-Some-media_of.is
-              ∙ ap (λ (xs : List ℕ). Some xs) (sym c.in_ok-from_str.ensures.ok);
-        },
-        refl,
-      ),
-      each_last c.args.buffers.now.items c.push.new.self.items record { 0 = bytes }
-          c.in_ok-push.ensures.items,
-    )
+pub returns-then-spares-clause-taken : goal.returns-then-spares-clause-taken
+returns-then-spares-clause-taken g c =
+    let told = spared (g.N.Ask.names c.args.names.now) c.args.index
+    (g.N.Ask.failures c.args.names.now) (g.N.Ask.failures c.picture_of.new.names) c.args.keep
+    (view c.args.image.now) c.in-Err.error (sym c.spares.ensures ∙ c.if-spares.true)
+    c.in-Err.ensures.refused.0 in
+    ([], told.0, (told.1, refl), c.in-Err.ensures.refused.1 ∙ sym (append-nil _), told.2)
+
+pub returns-else-spares-clause-refused : goal.returns-else-spares-clause-refused
+returns-else-spares-clause-refused g c =
+    not_spared (g.N.Ask.names c.args.names.now) c.args.index
+    (g.N.Ask.failures c.args.names.now) (g.N.Ask.failures c.picture_of.new.names) c.args.keep
+    (view c.args.image.now) c.in-Err.error c.requires (sym c.spares.ensures ∙ c.if-spares.false)
+    c.in-Err.ensures.refused.0

@@ -1,4 +1,4 @@
-use Rattle.std.proofs.Common.{sym, ap, ◌∙◌}
+use Rattle.std.proofs.Common.{sym, refl, ap, ◌∙◌}
 use Rattle.std.proofs.lemmas.Result.{err_from_is_err_and}
 use Rattle.std.specs.Prelude.{option_copied}
 use Rattle.serde_json.specs.View.{view}
@@ -30,7 +30,7 @@ returns-in_err-viewed-clause-refused g c =
     let passed = err_from_is_err_and exit.result exit.ensures.1 in
     rw (passed.1, passed.2)
     (view_refused names (bytes_of_each c.args.buffers.now) (view c.args.document.now) fails fails
-    (view c.args.image.now) c.in-Some.index c.args.index c.in_err-viewed.field-0.0
+    (view c.args.image.now) c.in-Some.index c.args.index c.in_err-viewed.field-0.0 refl
     (sym c.size_at.ensures ∙ c.in-Some.is) c.in_err-viewed.ensures.refused)
 
 pub returns-in_err-image_bytes-in-Some-text_at-clause-refused :
@@ -45,5 +45,6 @@ returns-in_err-image_bytes-in-Some-text_at-clause-refused g c =
     rw (passed.1, passed.2)
     (uri_refused names (bytes_of_each c.args.buffers.now) (view c.args.document.now) old new
     (view c.args.image.now) c.in-Some-text_at.uri.now c.args.index e
+    (sym c.size_at.ensures ∙ c.in_default.is)
     (sym c.text_at.ensures ∙ ap option_copied c.in-Some-text_at.is)
     c.in_err-image_bytes-in-Some-text_at.ensures.refused)

@@ -13,9 +13,10 @@ printed : {E : Type 0} (r : Result (String Global) E) (d : Data)
 printed (Ok s) d reads = λ short. (IsUtf8-string_bytes s, reads short)
 printed (Err e) d reads = tt
 
-pub returns-then-pretty : goal.returns-then-pretty
-returns-then-pretty c =
+pub returns-then-pretty-clause-reads : goal.returns-then-pretty-clause-reads
+returns-then-pretty-clause-reads c =
     printed c.to_string_pretty.result (view c.args.value.now) c.to_string_pretty.ensures.reads_back
 
-pub returns : goal.returns
-returns c = printed c.to_string.result (view c.args.value.now) c.to_string.ensures.reads_back
+pub returns-clause-reads : goal.returns-clause-reads
+returns-clause-reads c =
+    printed c.to_string.result (view c.args.value.now) c.to_string.ensures.reads_back
