@@ -5,6 +5,7 @@ beside `gltf_show check`; and how long on documents with many attributes and tar
 calls it after `rt ci`; arguments are another program to run. The last line is
 `N passed, M failed`."""
 import json
+import math
 import os
 import pathlib
 import struct
@@ -157,16 +158,29 @@ def found(report):
             if it["code"] == CODE]
 
 
+def least_taken(words, enough):
+    """The least seconds of three calls, since what runs beside one makes it dearer; of fewer where
+    one took no more than enough. And what the last one wrote."""
+    least = math.inf
+    for _ in range(3):
+        seconds, written = taken(words)
+        least = min(least, seconds)
+        if least <= enough:
+            break
+    return least, written
+
+
 def wrong_of(program, path, accessors, size, room):
     """What is wrong with the calls on a file of these accessors, which has so many bytes with its
     buffers."""
-    least = min(taken([*program, "check", path])[0] for _ in range(3))
-    seconds, report = taken([*program, "inspect", "--json", path])
+    check, _ = least_taken([*program, "check", path], 0)
+    most = MOST * max(check, 0.01)
+    seconds, report = least_taken([*program, "inspect", "--json", path], most)
     expected, out = left_out(accessors, SHARE * size, room), found(report)
     if out != expected:
         yield f"expected {len(expected)} left out, found {len(out)}"
-    if seconds > MOST * max(least, 0.01):
-        yield f"inspect took {seconds:.2f} s, check {least:.3f} s"
+    if seconds > most:
+        yield f"expected at most {most:.2f} s of inspect, taken {seconds:.2f} s"
 
 
 def files(folder):
