@@ -1,1 +1,2 @@
-mod Sources
+pub mod Images
+pub mod Sources

@@ -1,14 +1,22 @@
 -- What is read of files that are converted there and back (glTF 2.0, sections 3.6.1 and 3.6.2).
 use Rattle.std.specs.Prelude.{◌≡◌, ◌↔◌, ℕ, List, Option, Some, Bool, slice_get, string_bytes}
+use Rattle.std.specs.Prelude.{option_map}
 use Rattle.gltf_json.specs.declared.root.Root.{Root}
+use Rattle.gltf_json_scene.specs.declared.image.Image.{Image}
 use Rattle.gltf_items.specs.declared.item.Item.{Ghosts}
 use Rattle.gltf_data.specs.Documents.{ReadsAt}
 use Rattle.gltf_names.specs.Named.{File}
 use Rattle.gltf_buffers.specs.Names.{Names, Held}
 use Rattle.gltf_required.specs.Import.{IsRead}
 use Rattle.gltf_required.specs.declared.required.Required.{Required}
+use Rattle.gltf_detach.specs.Naming.{uri_of_part}
+use Rattle.gltf_detach.specs.declared.part.Part.{Part}
+use Rattle.gltf_detached.specs.Laws.{HoldsPart}
+use Rattle.gltf_moved.specs.Images.{IsInView}
 use Rattle.gltf_bundle.specs.Bundle.{IsBundle}
+use Rattle.gltf_bundle.specs.Media.{media_of}
 use Rattle.gltf_bundle.specs.declared.options.Keep.{Keep}
+use Rattle.gltf_bundle.specs.declared.options.Keep.TheVariants.{Nothing}
 use Rattle.gltf_split.specs.Laws.{Holds, HoldsBuffers}
 use Rattle.gltf_split.specs.Splits.{IsSplit}
 use Rattle.gltf_split.specs.declared.splitting.Pieces.{Pieces}
@@ -42,3 +50,28 @@ KeepsItemsBack {X} t =
     → (index : ℕ) (result : Option (List X))
     → ReadsAt t is.root_ (slice_get is.buffers) index result
     ↔ ReadsAt t s (slice_get others) index result
+
+-- ---- images (glTF 2.0, section 3.8.3)
+
+-- image i of s is in a view of the bytes of this file, with the media type of x, where it is one of
+-- images, or else with that which the bytes begin as; the URI of a file names none
+pub record HasImage (buffers : List (List ℕ)) (s : Root) (i : ℕ) (x : Image) (p : Part)
+    : Type 0 where
+  pub media : List ℕ
+  pub is_media : media_of (uri_of_part p) (option_map string_bytes x.mime_type) p.bytes.items
+      ≡ Some media
+  pub in_view : IsInView buffers s i media p.bytes.items
+
+-- where a source has the text of a set and the file of an image x of the file that the set is of,
+-- the container of this text has the bytes of this file for the image, whatever it is read as
+abbrev pub KeepsImagesThere : Type 0
+KeepsImagesThere =
+    (required : Required) (names : Names) (path stem : List ℕ) (keep : Keep) (drop : Bool)
+    (set : Pieces) (is : IsSplit required names path stem keep drop set) (there : Holds)
+    (other : List ℕ) → there (File other) ≡ Some (string_bytes set.json)
+    → (passing : Required) (answer : List ℕ)
+    → IsBundle passing (Held there) other Nothing answer
+    → (over : Names) (s : Root) (others : List (List ℕ)) → IsRead over answer s others
+    → (i : ℕ) (p : Part) → slice_get set.images.items i ≡ Some (Some p) → HoldsPart there p
+    → (x : Image) → slice_get is.root_.images.items i ≡ Some x
+    → HasImage others s i x p

@@ -1,6 +1,6 @@
 //! Laws of two conversions, one after the other. Each is a statement over definitions, proved as
 //! the contract of a function that does nothing.
-ghost use Rattle.gltf_converted.specs.Laws.{KeepsItemsThere, KeepsItemsBack};
+ghost use Rattle.gltf_converted.specs.Laws.{KeepsItemsThere, KeepsItemsBack, KeepsImagesThere};
 
 use gltf_items::Item;
 
@@ -20,4 +20,13 @@ pub fn items_are_kept_by_sets<T: Item>()
 {
     gltf_bundle::laws::items_are_kept::<T>();
     gltf_split::laws::items_are_kept::<T>();
+}
+
+/// Where a file is split, and the set is bundled over a source that has its files, each image that
+/// has a file has its bytes in the container, with its media type where it has one of images.
+pub fn images_are_kept_by_bundles()
+    ensures { KeepsImagesThere }
+{
+    gltf_split::laws::images_are_shown();
+    gltf_bundle::laws::images_are_shown();
 }

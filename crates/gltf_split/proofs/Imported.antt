@@ -388,9 +388,11 @@ shows_images named lead trimmed required names path stem keep drop set is there 
       image = after.image;
       is_there = after.there;
       uri = u;
+      own = refl;
       has_uri = after.uri;
       no_view = after.no_view;
       meant =
           subst (λ (m : uri.Meaning). IsMeant (Held there) m (Ok p.bytes.items)) (sym (lead p))
           record { given = Some p.bytes.items; may = (refl, holds); is = refl };
+      type = after.type;
     }

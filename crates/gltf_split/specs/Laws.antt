@@ -7,7 +7,7 @@ use Rattle.gltf_json_scene.specs.declared.image.Image.{Image}
 use Rattle.gltf_items.specs.declared.item.Item.{Ghosts}
 use Rattle.gltf_data.specs.Documents.{ReadsAt}
 use Rattle.gltf_detach.specs.declared.part.Part.{Part}
-use Rattle.gltf_detach.specs.Naming.{buffer_uris, image_uris}
+use Rattle.gltf_detach.specs.Naming.{buffer_uris, image_uris, uri_of_part}
 use Rattle.gltf_detached.specs.Laws.{IsDetached, HoldsPart}
 use Rattle.gltf_names.specs.Named.{Named}
 use Rattle.gltf_buffers.specs.Buffers.{IsMeant}
@@ -68,14 +68,17 @@ KeepsItems {X} t =
     → ReadsAt t is.root_ (slice_get is.whole) index result
     ↔ ReadsAt t s (slice_get others) index result
 
--- image i of s has a URI that leads to the bytes of this file, and no view
-pub record IsShown (there : Holds) (p : Part) (s : Root) (i : ℕ) : Type 0 where
+-- image i of s has the URI of this file, which leads to its bytes, and no view; the media type is
+-- that of x
+pub record IsShown (there : Holds) (p : Part) (x : Image) (s : Root) (i : ℕ) : Type 0 where
   pub image : Image
   pub is_there : slice_get s.images.items i ≡ Some image
   pub uri : List ℕ
+  pub own : uri ≡ uri_of_part p
   pub has_uri : option_map string_bytes image.uri ≡ Some uri
   pub no_view : image.buffer_view ≡ None
   pub meant : IsMeant (Held there) (uri_of uri) (Ok p.bytes.items)
+  pub type : option_map string_bytes image.mime_type ≡ option_map string_bytes x.mime_type
 
 -- so is each image that has a file, where a source has this one too
 abbrev pub ShowsImages : Type 0
@@ -86,7 +89,7 @@ ShowsImages =
     (others : List (List ℕ))
     → IsRead (Held there) (string_bytes set.json) s others
     → (i : ℕ) (p : Part) → slice_get set.images.items i ≡ Some (Some p) → HoldsPart there p
-    → (x : Image) → slice_get is.root_.images.items i ≡ Some x → IsShown there p s i
+    → (x : Image) → slice_get is.root_.images.items i ≡ Some x → IsShown there p x s i
 
 -- ---- names
 

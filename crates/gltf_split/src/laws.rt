@@ -40,7 +40,7 @@ pub fn items_are_kept<T: Item>()
 }
 
 /// Each image that has a file is, in whatever the text is imported as over a source that has this
-/// file, one whose URI leads to the bytes of the file.
+/// file, one whose URI leads to the bytes of the file, with the media type that it has.
 pub fn images_are_shown()
     ensures { ShowsImages }
 {
