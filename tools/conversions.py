@@ -164,12 +164,11 @@ BOTH_APART = BOTH | {
         {"mimeType": "image/x-own", "uri": "out_image0.bin", "name": "n"},
         {"uri": "out_image1.png"},
         {"mimeType": "image/jpeg", "uri": "out_image2.jpg"},
-        {"mimeType": "image/jpeg", "uri": "out_image3.jpg"},
+        {"mimeType": "image/jpeg", "uri": "out_image2.jpg"},
     ],
 }
 BOTH_BESIDE = {"out.bin": b"12345678", "out_image0.bin": b"12345678",
-               "out_image1.png": PICTURES[0], "out_image2.jpg": b"12345678",
-               "out_image3.jpg": b"12345678"}
+               "out_image1.png": PICTURES[0], "out_image2.jpg": b"12345678"}
 CONVERT_USAGE = Begins("usage: gltf_convert IN OUT.glb [--keep-images|--keep-missing-images]\n")
 ENDING = "out.txt: has to end in .glb or .gltf\n"
 # Files that require extensions which the loader refuses: a conversion keeps what these say. A
@@ -233,6 +232,27 @@ def textured(name, media):
         textures=[{"source": 0, "extensions": {name: {"source": 1}}}])
 
 
+def textured_alone(name, media, **texture):
+    """The same, where the texture has no other image."""
+    value = textured(name, media)
+    texture |= {"extensions": {name: {"source": 1}}, "name": "t"}
+    return value | {"textures": [texture, {"source": 1}]}
+
+
+# Animations of what an extension points to: their targets have no node.
+POINTED = {"path": "pointer",
+           "extensions": {"KHR_animation_pointer": {"pointer": "/nodes/0/scale"}}}
+POINTING = requires(
+    "KHR_animation_pointer", nodes=[{}],
+    bufferViews=[{"buffer": 0, "byteLength": 12, "byteOffset": 0}],
+    accessors=[{"bufferView": 0, "componentType": 5126, "count": 1,
+                "type": "SCALAR", "min": [0], "max": [1]}],
+    animations=[{
+        "channels": [{"sampler": 0, "target": target} for target in targets],
+        "samplers": [{"input": 0, "output": 0}]}
+        for targets in ([POINTED, {"node": 0, "path": "scale"}], [POINTED | {"node": None}])])
+
+
 def in_text(value, files, *lengths):
     """The value of the text of such a file, whose buffers have these lengths, and its files."""
     parts = [("out.bin" if len(lengths) == 1 else f"out{i}.bin") for i in range(len(lengths))]
@@ -281,6 +301,11 @@ REQUIRED = {
                   {"out_image0.png": BITS[:4], "out_image1.webp": BITS[4:9]}),
     "basis.gltf": (textured("KHR_texture_basisu", "image/ktx2"), (9,),
                    {"out_image0.png": BITS[:4], "out_image1.ktx2": BITS[4:9]}),
+    "webp_alone.gltf": (textured_alone("EXT_texture_webp", "image/webp"), (9,),
+                        {"out_image0.png": BITS[:4], "out_image1.webp": BITS[4:9]}),
+    "basis_alone.gltf": (textured_alone("KHR_texture_basisu", "image/ktx2", source=None), (9,),
+                         {"out_image0.png": BITS[:4], "out_image1.ktx2": BITS[4:9]}),
+    "pointing.gltf": (POINTING, (12,), {}),
     "twice.gltf": (requires("STUDIO", "STUDIO", "KHR_materials_unlit"), (4,), {}),
 }
 # Buffers of which some have no bytes: a length is one that has. Those stay, behind the one of a
@@ -668,6 +693,26 @@ def eights_row(i, more, stay, lengths):
 
 
 # The words, the name without its ending, the JSON value and the files of calls that write text.
+# Images that are read from one view, or by one URI: they have one file, where its name ends alike.
+SHARED = {
+    "asset": {"version": "2.0"},
+    "bufferViews": [{"buffer": 0, "byteLength": 4}, {"buffer": 0, "byteLength": 4}],
+    "images": [
+        {"uri": "p%20q.png"}, {"bufferView": 0, "mimeType": "image/jpeg"},
+        {"uri": "p%20q.png", "name": "again"}, {"bufferView": 1, "mimeType": "image/jpeg"},
+        {"bufferView": 0, "mimeType": "image/jpeg", "uri": "p%20q.png"}, {"uri": "./p%20q.png"},
+        {"bufferView": 0, "mimeType": "image/png"}]}
+SHARED_APART = {
+    "buffers": [{"byteLength": 4, "uri": "out.bin"}],
+    "images": [
+        {"uri": "out_image0.png"}, {"mimeType": "image/jpeg", "uri": "out_image1.jpg"},
+        {"name": "again", "uri": "out_image0.png"},
+        {"mimeType": "image/jpeg", "uri": "out_image3.jpg"},
+        {"mimeType": "image/jpeg", "uri": "out_image1.jpg"}, {"uri": "out_image5.png"},
+        {"mimeType": "image/png", "uri": "out_image6.png"}]}
+SHARED_BESIDE = {"out.bin": BITS[:4], "out_image0.png": PICTURES[0], "out_image1.jpg": BITS[:4],
+                 "out_image3.jpg": BITS[:4], "out_image5.png": PICTURES[0],
+                 "out_image6.png": BITS[:4]}
 SPLIT = [
     (["two.gltf"], "out", [], APART, BESIDE),
     (["two.gltf"], "out", ["--pretty"], APART, BESIDE),
@@ -689,6 +734,8 @@ SPLIT = [
         "buffers": [{"byteLength": 56, "uri": "out.bin"}]},
      {"out.bin": TAKEN + TAIL, **ONE_BESIDE}),
     *[eights_row(i, *row) for i, row in enumerate(EIGHTS_LEFT)],
+    (["shared.gltf"], "out", [], SHARED | SHARED_APART, SHARED_BESIDE),
+    (["shared.gltf"], "out", ["--pretty"], SHARED | SHARED_APART, SHARED_BESIDE),
     (["begun.gltf"], "out", [], {
         "asset": {"version": "2.0"},
         "images": [{"uri": f"out_image{i}.{kind}", "mimeType": "image/x-own"}
@@ -742,6 +789,7 @@ def make_converted(room):
         "alone.glb": container_of(ONE, TAKEN),
         "plain.glb": container_of(plain(ONE), TAKEN),
         "tail.glb": container_of(plain(ONE) | {"buffers": [{"byteLength": 56}]}, TAKEN + TAIL),
+        "shared.gltf": json.dumps(SHARED | {"buffers": in_buffers(4)}).encode(),
         "begun.gltf": programs.document(images=[
             *[{"uri": data("", picture), "mimeType": "image/x-own"} for picture in PICTURES],
             *[{"uri": data("", b"1"), "mimeType": media} for media in TYPES]]),
@@ -763,11 +811,27 @@ def make_converted(room):
     })
 
 
+def leaves_to_extensions(value):
+    """Whether a texture has no source, or a target no node."""
+    targets = [channel["target"] for one in value.get("animations", [])
+               for channel in one["channels"]]
+    sources = [one.get("source") for one in value.get("textures", [])]
+    return None in [*sources, *(target.get("node") for target in targets)]
+
+
+def checks(value):
+    """The flags of `gltf_show check` for a file of this value."""
+    if not leaves_to_extensions(value):
+        return []
+    return ["--extensions=" + ",".join(value["extensionsRequired"]), "--lenient"]
+
+
 def is_shown(checked, value):
     """Whether `gltf_show check` accepts a file of this value. Where it requires extensions that the
     loader does not support, it has to be refused for their names alone, with the flag that takes
-    them on a second line."""
-    if "extensionsRequired" in value:
+    them on a second line. Where it leaves to them what the loader needs, it is accepted with that
+    flag."""
+    if "extensionsRequired" in value and not checks(value):
         line, _, hint = checked.stderr.partition("\n")
         told = line.partition("invalid glTF: ")[2].rstrip(";").split("; ")
         places = [re.fullmatch(r"extensionsRequired\[(\d+)\]: Unsupported extension", one)
@@ -775,7 +839,8 @@ def is_shown(checked, value):
         return checked.returncode == 1 and all(places) and hint == programs.flag(
             *(value["extensionsRequired"][int(place[1])] for place in places))
     counts = [len(value.get(member, [])) for member in ("buffers", "accessors")]
-    line = f"ok buffers={counts[0]} accessors={counts[1]} meshes=0 nodes=0\n"
+    nodes = len(value.get("nodes", []))
+    line = f"ok buffers={counts[0]} accessors={counts[1]} meshes=0 nodes={nodes}\n"
     return checked.stdout == line
 
 
@@ -801,7 +866,7 @@ def converts(convert, show, room, source, flags, value, buffer):
         (alone / "out.glb").write_bytes(made)
         alone.chmod(0o777)
         how["cwd"] = alone
-        checked = subprocess.run([show, "check", "out.glb"], **how)
+        checked = subprocess.run([show, "check", "out.glb", *checks(value)], **how)
         again = subprocess.run([convert, "out.glb", "again.glb"], **how)
         good = is_shown(checked, value) and again.returncode == 0
         good = good and (alone / "again.glb").read_bytes() == made
@@ -829,7 +894,7 @@ def splits(convert, show, room, source, name, flags, value, files):
         if "--keep-images" in flags or not good:
             return programs.report(convert.name, words, good, ran)
         how["cwd"] = alone
-        checked = subprocess.run([show, "check", f"{name}.gltf"], **how)
+        checked = subprocess.run([show, "check", f"{name}.gltf", *checks(value)], **how)
         again = subprocess.run([convert, f"{name}.gltf", f"{name}.gltf", *flags], **how)
         left = {file.name: file.read_bytes() for file in alone.iterdir()}
         good = is_shown(checked, value) and again.returncode == 0

@@ -1,8 +1,8 @@
 #!/usr/bin/env python3
 """Runs the programs where the system fails them: a folder or a device for a file or for a buffer, a
 file that is cut while it is read, a pipe that ends early or that nobody reads, a closed output, a
-full disk, too little memory, a name that is too long, no permission. A row is a call with its
-status and its error; what a program writes is whole or not there.
+full disk, too little memory, a name that is too long, no permission, a stop between two names. A
+row is a call with its status and its error; what a program writes is whole or not there.
 
 A row whose device cannot be had on this machine is reported as not tried, and counts neither as
 passed nor as failed. The last line is `N passed, M failed`."""
@@ -48,6 +48,11 @@ FILES = {"in.glb": SMALL, "endless.gltf": ENDLESS, "piped.gltf": PIPED, "shared.
          "shared.bin": bytes(1 << 20), "large.glb": LARGE, "cut.glb": LARGE, "locked": SMALL,
          "outside.gltf": OUTSIDE, "outside.bin": bytes(LENGTH), "short.glb": SMALL[:24],
          "empty.glb": b""}
+# A text whose buffers have the names that its conversion gives them the other way about, and what
+# they and its image have, by the text. New files under the old text would give it wrong bytes.
+NAMED = {"swapped1.bin": b"one!", "swapped0.bin": b"two!", "picture.png": b"\x89PNG\r\n\x1a\n"}
+SWAPPED = document(buffers=[{"byteLength": FOUR, "uri": name} for name in [*NAMED][:2]],
+                   images=[{"uri": "picture.png"}])
 # What stands where a program is to write: links to devices, and what is no file.
 ENDINGS = (".glb", ".gltf")
 LINKS = {"full": "/dev/full", "null": "/dev/null", "lost": "missing/out"}
@@ -431,6 +436,43 @@ def prints_to_full_disk(call, room):
         RESULTS.row(what, good, got)
 
 
+def meant(text):
+    """The bytes of the buffers and images of a text, in order, with those of each file."""
+    value = json.loads(text.read_bytes())
+    return [(text.parent / one["uri"]).read_bytes() for one in value["buffers"] + value["images"]]
+
+
+def stops(call, room, library):
+    """A text that takes its own place, stopped before each of the calls that give and take names,
+    and where each of them fails: the text that stands there names files with the bytes that it was
+    written with. Where one fails, no new file is left, and a line says so, unless all else is
+    done."""
+    for how in ("is stopped", "fails"):
+        number, calls, good, got = -1, 0, True, None
+        while good and number < calls:
+            number += 1
+            with tempfile.TemporaryDirectory(dir=room.parent) as folder:
+                place = pathlib.Path(folder)
+                place.chmod(0o777)
+                put(place, {**NAMED, "swapped.gltf": SWAPPED})
+                got = ran(call, call.on("swapped.gltf", "swapped"), place, env={
+                    "LD_PRELOAD": library, "STOPS_AT": str(number), "STOPS_HOW": how})
+                left = sorted(file.name for file in place.iterdir())
+                good = meant(place / "swapped.gltf") == [*NAMED.values()]
+            error, _, counted = got.stderr.rpartition(b"calls=")
+            calls = calls or int(counted.strip() or 0)
+            if number == 0:
+                good = good and got.returncode == 0 and left == sorted(
+                    [*NAMED, "swapped.gltf", "swapped_image0.png"])
+            elif how == "fails":
+                good = good and not any(name.endswith(".part") for name in left)
+                good = good and (got.returncode, error.count(b"\n")) in ((0, 0), (1, 1))
+            else:
+                good = good and got.returncode == -signal.SIGKILL
+        RESULTS.row(f"{call.shown} over itself, where each of {calls} calls {how}",
+                    good and calls > 0, (number, got))
+
+
 def fill(room):
     put(room, FILES)
     for ending in ENDINGS:
@@ -475,10 +517,18 @@ def write_rows(call, room):
     on_read_only_disk(call, room)
 
 
+def stops_rows(room, libraries):
+    call = next(call for call in CALLS if call.shown == "gltf_convert to .gltf")
+    if libraries is None:
+        RESULTS.not_tried(f"{call.shown} over itself, stopped", "there is no cc")
+        return
+    stops(call, room, libraries["stops"])
+
+
 def libraries_in(place):
-    """The libraries that cut files and that fail their reads; None where there is no C compiler."""
+    """The libraries that cut files, that fail their reads and that stop; None where there is no C compiler."""
     try:
-        return {name: preload.library(name, place) for name in ("cut", "lacks")}
+        return {name: preload.library(name, place) for name in ("cut", "lacks", "stops")}
     except (OSError, subprocess.CalledProcessError):
         return None
 
@@ -501,6 +551,7 @@ def main():
                 rows(call, room)
         for call in WRITERS:
             write_rows(call, room)
+        stops_rows(room, libraries)
     print(f"{RESULTS.passed} passed, {RESULTS.failed} failed")
     return 1 if RESULTS.failed else 0
 

@@ -4,7 +4,7 @@ use crate::refusal::Refusal;
 use crate::words::Conversion;
 use gltf::{Shelf, base_of};
 use gltf_buffers::bytes_of_uri;
-use gltf_put::{FileId, Standing, file_at, stays};
+use gltf_put::{FileId, Output, Standing, file_at, stays};
 use serde_json::Value;
 use std::alloc::{AllocError, Global};
 use std::fs;
@@ -19,9 +19,9 @@ pub(crate) fn spare<'w>(
     asked: &Conversion<'w>,
     read: &[String],
     staying: &[(usize, &str)],
-    paths: &[String],
+    files: &[Output<'_>],
 ) -> Result<(), Refusal<'w>> {
-    let there = those_there(rt, paths)?;
+    let there = those_there(rt, files)?;
     if there.is_empty() {
         return Ok(());
     }
@@ -35,15 +35,19 @@ pub(crate) fn spare<'w>(
     Ok(())
 }
 
-/// Those paths where a regular file stands, each with that file.
+/// The paths of those files beside the text where a regular file stands, each with that file.
 fn those_there<'p>(
     rt: &(impl Files + AllocGlobal),
-    paths: &'p [String],
+    files: &'p [Output<'_>],
 ) -> Result<Vec<(&'p str, FileId)>, AllocError> {
     let mut there = Vec::new(rt.alloc());
-    for path in paths {
-        if let Some(file) = file_at(rt, path.as_str()) {
-            there.push((path.as_str(), file))?;
+    let Some((_text, beside)) = files.split_last() else {
+        return Ok(there);
+    };
+    for file in beside {
+        let path = file.path.as_str();
+        if let Some(file) = file_at(rt, path) {
+            there.push((path, file))?;
         }
     }
     Ok(there)

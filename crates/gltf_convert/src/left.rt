@@ -1,5 +1,6 @@
 //! What a conversion leaves out of the file that it reads.
-use crate::fallback::{Instead, buffers_of, instead_of};
+use crate::instead::{Instead, buffers_of, has, instead_of};
+use crate::shared::owners_of;
 use crate::words::{Conversion, Form};
 use gltf::{Glb, text_and_blob};
 use gltf_fallback::is_bare;
@@ -22,25 +23,42 @@ pub struct LeftOut {
     blob: usize,
 }
 
-/// What is left out of a file, and what is read in its place.
-#[derive(Default, Drop)]
+/// What is left out of a file, which image owns the file of each one, and what is read in its
+/// place.
+#[derive(Drop)]
 pub(crate) struct Looked {
     pub(crate) left: LeftOut,
+    pub(crate) owners: Vec<usize>,
     pub(crate) instead: Option<Instead>,
 }
 
-/// What is left out of a file of these bytes, and what is read in its place, where `behind` says
-/// that its buffers become one. Of one that is no glTF file nothing is told, since it is refused.
+impl Looked {
+    fn nothing(alloc: Global) -> Looked {
+        Looked {
+            left: LeftOut::default(),
+            owners: Vec::new(alloc),
+            instead: None,
+        }
+    }
+}
+
+/// What is to be known of a file of these bytes, where `behind` says that its buffers become one.
+/// Of one that is no glTF file nothing is told, since it is refused.
 pub(crate) fn look_at(alloc: Global, bytes: &[u8], behind: bool) -> Result<Looked, AllocError> {
     let Ok((text, blob)) = text_and_blob(bytes) else {
-        return Ok(Looked::default());
+        return Ok(Looked::nothing(alloc));
     };
     let Ok(document) = Value::from_slice(alloc, text.as_slice()) else {
-        return Ok(Looked::default());
+        return Ok(Looked::nothing(alloc));
     };
     let left = left_beside(&document, bytes, length_of(&blob));
+    let owners = owners_of(alloc, &document)?;
     let instead = instead_of(alloc, document, blob, behind)?;
-    Ok(Looked { left, instead })
+    Ok(Looked {
+        left,
+        owners,
+        instead,
+    })
 }
 
 fn length_of(blob: &Option<CowSlice<'_, u8>>) -> usize {
@@ -110,14 +128,6 @@ fn known(glb: &Glb<'_>) -> usize {
     match &glb.bin {
         Some(bin) => text.saturating_add(8).saturating_add(bin.len()),
         None => text,
-    }
-}
-
-/// Whether a value has a member that is not null.
-fn has(value: &Value, name: &str) -> bool {
-    match value.get(name) {
-        None | Some(Value::Null) => false,
-        Some(_) => true,
     }
 }
 

@@ -3,11 +3,15 @@
 
 mod beside;
 mod elsewhere;
-mod fallback;
+mod files;
+mod instead;
+pub mod laws;
 mod left;
+mod meanwhile;
 mod noted;
 mod refusal;
 mod run;
+mod shared;
 mod staying;
 mod words;
 

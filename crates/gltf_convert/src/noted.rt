@@ -2,22 +2,22 @@
 //! in place of that one.
 ghost use Rattle.std.specs.Prelude.{◌≡◌};
 
-use crate::fallback::Instead;
+use crate::instead::{Instead, Own};
 use crate::left::{LeftOut, Looked, look_at};
 use gltf::{Name, NamedBytes, NamedFault};
-use serde_json::Value;
 use std::alloc::{AllocError, Global};
 
 /// A source, the paths of the files that it was asked for, and what is left out of the first one.
-/// Where that one has buffers without bytes, another is read in its place.
+/// Where that one leaves to its extensions what the loader needs, another is read in its place.
 #[derive(Drop)]
 pub struct Noted<'a, S: Drop> {
     source: S,
     base: &'a str,
     paths: Vec<String>,
     left: Option<LeftOut>,
+    owners: Vec<usize>,
     behind: bool,
-    bare: Option<Value>,
+    own: Option<Own>,
 }
 
 impl<'a, S: Drop> Noted<'a, S> {
@@ -28,8 +28,9 @@ impl<'a, S: Drop> Noted<'a, S> {
             base,
             paths: Vec::new(alloc),
             left: None,
+            owners: Vec::new(alloc),
             behind: false,
-            bare: None,
+            own: None,
         }
     }
 
@@ -54,12 +55,17 @@ impl<'a, S: Drop> Noted<'a, S> {
     fn look(&mut self, alloc: Global, bytes: Vec<u8>) -> Result<Vec<u8>, AllocError>
         ensures { self.new.source ≡ self.old.source }
     {
-        let Looked { left, instead } = look_at(alloc, &bytes, self.behind)?;
+        let Looked {
+            left,
+            owners,
+            instead,
+        } = look_at(alloc, &bytes, self.behind)?;
         self.left = Some(left);
-        let Some(Instead { bytes, document }) = instead else {
+        self.owners = owners;
+        let Some(Instead { bytes, own }) = instead else {
             return Ok(bytes);
         };
-        self.bare = Some(document);
+        self.own = Some(own);
         Ok(bytes)
     }
 }
@@ -87,7 +93,7 @@ impl<'a, S: NamedBytes + Drop> NamedBytes for Noted<'a, S> {
 }
 
 /// A source that keeps the paths of the files that it was asked for, what is left out of the first
-/// one, and its document where another file was read in its place.
+/// one, and that one where another file was read in its place.
 pub trait Notes: NamedBytes {
     /// These paths.
     fn paths(&self) -> &[String];
@@ -95,11 +101,14 @@ pub trait Notes: NamedBytes {
     /// What is left out.
     fn left(&self) -> LeftOut;
 
+    /// For each image of the first file the one that owns its file.
+    fn owners(&self) -> &[usize];
+
     /// From now on, buffers become one.
     fn join(&mut self);
 
-    /// The document of the first file, where another was read in its place.
-    fn bare(&self) -> Option<&Value>;
+    /// The first file, where another was read in its place.
+    fn own(&self) -> Option<&Own>;
 }
 
 impl<'a, S: NamedBytes + Drop> Notes for Noted<'a, S> {
@@ -111,12 +120,16 @@ impl<'a, S: NamedBytes + Drop> Notes for Noted<'a, S> {
         self.left.unwrap_or_default()
     }
 
+    fn owners(&self) -> &[usize] {
+        &self.owners
+    }
+
     fn join(&mut self) {
         self.behind = true;
     }
 
-    fn bare(&self) -> Option<&Value> {
-        self.bare.as_ref()
+    fn own(&self) -> Option<&Own> {
+        self.own.as_ref()
     }
 }
 

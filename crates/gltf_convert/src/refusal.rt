@@ -22,6 +22,9 @@ A buffer that one of these two calls a fallback, and to whose bytes nothing lead
 writes it, stays as it is, in OUT.glb behind the one that has bytes. So do the views in it: what
 they are compressed to moves. Only a reader that knows the compression takes such a file.
 
+A texture without a source, in a file that has images, and a channel whose target names no node, in
+one that has nodes, are left to an extension: they stay as they are.
+
 Where the object of an extension has a member buffer, buffers, uri or uris, but for that buffer, it
 names what is not moved, and nothing is written. With --keep-unknown it is written as it stands, and
 a line on standard error says where.
@@ -34,8 +37,9 @@ KTX2, AVIF and DDS whose files begin so. Where there is none, nothing is written
 OUT.gltf is JSON text. The bytes of its buffers go to OUT.bin, or to OUT0.bin and so on where
 there are several, and those of each image, in a view or with a URI, to OUT_image0.png and so on,
 by its index. The name ends in .png, .jpg, .webp, .ktx2, .avif or .dds where the bytes begin so,
-or else the mimeType says so, and in .bin where neither does. With --pretty the text has line
-breaks and two spaces a step.
+or else the mimeType says so, and in .bin where neither does. Images that name one view, or without
+a view one URI, have one file, that of the first, where its name ends alike. With --pretty the text
+has line breaks and two spaces a step.
 
 The bytes of images in views are in the files of buffers too. With --drop-image-views the views at
 the end of the list go that images name, and that no accessor names. All views stay where the file
@@ -64,6 +68,11 @@ is what it was before, and the new ones are removed. Where a new file cannot tak
 before it have theirs, and the others are removed. Where the program is stopped, or a new file
 cannot be removed, it is left behind with a part of the bytes; the program writes to no such file
 that is there already.
+
+Where an OUT.gltf is there already, the old text never stands beside new files: these have their
+names with .next behind them first, and a text that names those is put to OUT.gltf. Then they take
+their names, and the text its own. Where the program is stopped between, or one cannot take its
+name, the text that stands there and the files that it names are whole.
 
 No file beside OUT.gltf is written over that is there already, but those that an earlier OUT.gltf
 names: nothing is written then. With --force it is, unless it is IN or a file that IN needs, which

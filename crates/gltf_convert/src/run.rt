@@ -1,19 +1,21 @@
 //! The engine of the program, over any files and any two writers.
 use crate::beside::spare;
 use crate::elsewhere::look;
-use crate::fallback::{whole_container, whole_pieces};
+use crate::files::files_of;
+use crate::instead::{whole_container, whole_pieces};
+use crate::meanwhile::text_meanwhile;
 use crate::noted::Notes;
 use crate::refusal::Refusal;
+use crate::shared::{distinct, with_shared_files};
 use crate::staying::{staying, tell};
 use crate::words::{Conversion, Form, request};
-use gltf::{base_of, text_and_blob};
+use gltf::text_and_blob;
 use gltf_bundle::{BundleError, BundleOptions, bundle_with};
-use gltf_detach::Part;
-use gltf_put::{put, put_all};
+use gltf_put::{Output, file_at, put, put_all, replace_all};
 use gltf_required::Required;
 use gltf_split::{Pieces, SplitOptions, split_with};
 use serde_json::Value;
-use std::alloc::{AllocError, Global};
+use std::alloc::Global;
 use std::io::{self, Write};
 use std::rt::Files;
 
@@ -69,7 +71,7 @@ fn answer<'w, S: Notes, O: Write, E: Write>(
     let asked = request(words)?;
     match asked.form {
         Form::Container => write_container(rt, source, &asked, out, err),
-        Form::Text(stem) => write_text(rt, source, &asked, stem, out, err),
+        Form::Text { base, stem } => write_text(rt, source, &asked, base, stem, out, err),
     }
 }
 
@@ -88,8 +90,8 @@ fn write_container<'w, S: Notes, O: Write, E: Write>(
     };
     source.join();
     let bytes = bundle_with(alloc, source, asked.from, &options, &Required::All)?;
-    let bytes = match source.bare() {
-        Some(from) => whole_container(alloc, &bytes, from)?,
+    let bytes = match source.own() {
+        Some(own) => whole_container(alloc, &bytes, own)?,
         None => bytes,
     };
     look_at_container(alloc, asked, &bytes, err)?;
@@ -115,11 +117,13 @@ fn look_at_container<'w, E: Write>(
     Ok(())
 }
 
-/// Writes JSON text with files beside it. The stem is the name of the text without its ending.
+/// Writes JSON text with files beside it. The base are the folders of its path, and the stem is its
+/// name without its ending.
 fn write_text<'w, S: Notes, O: Write, E: Write>(
     rt: &(impl Files + AllocGlobal),
     source: &mut S,
     asked: &Conversion<'w>,
+    base: &str,
     stem: &str,
     out: &mut O,
     err: &mut E,
@@ -132,52 +136,75 @@ fn write_text<'w, S: Notes, O: Write, E: Write>(
         pretty: asked.pretty,
     };
     let split = split_with(alloc, source, asked.from, stem, &options, &Required::All)?;
-    let split = match source.bare() {
-        Some(from) => whole_pieces(alloc, split, from, asked.pretty)?,
+    let split = match source.own() {
+        Some(own) => whole_pieces(alloc, split, own, asked.pretty)?,
         None => split,
     };
+    let split = with_shared_files(alloc, split, source.owners(), asked.pretty)?;
+    let files = distinct(alloc, files_of(alloc, &split, base, asked.to)?)?;
     let document = document_of(alloc, split.json.as_bytes())?;
-    write_split(rt, source, asked, &split, &document, out, err)
+    let written = Written {
+        split: &split,
+        files,
+        document,
+    };
+    look_at_text(rt, source, asked, &written, err)?;
+    write_files(rt, source, asked, &written, out, err)
 }
 
-/// Writes these files, where the text does not name others itself.
-fn write_split<'w, S: Notes, O: Write, E: Write>(
+/// What is written: a text and its files.
+#[derive(Drop)]
+struct Written<'s> {
+    /// The text and the files.
+    split: &'s Pieces,
+    /// Each with its path, the text last.
+    files: Vec<Output<'s>>,
+    /// The value of the text.
+    document: Value,
+}
+
+/// Looks at what a text names itself and at what stands where its files go, and says which images
+/// stay.
+fn look_at_text<'w, S: Notes, E: Write>(
     rt: &(impl Files + AllocGlobal),
-    source: &mut S,
+    source: &S,
     asked: &Conversion<'w>,
-    split: &Pieces,
-    document: &Value,
-    out: &mut O,
+    written: &Written<'_>,
     err: &mut E,
 ) -> Result<(), Refusal<'w>> {
     let alloc = rt.alloc();
+    let document = &written.document;
     look(alloc, asked, document, err)?;
-    let staying = staying(alloc, document, &split.images)?;
-    let paths = paths_of(alloc, split, base_of(asked.to))?;
-    spare(rt, asked, source.paths(), &staying, &paths)?;
+    let staying = staying(alloc, document, &written.split.images)?;
+    spare(rt, asked, source.paths(), &staying, &written.files)?;
     tell(asked, &staying, err);
-    write_files(rt, source, asked, split, &paths, out, err)
+    Ok(())
 }
 
-/// Writes these files at their paths, which may be written over.
+/// Writes these files, which may be written over.
 fn write_files<'w, S: Notes, O: Write, E: Write>(
     rt: &(impl Files + AllocGlobal),
-    source: &mut S,
+    source: &S,
     asked: &Conversion<'w>,
-    split: &Pieces,
-    paths: &[String],
+    written: &Written<'_>,
     out: &mut O,
     err: &mut E,
 ) -> Result<(), Refusal<'w>> {
     let alloc = rt.alloc();
-    let files = files_of(alloc, split, paths, asked.to)?;
-    if let Err(fault) = put_all(rt, &files) {
+    let files = written.files.as_slice();
+    let done = if file_at(rt, asked.to).is_some() {
+        let text = text_meanwhile(alloc, &written.document, &written.split.images)?;
+        replace_all(rt, files, text.as_bytes())
+    } else {
+        put_all(rt, files)
+    };
+    if let Err(fault) = done {
         return Err(Refusal::Files(format!(in alloc; "{fault}")?));
     }
     // Where this write fails, the files are converted all the same.
     let _ = source.left().tell(asked, err);
-    for file in &files {
-        report_file(out, file.0, file.1.len())?;
+    for file in files {
+        report_file(out, file.path.as_str(), file.bytes.len())?;
     }
     Ok(())
 }
@@ -196,45 +223,4 @@ fn report_file<'w, O: Write>(out: &mut O, name: &str, length: usize) -> Result<(
         Ok(()) => Ok(()),
         Err(cause) => Err(Refusal::Line(cause)),
     }
-}
-
-/// The paths of the files beside the text, in its folder: those of buffers, then those of images.
-fn paths_of(alloc: Global, split: &Pieces, base: &str) -> Result<Vec<String>, AllocError> {
-    let mut paths = Vec::new(alloc);
-    for part in &split.buffers {
-        add_path(alloc, &mut paths, base, part)?;
-    }
-    for part in split.images.iter().flatten() {
-        add_path(alloc, &mut paths, base, part)?;
-    }
-    Ok(paths)
-}
-
-/// One path more.
-fn add_path(
-    alloc: Global,
-    paths: &mut Vec<String>,
-    base: &str,
-    part: &Part,
-) -> Result<(), AllocError> {
-    let mut path = String::from_str(alloc, base)?;
-    path.push_str(part.name.as_str())?;
-    paths.push(path)?;
-    Ok(())
-}
-
-/// Each file by its path, the text last.
-fn files_of<'s>(
-    alloc: Global,
-    split: &'s Pieces,
-    paths: &'s [String],
-    to: &'s str,
-) -> Result<Vec<(&'s str, &'s [u8])>, AllocError> {
-    let mut files = Vec::with_capacity(alloc, paths.len())?;
-    let parts = split.buffers.iter().chain(split.images.iter().flatten());
-    for (path, part) in paths.iter().zip(parts) {
-        files.push((path.as_str(), part.bytes.as_slice()))?;
-    }
-    files.push((to, split.json.as_bytes()))?;
-    Ok(files)
 }

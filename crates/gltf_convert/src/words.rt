@@ -1,5 +1,10 @@
 //! What the words ask for.
+ghost use Rattle.std.specs.Prelude.{◌≡◌, MatchResult};
+ghost use Rattle.gltf_convert.specs.Forms.{IsForm, HasNoForm};
+ghost use Rattle.gltf_convert.specs.declared.refusal.Refusal.TheVariants.{Ending};
+
 use crate::refusal::Refusal;
+use gltf::base_of;
 use std::mem::replace;
 
 /// What is written.
@@ -7,8 +12,13 @@ use std::mem::replace;
 pub(crate) enum Form<'w> {
     /// One GLB container.
     Container,
-    /// JSON text with files beside it, whose names begin with this.
-    Text(&'w str),
+    /// JSON text with files beside it.
+    Text {
+        /// The folders of its path.
+        base: &'w str,
+        /// Its name without the ending, with which the names of its files begin.
+        stem: &'w str,
+    },
 }
 
 /// What the words ask for.
@@ -106,16 +116,20 @@ fn flags_of<'w>(words: &[&'w str]) -> Result<Flags, Refusal<'w>> {
 }
 
 /// What a name of this ending is written as. A text's files are named after it.
-fn form_of<'w>(to: &'w str) -> Result<Form<'w>, Refusal<'w>> {
+fn form_of<'w>(to: &'w str) -> Result<Form<'w>, Refusal<'w>>
+    ensures { MatchResult result (λ form. IsForm to.now form)
+        (λ e. (e ≡ Ending to.entry) × HasNoForm to.now) }
+{
     if to.ends_with(".glb") {
         return Ok(Form::Container);
     }
-    let name = match to.rsplit_once('/') {
-        Some((_, name)) => name,
-        None => to,
+    let Some(front) = to.strip_suffix(".gltf") else {
+        return Err(Refusal::Ending(to));
     };
-    match name.strip_suffix(".gltf") {
-        Some("") | None => Err(Refusal::Ending(to)),
-        Some(stem) => Ok(Form::Text(stem)),
+    let base = base_of(front);
+    match front.strip_prefix(base) {
+        Some(stem) if stem.is_empty() => Err(Refusal::Ending(to)),
+        Some(stem) => Ok(Form::Text { base, stem }),
+        None => Err(Refusal::Ending(to)),
     }
 }

@@ -1,4 +1,5 @@
--- Lists of values beside the items that they are seen as, and buffers that have no bytes, one by one.
+-- Lists of values beside the items that they are seen as, and buffers that have no bytes, one by
+-- one.
 use Rattle.std.proofs.Common.{◌≡◌, ℕ, ◌+◌, ◌<◌, List, length, drop, get_or, Bool, true, false}
 use Rattle.std.proofs.Common.{refl, sym, ap, map, ◌∙◌, [], ◌∷◌, ◌++◌}
 use Rattle.std.proofs.lemmas.List.{drop_more}

@@ -1,6 +1,6 @@
 -- Buffers that have no bytes: those of the views that are compressed, for readers that do not know
--- the compression (EXT_meshopt_compression and KHR_meshopt_compression, "Fallback Buffers"; glTF 2.0,
--- sections 3.12, 5.10 and 5.11).
+-- the compression (EXT_meshopt_compression and KHR_meshopt_compression, "Fallback Buffers"; glTF
+-- 2.0, sections 3.12, 5.10 and 5.11).
 use Rattle.std.specs.Prelude.{ℕ, ◌+◌, List, [], ◌∷◌, Option, Some, None, Bool, false, codes}
 use Rattle.std.specs.Prelude.{option_and_then, slice_get, not, if◌then◌else◌, ◌&&◌, ◌||◌}
 use Rattle.std.specs.Option.{is_some}
@@ -49,7 +49,8 @@ seats behind n (item d ds) =
 
 -- that of the one that a view names
 abbrev pub seat_of : List (Option ℕ) → Data → Option ℕ
-seat_of all d = option_and_then (λ o. o) (option_and_then (slice_get all) (size_at (codes "buffer") d))
+seat_of all d =
+    option_and_then (λ o. o) (option_and_then (slice_get all) (size_at (codes "buffer") d))
 
 -- those buffers
 abbrev pub bare_of : Items → Items

@@ -1,2 +1,3 @@
 pub mod Bare
 pub mod Lifted
+pub mod Records

@@ -1,5 +1,6 @@
--- A document in which a view whose buffer has no bytes is what it is compressed to, and the same with
--- its views as they were (EXT_meshopt_compression and KHR_meshopt_compression, "Fallback Buffers").
+-- A document in which a view whose buffer has no bytes is what it is compressed to, and the same
+-- with its views as they were (EXT_meshopt_compression and KHR_meshopt_compression, "Fallback
+-- Buffers").
 use Rattle.std.specs.Prelude.{ℕ, List, Option, Some, None, Bool, codes, option_map, unwrap_or}
 use Rattle.std.specs.Prelude.{if◌then◌else◌}
 use Rattle.serde_json.specs.Data.{Data, string, array, object, no_members, member}
@@ -69,7 +70,8 @@ lifted behind d =
 -- what was kept; extensions are those of now
 abbrev pub lowered_view : Data → Data
 lowered_view d =
-    unwrap_or (option_map (with_some (codes "extensions") (get (codes "extensions") d)) (get own d)) d
+    unwrap_or
+    (option_map (with_some (codes "extensions") (get (codes "extensions") d)) (get own d)) d
 
 abbrev pub lowered_buffer : Data → Data
 lowered_buffer d = unwrap_or (get own d) d
@@ -82,4 +84,5 @@ lowered d =
 abbrev pub with_bare : Data → Data → Data
 with_bare from d =
     with_member (codes "buffers")
-    (array (with_items (items_at (codes "buffers") d) (bare_of (items_at (codes "buffers") from)))) d
+    (array
+    (with_items (items_at (codes "buffers") d) (bare_of (items_at (codes "buffers") from)))) d

@@ -48,7 +48,7 @@ pub(crate) fn said_at<'a>(of: &'a Value, name: &str) -> Option<&'a Value>
 }
 
 /// A member that is there, and not null.
-fn member_at<'a>(value: &'a Value, name: &str) -> Option<&'a Value>
+pub(crate) fn member_at<'a>(value: &'a Value, name: &str) -> Option<&'a Value>
     ensures { option_map (λ v. view v.now) result ≡ member_at name.now (view value.now) }
 {
     match value.get(name) {
