@@ -7,6 +7,7 @@ pub mod Taken
 pub mod Uris
 pub mod Imported
 pub mod Shown
+pub mod Viewed
 pub mod Fixed
 pub mod Again
 pub mod Twice

@@ -6,10 +6,8 @@ use Rattle.std.proofs.Common.{Global, string_bytes, Ok}
 use Rattle.std.specs.Prelude.{MatchOption, option_and_then, slice_get}
 use Rattle.serde_json.specs.Data.{Data, null, boolean, number, string, array, object, Items}
 use Rattle.serde_json.specs.Data.{no_items, item}
-use Rattle.serde_json.specs.Find.{get, get_item, as_array, as_str, as_number, as_u64}
-use Rattle.gltf_json_record.specs.Items.{AllRead}
+use Rattle.serde_json.specs.Find.{get, get_item, as_array, as_str}
 use Rattle.gltf_json_record.specs.Member.{unless_null}
-use Rattle.gltf_json_record.specs.Scalars.{as_n32}
 use Rattle.gltf_json.specs.Documents.{root}
 use Rattle.gltf_json_scene.specs.Images.{image}
 use Rattle.gltf_json_scene.specs.declared.image.Image.{Image}
@@ -17,6 +15,7 @@ use Rattle.gltf_edit.specs.Bundled.{size_at}
 use Rattle.gltf_edit.specs.Embedded.{seats, own_uri, own_uri_at}
 use Rattle.gltf_edit.specs.declared.picture.Picture.{Picture}
 use Rattle.gltf_moved.specs.Images.{IsInView, ShowsImages as MovedShows, seats_before}
+use Rattle.gltf_moved.specs.RowLaws.{optional_index, comes_from}
 use Rattle.gltf_glb.specs.Laws.{ReadsBack}
 use Rattle.gltf.specs.Laws.{OneTextAndBlob}
 use Rattle.gltf_pack.specs.Laws.{SpacesBehind}
@@ -29,41 +28,6 @@ use Rattle.gltf_bundle.specs.declared.options.Keep.TheVariants.{Nothing}
 use Rattle.gltf_names.specs.Named.{Named}
 use Rattle.gltf_bundle.specs.Media.{media_of}
 use Rattle.gltf_bundle.proofs.Imported.{is_moved, the_buffers}
-use Rattle.gltf_bundle.proofs.Uris.{ReadsImages}
-
--- ---- what an image is read of
-
-record ReadOf (x : Image) (ds : Items) (i : ℕ) : Type 0 where
-  value : Data
-  there : get_item i ds ≡ Some value
-  reads : image.is value x
-
-read_of : (ds : Items) (xs : List Image) (i : ℕ) (x : Image) → AllRead image.is ds xs
-    → slice_get xs i ≡ Some x → ReadOf x ds i
-read_of no_items [] i x is there = cc
-read_of no_items (y ∷ xs) i x is there = absurd is
-read_of (item d ds) [] i x is there = cc
-read_of (item d ds) (y ∷ xs) zero x is there =
-    let same : y ≡ x = cc in
-    record { value = d; there = refl; reads = subst (λ y. image.is d y) same is.0 }
-read_of (item d ds) (y ∷ xs) (suc i) x is there =
-    let later = read_of ds xs i x is.1 there in
-    record { value = later.value; there = later.there; reads = later.reads }
-
-none_there : (xs : List Image) (i : ℕ) (x : Image) (ds : Items) → xs ≡ []
-    → slice_get xs i ≡ Some x → ReadOf x ds i
-none_there [] i x ds none there = cc
-none_there (y ∷ xs) i x ds none there = cc
-
-listed : (o : Option Data) (xs : List Image) (i : ℕ) (x : Image) → ReadsImages o xs
-    → slice_get xs i ≡ Some x → ReadOf x (unwrap_or (option_and_then as_array o) no_items) i
-listed None xs i x is there = none_there xs i x _ is there
-listed (Some null) xs i x is there = none_there xs i x _ is there
-listed (Some (boolean b)) xs i x is there = absurd is
-listed (Some (number n)) xs i x is there = absurd is
-listed (Some (string s)) xs i x is there = absurd is
-listed (Some (array ds)) xs i x is there = read_of ds xs i x is there
-listed (Some (object ms)) xs i x is there = absurd is
 
 -- ---- its texts
 
@@ -89,36 +53,17 @@ uri_read : (e : Data) (x : Image) → image.is e x
 unfolding image
 uri_read e x is = text_read (get (codes "uri") e) x.uri is.1.1.1.0
 
--- what names no view
-no_size_at : (o : Option Data) → option_and_then unless_null o ≡ None
-    → option_and_then as_u64 (option_and_then as_number o) ≡ None
-no_size_at None none = refl
-no_size_at (Some null) none = refl
-no_size_at (Some (boolean b)) none = cc
-no_size_at (Some (number n)) none = cc
-no_size_at (Some (string s)) none = cc
-no_size_at (Some (array ds)) none = cc
-no_size_at (Some (object ms)) none = cc
-
-absent : (o : Option Data) (f : Option ℕ) (P : Data → ℕ → Type 0)
-    → MatchOption o (f ≡ None) (λ e. MatchOption f ⊥ (P e)) → f ≡ None → o ≡ None
-absent None f P is none = refl
-absent (Some e) None P is none = absurd is
-absent (Some e) (Some n) P is none = cc
-
-no_view : (e : Data) (x : Image) → image.is e x → x.buffer_view ≡ None
-    → size_at (codes "bufferView") e ≡ None
+-- the view that it names
+pub view_read : (e : Data) (x : Image) → image.is e x
+    → size_at (codes "bufferView") e ≡ x.buffer_view
 unfolding image
-no_view e x is none =
-    no_size_at (get (codes "bufferView") e)
-    (absent (option_and_then unless_null (get (codes "bufferView") e)) x.buffer_view
-    (λ e n. as_n32 e ≡ Some n) is.1.0 none)
+view_read e x is = optional_index (codes "bufferView") e x.buffer_view is.1.0
 
 -- the URI by which it is read
 own_read : (e : Data) (x : Image) → image.is e x → x.buffer_view ≡ None
     → own_uri e ≡ option_map string_bytes x.uri
 own_read e x is none =
-    ap (λ (v : Option ℕ). own_uri_at v (text_at (codes "uri") e)) (no_view e x is none)
+    ap (λ (v : Option ℕ). own_uri_at v (text_at (codes "uri") e)) (view_read e x is ∙ none)
     ∙ uri_read e x is
 
 type_read : (e : Data) (x : Image) → image.is e x
@@ -197,18 +142,18 @@ shows_images one back spaces law required names path answer is over s others acc
     uri with_uri no_view_named =
     let value = is.value in
     let source = is.gathered.source in
-    let read = listed (get (codes "images") value) is.root_.images.items i x
+    let read = comes_from image.is (get (codes "images") value) is.root_.images.items i x
     source.records.1.1.1.1.1.1.1.0 there in
-    let e = read.value in
+    let e = read.from in
     let text = own_read e x read.reads no_view_named ∙ with_uri in
     let found = taken_at names e uri text
     (unwrap_or (option_and_then as_array (get (codes "images") value)) no_items) is.pictures
-    is.images is.lost i is.gathered.taken read.there in
+    is.images is.lost i is.gathered.taken read.listed in
     let picture = found.is_taken in
     let same : picture.uri ≡ uri = of_some (sym picture.there ∙ text) in
     let moved = is_moved one back spaces required names path Nothing answer is over s others
     accepted in
-    let view = law is.buffers is.images is.root_ s moved i e read.there found.picture found.has
+    let view = law is.buffers is.images is.root_ s moved i e read.listed found.picture found.has
     found.bytes
     found.given picture.long in
     record {

@@ -1,12 +1,14 @@
 -- Laws over the definitions.
 use Rattle.std.specs.Prelude.{◌≡◌, ◌↔◌, ◌++◌, ℕ, List, Option, Some, None, false, All}
-use Rattle.std.specs.Prelude.{◌≢◌}
+use Rattle.std.specs.Prelude.{◌≢◌, ◌+◌, ◌≤◌, length, take, drop}
 use Rattle.std.specs.Prelude.{Ok, option_map, string_bytes, slice_get}
 use Rattle.serde_json.specs.Written.{has_float}
 use Rattle.gltf_json.specs.declared.root.Root.{Root}
+use Rattle.gltf_json_geometry.specs.declared.buffer.View.{View}
 use Rattle.gltf_json_scene.specs.declared.image.Image.{Image}
 use Rattle.gltf_items.specs.declared.item.Item.{Ghosts}
 use Rattle.gltf_data.specs.Documents.{ReadsAt}
+use Rattle.gltf_data.specs.Parts.{view_at, view_offset}
 use Rattle.gltf_buffers.specs.Buffers.{IsMeant}
 use Rattle.gltf_names.specs.Named.{Named, File}
 use Rattle.gltf_buffers.specs.Names.{Names, Held}
@@ -70,6 +72,36 @@ ShowsImages =
     → (i : ℕ) (image : Image) → slice_get is.root_.images.items i ≡ Some image
     → (uri : List ℕ) → option_map string_bytes image.uri ≡ Some uri → image.buffer_view ≡ None
     → IsShown names uri (option_map string_bytes image.mime_type) others s i
+
+-- an image names a view of these buffers, which lies in its own and has these bytes
+pub record IsOfView (buffers : List (List ℕ)) (r : Root) (x : Image) (bytes : List ℕ) : Type 0
+  where
+    pub index : ℕ
+    pub names_view : x.buffer_view ≡ Some index
+    pub view : View
+    pub view_there : view_at r index ≡ Some view
+    pub whole : List ℕ
+    pub whole_there : slice_get buffers view.buffer ≡ Some whole
+    pub within : view_offset view + view.byte_length ≤ length whole
+    pub is_bytes : bytes ≡ take view.byte_length (drop (view_offset view) whole)
+
+-- it is still there: it names a view of the same bytes, and has the same media type
+pub record IsStill (buffers : List (List ℕ)) (s : Root) (x : Image) (bytes : List ℕ)
+    (after : Option Image) : Type 0 where
+  pub image : Image
+  pub there : after ≡ Some image
+  pub type : option_map string_bytes image.mime_type ≡ option_map string_bytes x.mime_type
+  pub of_view : IsOfView buffers s image bytes
+
+-- so is each image that names a view
+abbrev pub KeepsImages : Type 0
+KeepsImages =
+    (required : Required) (names : Names) (path : List ℕ) (keep : Keep) (answer : List ℕ)
+    (is : IsBundle required names path keep answer) (over : Names) (s : Root)
+    (others : List (List ℕ)) → IsRead over answer s others
+    → (i : ℕ) (x : Image) → slice_get is.root_.images.items i ≡ Some x
+    → (bytes : List ℕ) → IsOfView is.buffers is.root_ x bytes
+    → IsStill others s x bytes (slice_get s.images.items i)
 
 -- ---- once more
 

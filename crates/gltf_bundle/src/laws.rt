@@ -1,7 +1,7 @@
 //! Laws of bundles. Each is a statement over definitions, proved as the contract of a function that
 //! does nothing.
 ghost use Rattle.gltf_bundle.specs.Laws.{HasOneBuffer, NeedsNoFile, KeepsItems, ShowsImages};
-ghost use Rattle.gltf_bundle.specs.Laws.{BundlesAgain, LacksOnlyMemoryAgain};
+ghost use Rattle.gltf_bundle.specs.Laws.{KeepsImages, BundlesAgain, LacksOnlyMemoryAgain};
 
 use gltf::laws::one_text_and_blob;
 use gltf_glb::laws::reads_back;
@@ -51,6 +51,18 @@ pub fn images_are_shown()
     reads_back();
     spaces_behind();
     gltf_moved::laws::images_are_shown();
+}
+
+/// Each image of the file that names a view is, in a bundle, one that names a view of the same
+/// bytes, with the same media type.
+pub fn images_in_views_are_kept()
+    ensures { KeepsImages }
+{
+    one_text_and_blob();
+    reads_back();
+    spaces_behind();
+    gltf_moved::laws::images_stay();
+    gltf_moved::laws::views_are_kept();
 }
 
 /// A bundle that is bundled again has the same JSON value and the same binary buffer, and where the

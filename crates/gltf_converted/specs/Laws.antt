@@ -1,12 +1,14 @@
 -- What is read of files that are converted there and back (glTF 2.0, sections 3.6.1 and 3.6.2).
-use Rattle.std.specs.Prelude.{◌≡◌, ◌↔◌, ℕ, List, Option, Some, Bool, slice_get, string_bytes}
-use Rattle.std.specs.Prelude.{option_map}
+use Rattle.std.specs.Prelude.{◌≡◌, ◌≢◌, ◌↔◌, ℕ, List, Option, Some, None, Bool, Ok, slice_get}
+use Rattle.std.specs.Prelude.{option_map, string_bytes}
 use Rattle.gltf_json.specs.declared.root.Root.{Root}
 use Rattle.gltf_json_scene.specs.declared.image.Image.{Image}
 use Rattle.gltf_items.specs.declared.item.Item.{Ghosts}
 use Rattle.gltf_data.specs.Documents.{ReadsAt}
 use Rattle.gltf_names.specs.Named.{File}
+use Rattle.gltf_buffers.specs.Buffers.{IsMeant}
 use Rattle.gltf_buffers.specs.Names.{Names, Held}
+use Rattle.gltf_buffers.specs.Uri.{uri_of}
 use Rattle.gltf_required.specs.Import.{IsRead}
 use Rattle.gltf_required.specs.declared.required.Required.{Required}
 use Rattle.gltf_detach.specs.Naming.{uri_of_part}
@@ -14,9 +16,10 @@ use Rattle.gltf_detach.specs.declared.part.Part.{Part}
 use Rattle.gltf_detached.specs.Laws.{HoldsPart}
 use Rattle.gltf_moved.specs.Images.{IsInView}
 use Rattle.gltf_bundle.specs.Bundle.{IsBundle}
+use Rattle.gltf_bundle.specs.Laws.{IsOfView}
 use Rattle.gltf_bundle.specs.Media.{media_of}
 use Rattle.gltf_bundle.specs.declared.options.Keep.{Keep}
-use Rattle.gltf_bundle.specs.declared.options.Keep.TheVariants.{Nothing}
+use Rattle.gltf_bundle.specs.declared.options.Keep.TheVariants.{Nothing, Every}
 use Rattle.gltf_split.specs.Laws.{Holds, HoldsBuffers}
 use Rattle.gltf_split.specs.Splits.{IsSplit}
 use Rattle.gltf_split.specs.declared.splitting.Pieces.{Pieces}
@@ -75,3 +78,47 @@ KeepsImagesThere =
     → (i : ℕ) (p : Part) → slice_get set.images.items i ≡ Some (Some p) → HoldsPart there p
     → (x : Image) → slice_get is.root_.images.items i ≡ Some x
     → HasImage others s i x p
+
+-- a source has the bytes of all files of images
+abbrev pub HoldsImages : Holds → Pieces → Type 0
+HoldsImages there set =
+    (i : ℕ) (p : Part) → slice_get set.images.items i ≡ Some (Some p) → HoldsPart there p
+
+-- image i of s has a URI, which leads to these bytes, and this media type; it names no view
+pub record HasFile (there : Holds) (s : Root) (i : ℕ) (type : Option (List ℕ)) (bytes : List ℕ)
+    : Type 0 where
+  pub image : Image
+  pub is_there : slice_get s.images.items i ≡ Some image
+  pub uri : List ℕ
+  pub has_uri : option_map string_bytes image.uri ≡ Some uri
+  pub no_view : image.buffer_view ≡ None
+  pub meant : IsMeant (Held there) (uri_of uri) (Ok bytes)
+  pub type_ : option_map string_bytes image.mime_type ≡ type
+
+-- an image with this URI, in the file that a container is of, is image i of the set of it: with the
+-- bytes that the URI leads to there, and the media type that the container has for it
+pub record HasFileOfUri (names : Names) (uri : List ℕ) (own : Option (List ℕ)) (there : Holds)
+    (s : Root) (i : ℕ) : Type 0 where
+  pub bytes : List ℕ
+  pub media : List ℕ
+  pub meant : IsMeant names (uri_of uri) (Ok bytes)
+  pub is_media : media_of uri own bytes ≡ Some media
+  pub file : HasFile there s i (Some media) bytes
+
+-- where a source has a container, each image of the file that the container is of, in a view or with
+-- a URI alone, has in the set of it a file with the same bytes, whatever its text is read as over a
+-- source that has the files of images, unless images are kept
+abbrev pub KeepsImagesBack : Type 0
+KeepsImagesBack =
+    (required : Required) (names : Names) (path answer : List ℕ)
+    (is : IsBundle required names path Nothing answer) (from : Holds) (other : List ℕ)
+    → from (File other) ≡ Some answer
+    → (passing : Required) (stem : List ℕ) (kept : Keep) → kept ≢ Every → (drop : Bool)
+    (set : Pieces) → IsSplit passing (Held from) other stem kept drop set
+    → (there : Holds) → HoldsImages there set → (s : Root) (others : List (List ℕ))
+    → IsRead (Held there) (string_bytes set.json) s others
+    → (i : ℕ) (x : Image) → slice_get is.root_.images.items i ≡ Some x
+    → ((bytes : List ℕ) → IsOfView is.buffers is.root_ x bytes
+    → HasFile there s i (option_map string_bytes x.mime_type) bytes)
+    × ((uri : List ℕ) → option_map string_bytes x.uri ≡ Some uri → x.buffer_view ≡ None
+    → HasFileOfUri names uri (option_map string_bytes x.mime_type) there s i)

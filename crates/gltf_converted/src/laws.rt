@@ -1,6 +1,7 @@
 //! Laws of two conversions, one after the other. Each is a statement over definitions, proved as
 //! the contract of a function that does nothing.
 ghost use Rattle.gltf_converted.specs.Laws.{KeepsItemsThere, KeepsItemsBack, KeepsImagesThere};
+ghost use Rattle.gltf_converted.specs.Laws.{KeepsImagesBack};
 
 use gltf_items::Item;
 
@@ -29,4 +30,16 @@ pub fn images_are_kept_by_bundles()
 {
     gltf_split::laws::images_are_shown();
     gltf_bundle::laws::images_are_shown();
+}
+
+/// Where a file is bundled, and the container is split, each image of the file has in the set, over
+/// a source that has its files, a file of its own with the same bytes: one that names a view with
+/// the same media type, one with a URI alone with the media type that the container has for it.
+pub fn images_are_kept_by_sets()
+    ensures { KeepsImagesBack }
+{
+    gltf_bundle::laws::images_are_shown();
+    gltf_bundle::laws::images_in_views_are_kept();
+    gltf_split::laws::images_in_views_have_files();
+    gltf_split::laws::images_are_shown();
 }

@@ -33,7 +33,7 @@ use Rattle.gltf_edit.specs.declared.picture.Picture.{Picture}
 use Rattle.gltf_edit.specs.declared.span.Span.{Span}
 use Rattle.gltf_moved.specs.Images.{seats_before, ShowsImages}
 use Rattle.gltf_moved.specs.Laws.{one_list}
-use Rattle.gltf_moved.proofs.Sizes.{required_size, required_index, optional_size, optional_index}
+use Rattle.gltf_moved.specs.RowLaws.{required_size, required_index, optional_size, optional_index}
 use Rattle.gltf_moved.proofs.Views.{ReadsViews, views_after, size_of, size_is, of_some}
 
 -- ---- items by index

@@ -1,5 +1,4 @@
 pub mod Bytes
-pub mod Sizes
 pub mod Views
 pub mod Named
 pub mod Parts

@@ -8,7 +8,6 @@ use Rattle.serde_json.specs.Data.{Data, null, boolean, number, string, array, ob
 use Rattle.serde_json.specs.Data.{Items, no_items, item}
 use Rattle.serde_json.specs.Find.{get, get_item, as_object, as_str}
 use Rattle.gltf_json.specs.Documents.{root}
-use Rattle.gltf_json_record.specs.Items.{AllRead}
 use Rattle.gltf_json_record.specs.Kind.{Kind}
 use Rattle.gltf_json_record.specs.Extensions.{others_only}
 use Rattle.gltf_json_record.specs.Member.{unless_null}
@@ -25,25 +24,7 @@ use Rattle.gltf_edit.specs.EmbeddedLaws.{instead, embedded_images, get_without, 
 use Rattle.gltf_edit.specs.declared.picture.Picture.{Picture}
 use Rattle.gltf_moved.specs.Images.{picture_at, own_uri, left, KeepsImages}
 use Rattle.gltf_moved.proofs.Images.{ReadAt, read_at, ReadsImages, images_at, images_at_of}
-use Rattle.gltf_moved.proofs.Sizes.{optional_index}
-
--- what is read at an index comes from an item there
-record ComesFrom {T : Type 0} (P : Data → T → Type 0) (ds : Items) (x : T) (i : ℕ) : Type 0 where
-  from : Data
-  there : get_item i ds ≡ Some from
-  reads : P from x
-
-comes_from : {T : Type 0} (P : Data → T → Type 0) (ds : Items) (xs : List T) (i : ℕ) (x : T)
-    → AllRead P ds xs → slice_get xs i ≡ Some x → ComesFrom P ds x i
-comes_from P no_items [] i x is there = cc
-comes_from P no_items (y ∷ ys) i x is there = absurd is
-comes_from P (item d ds) [] i x is there = absurd is
-comes_from P (item d ds) (y ∷ ys) zero x is there =
-    let same : y ≡ x = cc in
-    record { from = d; there = refl; reads = subst (λ y. P d y) same is.0 }
-comes_from P (item d ds) (y ∷ ys) (suc i) x is there =
-    let later = comes_from P ds ys i x is.1 there in
-    record { from = later.from; there = later.there; reads = later.reads }
+use Rattle.gltf_moved.specs.RowLaws.{optional_index, comes_from}
 
 -- an item without a picture has no URI beside a view
 bare_at : (n : ℕ) (ps : List (Option Picture)) (ds : Items) (i : ℕ) (e : Data)
@@ -188,14 +169,14 @@ both_read (Some (boolean b)) ps n xs ys i x none there before after = absurd bef
 both_read (Some (number v)) ps n xs ys i x none there before after = absurd before
 both_read (Some (string s)) ps n xs ys i x none there before after = absurd before
 both_read (Some (array ds)) [] n xs ys i x none there before after =
-    let one = comes_from image.is ds xs i x before there in
+    let one = comes_from image.is (Some (array ds)) xs i x before there in
     record {
       value = one.from;
       before = one.reads;
       after = read_at image.is ds ys i one.from after one.there;
     }
 both_read (Some (array ds)) (q ∷ ps) n xs ys i x none there before after =
-    let one = comes_from image.is ds xs i x before there in
+    let one = comes_from image.is (Some (array ds)) xs i x before there in
     record {
       value = one.from;
       before = one.reads;

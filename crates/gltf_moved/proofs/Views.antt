@@ -21,7 +21,7 @@ use Rattle.gltf_edit.specs.EmbeddedLaws.{object_embedded, longer, longer_list, l
 use Rattle.gltf_edit.specs.EmbeddedLaws.{more_views}
 use Rattle.gltf_edit.specs.declared.picture.Picture.{Picture}
 use Rattle.gltf_edit.specs.declared.span.Span.{Span}
-use Rattle.gltf_moved.proofs.Sizes.{required_size, required_index, optional_size}
+use Rattle.gltf_moved.specs.RowLaws.{required_size, required_index, optional_size}
 
 -- w is the view v in the one buffer, where its own is among these
 pub record Moves (buffers images : List (List ℕ)) (v w : View) : Type 0 where

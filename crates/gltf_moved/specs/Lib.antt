@@ -1,3 +1,4 @@
 pub mod Laws
 pub mod Images
 pub mod Views
+pub mod RowLaws

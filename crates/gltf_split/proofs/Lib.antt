@@ -6,3 +6,4 @@ mod Refused
 mod Imported
 mod Items
 mod Apart
+mod Viewed

@@ -14,10 +14,12 @@ use Rattle.gltf_buffers.specs.Buffers.{IsMeant}
 use Rattle.gltf_buffers.specs.Names.{Names, Held}
 use Rattle.gltf_buffers.specs.Uri.{uri_of}
 use Rattle.gltf_required.specs.Import.{AcceptsAs, IsRead}
+use Rattle.gltf_bundle.specs.Laws.{IsOfView}
 use Rattle.gltf_required.specs.declared.required.Required.{Required}
 use Rattle.gltf_split.specs.Splits.{IsSplit, IsValidTextAs, bytes_of_parts, value_left}
 use Rattle.gltf_split.specs.declared.splitting.Pieces.{Pieces}
 use Rattle.gltf_bundle.specs.declared.options.Keep.{Keep}
+use Rattle.gltf_bundle.specs.declared.options.Keep.TheVariants.{Every}
 
 abbrev pub Holds : Type 0
 Holds = Named → Option (List ℕ)
@@ -90,6 +92,16 @@ ShowsImages =
     → IsRead (Held there) (string_bytes set.json) s others
     → (i : ℕ) (p : Part) → slice_get set.images.items i ≡ Some (Some p) → HoldsPart there p
     → (x : Image) → slice_get is.root_.images.items i ≡ Some x → IsShown there p x s i
+
+-- each image that names a view has a file of the bytes of its view, unless images are kept
+abbrev pub HasFiles : Type 0
+HasFiles =
+    (required : Required) (names : Names) (path stem : List ℕ) (keep : Keep) (drop : Bool)
+    (set : Pieces)
+    (is : IsSplit required names path stem keep drop set) → keep ≢ Every
+    → (i : ℕ) (x : Image) → slice_get is.root_.images.items i ≡ Some x
+    → (bytes : List ℕ) → IsOfView is.whole is.root_ x bytes
+    → (p : Part) × (slice_get set.images.items i ≡ Some (Some p)) × (p.bytes.items ≡ bytes)
 
 -- ---- names
 

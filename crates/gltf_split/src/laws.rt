@@ -1,7 +1,7 @@
 //! Laws of splits. Each is a statement over definitions, proved as the contract of a function that
 //! does nothing.
 ghost use Rattle.gltf_split.specs.Laws.{IsTakenOver, HasItsBuffers, KeepsItems, ShowsImages};
-ghost use Rattle.gltf_split.specs.Laws.{HasNamesApart};
+ghost use Rattle.gltf_split.specs.Laws.{HasFiles, HasNamesApart};
 
 use gltf_detached::laws::{
     buffers_are_named, files_are_read, images_are_named, uris_lead_to_names,
@@ -48,6 +48,12 @@ pub fn images_are_shown()
     uris_lead_to_names();
     documents_are_read();
 }
+
+/// Each image of the file that names a view, which lies in its buffer, has a file with the bytes of
+/// the view, unless images are kept.
+pub fn images_in_views_have_files()
+    ensures { HasFiles }
+{}
 
 /// No two files of a set have the same name, and none has that of the text, `STEM.gltf`.
 pub fn names_are_apart()

@@ -1,9 +1,12 @@
--- What a row of a table reads is what the edit of a document reads at the same name.
-use Rattle.std.proofs.Common.{◌≡◌, ℕ, ◌^◌, List, Option, Some, None, Bool, true, false, nat_lt}
-use Rattle.std.proofs.Common.{sym}
-use Rattle.std.specs.Prelude.{MatchOption, option_and_then, if◌then◌else◌}
-use Rattle.serde_json.specs.Data.{Data, null, boolean, number, string, array, object}
-use Rattle.serde_json.specs.Find.{get, as_number, as_u64}
+-- What a row of a table reads is what the edit of a document reads at the same name; what a list
+-- has at an index is read of the item there.
+use Rattle.std.proofs.Common.{◌≡◌, ℕ, zero, suc, ◌^◌, List, [], ◌∷◌, Option, Some, None, Bool, true}
+use Rattle.std.proofs.Common.{false, nat_lt, refl, sym, subst, unwrap_or}
+use Rattle.std.specs.Prelude.{MatchOption, option_and_then, slice_get, if◌then◌else◌}
+use Rattle.serde_json.specs.Data.{Data, null, boolean, number, string, array, object, Items}
+use Rattle.serde_json.specs.Data.{no_items, item}
+use Rattle.serde_json.specs.Find.{get, get_item, at, as_array, as_number, as_u64}
+use Rattle.gltf_json_record.specs.Items.{AllRead}
 use Rattle.gltf_json_record.specs.Member.{member_at, unless_null}
 use Rattle.gltf_json_record.specs.Scalars.{as_size, as_n32}
 use Rattle.gltf_edit.specs.Bundled.{size_at}
@@ -81,3 +84,45 @@ pub optional_index : (name : List ℕ) (d : Data) (f : Option ℕ)
     → MatchOption (member_at name d) (f ≡ None) (λ e. MatchOption f ⊥ (λ n. as_n32 e ≡ Some n))
     → size_at name d ≡ f
 optional_index name d f is = optional_size name d f (both (member_at name d) f is)
+
+-- ---- lists
+
+-- what a row reads as a list
+abbrev pub ReadsList : {T : Type 0} → (Data → T → Type 0) → Option Data → List T → Type 0
+ReadsList P o xs = MatchOption (option_and_then unless_null o) (xs ≡ [])
+    (λ e. MatchOption (as_array e) ⊥ (λ ds. AllRead P ds xs))
+
+-- what is read at an index comes from an item there
+pub record ComesFrom {T : Type 0} (P : Data → T → Type 0) (o : Option Data) (x : T) (i : ℕ)
+    : Type 0 where
+  pub from : Data
+  pub there : option_and_then (at i) o ≡ Some from
+  pub listed : get_item i (unwrap_or (option_and_then as_array o) no_items) ≡ Some from
+  pub reads : P from x
+
+item_of : {T : Type 0} (P : Data → T → Type 0) (ds : Items) (xs : List T) (i : ℕ) (x : T)
+    → AllRead P ds xs → slice_get xs i ≡ Some x
+    → (d : Data) × (get_item i ds ≡ Some d) × P d x
+item_of P no_items [] i x is there = cc
+item_of P no_items (y ∷ ys) i x is there = absurd is
+item_of P (item d ds) [] i x is there = cc
+item_of P (item d ds) (y ∷ ys) zero x is there =
+    let same : y ≡ x = cc in (d, refl, subst (λ y. P d y) same is.0)
+item_of P (item d ds) (y ∷ ys) (suc i) x is there = item_of P ds ys i x is.1 there
+
+none_there : {T : Type 0} (P : Data → T → Type 0) (o : Option Data) (xs : List T) (i : ℕ) (x : T)
+    → xs ≡ [] → slice_get xs i ≡ Some x → ComesFrom P o x i
+none_there P o [] i x none there = cc
+none_there P o (y ∷ ys) i x none there = cc
+
+pub comes_from : {T : Type 0} (P : Data → T → Type 0) (o : Option Data) (xs : List T) (i : ℕ)
+    (x : T) → ReadsList P o xs → slice_get xs i ≡ Some x → ComesFrom P o x i
+comes_from P None xs i x is there = none_there P None xs i x is there
+comes_from P (Some null) xs i x is there = none_there P (Some null) xs i x is there
+comes_from P (Some (boolean b)) xs i x is there = absurd is
+comes_from P (Some (number n)) xs i x is there = absurd is
+comes_from P (Some (string s)) xs i x is there = absurd is
+comes_from P (Some (array ds)) xs i x is there =
+    let found = item_of P ds xs i x is there in
+    record { from = found.0; there = found.1; listed = found.1; reads = found.2 }
+comes_from P (Some (object ms)) xs i x is there = absurd is
