@@ -1,0 +1,4 @@
+pub mod Puts
+pub mod Laws
+pub mod Left
+pub mod Edited
