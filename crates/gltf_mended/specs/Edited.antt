@@ -16,7 +16,8 @@ use Rattle.gltf_edit.specs.declared.picture.Picture.{Picture}
 use Rattle.gltf_edit.specs.declared.span.Span.{Span}
 use Rattle.gltf_mend.specs.Mended.{mended}
 use Rattle.gltf_mend.specs.declared.mends.Mends.{Mends}
-use Rattle.gltf_mended.specs.Laws.{IsLeft, LeavesPictures, LeavesBundles, LeavesPlaces, LeavesUris}
+use Rattle.gltf_mended.specs.Laws.{IsNotMended, LeavesPictures, LeavesBundles, LeavesPlaces}
+use Rattle.gltf_mended.specs.Laws.{LeavesUris}
 use Rattle.gltf_mended.specs.Left.{get_mended, put_mended}
 
 abbrev pub buffers : List ℕ
@@ -28,21 +29,21 @@ views = codes "bufferViews"
 abbrev pub images : List ℕ
 images = codes "images"
 
-pub buffers_left : IsLeft buffers
+pub buffers_left : IsNotMended buffers
 buffers_left = record {
   no_animations = differ buffers (codes "animations") refl;
   no_meshes = differ buffers (codes "meshes") refl;
   no_textures = differ buffers (codes "textures") refl;
 }
 
-pub views_left : IsLeft views
+pub views_left : IsNotMended views
 views_left = record {
   no_animations = differ views (codes "animations") refl;
   no_meshes = differ views (codes "meshes") refl;
   no_textures = differ views (codes "textures") refl;
 }
 
-pub images_left : IsLeft images
+pub images_left : IsNotMended images
 images_left = record {
   no_animations = differ images (codes "animations") refl;
   no_meshes = differ images (codes "meshes") refl;
@@ -96,7 +97,8 @@ pictures_left mends ps d =
     ∙ ap (with_some images image)
     (put_mended mends views views_left view (with_some buffers buffer d)
     ∙ ap (with_some views view) (put_mended mends buffers buffers_left buffer d))
-    ∙ ap (λ (o : Option Data). with_some images o (with_some views view (with_some buffers buffer e)))
+    ∙ ap (λ (o : Option Data).
+    with_some images o (with_some views view (with_some buffers buffer e)))
     (sym (images_same ps d e (same_views mends d) (same_images mends d)))
     ∙ ap (λ (o : Option Data). with_some images (images_after ps e)
     (with_some views o (with_some buffers buffer e)))
@@ -105,7 +107,8 @@ pictures_left mends ps d =
     (with_some views (list_after views (views_of n ps) e) (with_some buffers buffer e)))
     (sym (count_same buffers d e (same_buffers mends d)))
     ∙ ap (λ (o : Option Data). with_some images (images_after ps e)
-    (with_some views (list_after views (views_of (count_at buffers e) ps) e) (with_some buffers o e)))
+    (with_some views (list_after views (views_of (count_at buffers e) ps) e)
+    (with_some buffers o e)))
     (sym (list_same buffers (buffers_of ps) d e (same_buffers mends d)))
 
 pub bundles_left : LeavesBundles
@@ -122,7 +125,8 @@ bundles_left mends spans total d =
 
 pub places_left : LeavesPlaces
 places_left mends spans d placed =
-    subst (λ (o : Option Data). MatchOption o ⊤ (EachPlaced spans)) (sym (same_views mends d)) placed
+    subst (λ (o : Option Data). MatchOption o ⊤ (EachPlaced spans)) (sym (same_views mends d))
+    placed
 
 pub uris_left : LeavesUris
 uris_left mends us vs d =

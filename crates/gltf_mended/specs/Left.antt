@@ -1,8 +1,9 @@
 -- What mending leaves of a document: lemmas.
 use Rattle.std.proofs.Common.{◌≡◌, ℕ, List, Option, Bool, true, false, codes, refl, sym, ap, ◌∙◌}
 use Rattle.std.proofs.Common.{map, option_map, if◌then◌else◌}
-use Rattle.serde_json.specs.Data.{Data}
-use Rattle.serde_json.specs.Find.{get}
+use Rattle.std.specs.Prelude.{IsSome}
+use Rattle.serde_json.specs.Data.{Data, null, boolean, number, string, array, object}
+use Rattle.serde_json.specs.Find.{get, as_object}
 use Rattle.gltf_edit.specs.Bundled.{with_some, each_item}
 use Rattle.gltf_edit.specs.BundledLaws.{get_with_some_other, differ}
 use Rattle.gltf_mend.specs.Attributes.{with_attributes}
@@ -12,7 +13,7 @@ use Rattle.gltf_mend.specs.Mended.{mended, with_channels_mended, with_meshes_men
 use Rattle.gltf_mend.specs.Mended.{with_textures_mended}
 use Rattle.gltf_mend.specs.Textures.{with_source}
 use Rattle.gltf_mend.specs.declared.mends.Mends.{Mends}
-use Rattle.gltf_mended.specs.Laws.{IsLeft, LeavesMembers, LeavesEdits}
+use Rattle.gltf_mended.specs.Laws.{IsNotMended, LeavesMembers, LeavesEdits}
 use Rattle.gltf_mended.specs.Puts.{some_swap}
 
 -- ---- another member
@@ -39,17 +40,17 @@ of_mesh =
     each_item (changed (codes "primitives") (each_item (changed (codes "attributes")
     with_attributes)))
 
-get_channels : (b : Bool) (k : List ℕ) (d : Data) → IsLeft k
+get_channels : (b : Bool) (k : List ℕ) (d : Data) → IsNotMended k
     → get k (with_channels_mended b d) ≡ get k d
 get_channels true k d is = left_changed k (codes "animations") of_animation d is.no_animations
 get_channels false k d is = refl
 
-get_meshes : (b : Bool) (k : List ℕ) (d : Data) → IsLeft k
+get_meshes : (b : Bool) (k : List ℕ) (d : Data) → IsNotMended k
     → get k (with_meshes_mended b d) ≡ get k d
 get_meshes true k d is = left_changed k (codes "meshes") of_mesh d is.no_meshes
 get_meshes false k d is = refl
 
-get_textures : (names : List (List ℕ)) (k : List ℕ) (d : Data) → IsLeft k
+get_textures : (names : List (List ℕ)) (k : List ℕ) (d : Data) → IsNotMended k
     → get k (with_textures_mended names d) ≡ get k d
 get_textures names k d is =
     left_changed k (codes "textures") (each_item (with_source names)) d is.no_textures
@@ -62,17 +63,17 @@ get_mended mends k is d =
     ∙ get_meshes mends.skip_unknown_attributes k first is
     ∙ get_channels mends.skip_channels_without_node k d is
 
-put_channels : (b : Bool) (k : List ℕ) (o : Option Data) (d : Data) → IsLeft k
+put_channels : (b : Bool) (k : List ℕ) (o : Option Data) (d : Data) → IsNotMended k
     → with_channels_mended b (with_some k o d) ≡ with_some k o (with_channels_mended b d)
 put_channels true k o d is = put_changed k (codes "animations") of_animation o d is.no_animations
 put_channels false k o d is = refl
 
-put_meshes : (b : Bool) (k : List ℕ) (o : Option Data) (d : Data) → IsLeft k
+put_meshes : (b : Bool) (k : List ℕ) (o : Option Data) (d : Data) → IsNotMended k
     → with_meshes_mended b (with_some k o d) ≡ with_some k o (with_meshes_mended b d)
 put_meshes true k o d is = put_changed k (codes "meshes") of_mesh o d is.no_meshes
 put_meshes false k o d is = refl
 
-put_textures : (names : List (List ℕ)) (k : List ℕ) (o : Option Data) (d : Data) → IsLeft k
+put_textures : (names : List (List ℕ)) (k : List ℕ) (o : Option Data) (d : Data) → IsNotMended k
     → with_textures_mended names (with_some k o d) ≡ with_some k o (with_textures_mended names d)
 put_textures names k o d is =
     put_changed k (codes "textures") (each_item (with_source names)) o d is.no_textures
@@ -86,3 +87,34 @@ put_mended mends k is o d =
     (put_channels mends.skip_channels_without_node k o d is)
     ∙ ap (with_textures_mended names) (put_meshes mends.skip_unknown_attributes k o first is)
     ∙ put_textures names k o (with_meshes_mended mends.skip_unknown_attributes first) is
+
+-- ---- what is mended to an object is one
+
+object_changed : (k : List ℕ) (f : Data → Data) (d : Data) → IsSome (as_object (changed k f d))
+    → IsSome (as_object d)
+object_changed k f null is = is
+object_changed k f (boolean b) is = is
+object_changed k f (number n) is = is
+object_changed k f (string s) is = is
+object_changed k f (array ds) is = is
+object_changed k f (object ms) is = refl
+
+object_channels : (b : Bool) (d : Data) → IsSome (as_object (with_channels_mended b d))
+    → IsSome (as_object d)
+object_channels true d is = object_changed (codes "animations") of_animation d is
+object_channels false d is = is
+
+object_meshes : (b : Bool) (d : Data) → IsSome (as_object (with_meshes_mended b d))
+    → IsSome (as_object d)
+object_meshes true d is = object_changed (codes "meshes") of_mesh d is
+object_meshes false d is = is
+
+pub object_mended : (mends : Mends) (d : Data) → IsSome (as_object (mended mends d))
+    → IsSome (as_object d)
+object_mended mends d is =
+    let names = map (λ n. n.now) mends.texture_sources.now in
+    let first = with_channels_mended mends.skip_channels_without_node d in
+    let second = with_meshes_mended mends.skip_unknown_attributes first in
+    object_channels mends.skip_channels_without_node d
+    (object_meshes mends.skip_unknown_attributes first
+    (object_changed (codes "textures") (each_item (with_source names)) second is))

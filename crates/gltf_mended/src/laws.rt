@@ -2,6 +2,7 @@
 //! does nothing.
 ghost use Rattle.gltf_mended.specs.Laws.{LeavesMembers, LeavesEdits, LeavesPictures};
 ghost use Rattle.gltf_mended.specs.Laws.{LeavesBundles, LeavesPlaces, LeavesUris};
+ghost use Rattle.gltf_mended.specs.Laws.{LeavesWhole};
 
 /// A mended document has all members but its animations, meshes and textures as they were.
 pub fn members_are_left()
@@ -24,4 +25,10 @@ pub fn bundles_are_left()
 /// Buffers and images may have URIs before a document is mended, or behind.
 pub fn uris_are_left()
     ensures { LeavesUris }
+{}
+
+/// Where the records of a text are read as it stands, nothing of it is mended, unless the names of
+/// attributes are.
+pub fn what_is_read_is_left_whole()
+    ensures { LeavesWhole }
 {}
