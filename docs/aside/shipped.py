@@ -123,7 +123,7 @@ def holds(file, shown):
 
 
 def folders(words):
-    """The folders to look below; a package that is not there is told."""
+    """The folders to look below; a package that is not there is named."""
     if words:
         return [pathlib.Path(word) for word in words]
     for package, folder in PACKAGES.items():
