@@ -5,15 +5,14 @@ use Rattle.std.specs.Prelude.{MatchOption, option_and_then, ⊤}
 use Rattle.serde_json.specs.Data.{Data, array, Items, no_items, item}
 use Rattle.serde_json.specs.Events.{items_len}
 use Rattle.serde_json.specs.Find.{get, as_array}
-use Rattle.gltf_detach.specs.Detached.{all_elsewhere, detached, list_elsewhere}
+use Rattle.gltf_detach.specs.Detached.{all_elsewhere, list_elsewhere}
 use Rattle.gltf_detach.specs.declared.owner.Owner.TheVariants as owner
-use Rattle.gltf_edit.specs.Bundled.{with_some, bundled, buffers_after, views_after, one_buffer}
+use Rattle.gltf_edit.specs.Bundled.{with_some, buffers_after, views_after, one_buffer}
 use Rattle.gltf_edit.specs.Bundled.{each_item, moved, EachPlaced}
 use Rattle.gltf_edit.specs.BundledLaws.{differ}
-use Rattle.gltf_edit.specs.Embedded.{embedded, images_after, list_after, buffers_of, views_of}
+use Rattle.gltf_edit.specs.Embedded.{images_after, list_after, buffers_of, views_of}
 use Rattle.gltf_edit.specs.Embedded.{items_at, count_at, with_items, pictured_in}
 use Rattle.gltf_edit.specs.declared.picture.Picture.{Picture}
-use Rattle.gltf_edit.specs.declared.span.Span.{Span}
 use Rattle.gltf_mend.specs.Mended.{mended}
 use Rattle.gltf_mend.specs.declared.mends.Mends.{Mends}
 use Rattle.gltf_mended.specs.Laws.{IsNotMended, LeavesPictures, LeavesBundles, LeavesPlaces}

@@ -1,11 +1,11 @@
 -- What mending leaves of a document: lemmas.
 use Rattle.std.proofs.Common.{◌≡◌, ℕ, List, Option, Bool, true, false, codes, refl, sym, ap, ◌∙◌}
-use Rattle.std.proofs.Common.{map, option_map, if◌then◌else◌}
+use Rattle.std.proofs.Common.{map, option_map}
 use Rattle.std.specs.Prelude.{IsSome}
 use Rattle.serde_json.specs.Data.{Data, null, boolean, number, string, array, object}
 use Rattle.serde_json.specs.Find.{get, as_object}
 use Rattle.gltf_edit.specs.Bundled.{with_some, each_item}
-use Rattle.gltf_edit.specs.BundledLaws.{get_with_some_other, differ}
+use Rattle.gltf_edit.specs.BundledLaws.{get_with_some_other}
 use Rattle.gltf_mend.specs.Attributes.{with_attributes}
 use Rattle.gltf_mend.specs.Channels.{with_nodes}
 use Rattle.gltf_mend.specs.Edits.{changed}

@@ -2,7 +2,7 @@
 -- lemmas.
 use Rattle.std.proofs.Common.{◌≡◌, ℕ, List, Option, Some, None, Bool, true, false, refl, ap, subst, ◌∙◌}
 use Rattle.std.proofs.Common.{codes, map, option_map, if◌then◌else◌}
-use Rattle.std.specs.Prelude.{MatchOption, IsSome, ⊤, ◌&&◌, is_some, is_none, option_and_then}
+use Rattle.std.specs.Prelude.{MatchOption, ⊤, ◌&&◌, is_some, is_none, option_and_then}
 use Rattle.std.specs.Prelude.{unwrap_or}
 use Rattle.serde_json.specs.Data.{Data, null, boolean, number, string, array, object, Items}
 use Rattle.serde_json.specs.Data.{no_items, item, Members, put}
@@ -12,14 +12,12 @@ use Rattle.gltf_json_record.specs.Member.{member_at, unless_null}
 use Rattle.gltf_json_animation.specs.Animations.{animation, channel, target}
 use Rattle.gltf_json_scene.specs.Textures.{texture}
 use Rattle.gltf_json.specs.Documents.{root}
-use Rattle.gltf_json.specs.Reading.{Reads}
 use Rattle.gltf_edit.specs.Bundled.{with_some, mapped, each_item, whole}
 use Rattle.gltf_mend.specs.Channels.{kept, lacks_node, names_no_node, with_nodes}
 use Rattle.gltf_mend.specs.Edits.{changed}
-use Rattle.gltf_mend.specs.Mended.{mended, with_channels_mended, with_meshes_mended}
+use Rattle.gltf_mend.specs.Mended.{with_channels_mended, with_meshes_mended}
 use Rattle.gltf_mend.specs.Mended.{with_textures_mended}
 use Rattle.gltf_mend.specs.Textures.{first_source, with_source}
-use Rattle.gltf_mend.specs.declared.mends.Mends.{Mends}
 use Rattle.gltf_mended.specs.Laws.{LeavesWhole}
 use Rattle.gltf_mended.specs.Ordered.{IsOrdered, AreOrdered, InOrder, put_back, get_ordered}
 use Rattle.gltf_mended.specs.Ordered.{read_ordered}
