@@ -62,7 +62,7 @@ CRATES = {
         ("two files/square data.bin",),
     ),
     "gltf_caller_cases": (
-        "users options bytes nothing types".split(),
+        "users options bytes components nothing types".split(),
         ("two files/square.gltf", "two files/square data.bin"),
     ),
     "gltf_extension_cases": ("extensions quantized mended lenient instances".split(), ()),

@@ -8,3 +8,9 @@ mod Written
 mod Counts
 mod Flattened
 mod Joined
+mod Bare
+mod Placed
+mod Mapped
+mod Taken
+mod Spaced
+mod Zeroed

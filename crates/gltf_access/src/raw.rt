@@ -9,6 +9,8 @@ ghost use Rattle.gltf_look.specs.Images.{image_handle};
 ghost use Rattle.gltf_access.specs.Raw.{shown, raw_bytes, raw_view, ViewFits, IsAnsweredIn};
 ghost use Rattle.gltf_access.specs.Raw.{IsLent, whole_part, part_view, IsRawPart, IsRawView};
 ghost use Rattle.gltf_access.specs.Raw.{image_view};
+ghost use Rattle.gltf_access.specs.Components.{spaced};
+ghost use Rattle.gltf_access.specs.Taken.{LiesIn, bytes_at};
 
 use gltf_data::accessor::Accessor;
 use gltf_data::buffer::{Buffer, View};
@@ -109,7 +111,7 @@ fn within<'s>(given: &'s [u8], view: View) -> Option<&'s [u8]>
 }
 
 /// The bytes of some items of a view, by one answer of the closure.
-fn part_bytes<'s, F: Fn(Buffer) -> Option<&'s [u8]>>(
+pub(crate) fn part_bytes<'s, F: Fn(Buffer) -> Option<&'s [u8]>>(
     view: View,
     offset: usize,
     count: usize,
@@ -144,7 +146,79 @@ fn items<'s>(
     ensures { let part = part_of (view_handle view.entry).json offset count size in
         SomeIff (option_map shown result) (Fits part given.now) (raw_bytes part given.now) }
 {
-    let stride = view.stride().unwrap_or(size);
+    cut(
+        given,
+        view,
+        offset,
+        count,
+        view.stride().unwrap_or(size),
+        size,
+    )
+}
+
+/// The bytes of some items of a view, by one answer of the closure. They are so many bytes apart
+/// where the view states no distance.
+pub(crate) fn spaced_bytes<'s, F: Fn(Buffer) -> Option<&'s [u8]>>(
+    view: View,
+    offset: usize,
+    count: usize,
+    size: usize,
+    apart: usize,
+    get_buffer_data: &F,
+) -> Option<Bytes<'s>>
+    requires callable { F.IsAlwaysCallable get_buffer_data.now }
+    requires some { 0 < apart }
+    ensures { let v = view_handle view.entry in
+        let part = Some (part_of (spaced apart v.json) offset count size) in
+        IsLent (λ b o. F.post get_buffer_data.now b o) v.document (part_view part)
+        (λ given. IsRawPart part given (option_map shown result)) }
+{
+    spaced_items(
+        ask(view, get_buffer_data)?,
+        view,
+        offset,
+        count,
+        size,
+        apart,
+    )
+}
+
+/// The same of the bytes that were answered.
+fn spaced_items<'s>(
+    given: &'s [u8],
+    view: View,
+    offset: usize,
+    count: usize,
+    size: usize,
+    apart: usize,
+) -> Option<Bytes<'s>>
+    requires { 0 < apart }
+    ensures { let part = part_of (spaced apart (view_handle view.entry).json) offset count size in
+        SomeIff (option_map shown result) (Fits part given.now) (raw_bytes part given.now) }
+{
+    cut(
+        given,
+        view,
+        offset,
+        count,
+        view.stride().unwrap_or(apart),
+        size,
+    )
+}
+
+/// Some items of a view at that distance, where they are all there and do not overlap.
+fn cut<'s>(
+    given: &'s [u8],
+    view: View,
+    offset: usize,
+    count: usize,
+    stride: usize,
+    size: usize,
+) -> Option<Bytes<'s>>
+    ensures { let v = (view_handle view.entry).json in
+        SomeIff (option_map shown result) (LiesIn v offset count stride size given.now)
+        (bytes_at v offset count stride size given.now) }
+{
     if count == 0 || stride < size {
         return None;
     }

@@ -34,14 +34,16 @@ fn of_records(alloc: Global, asked: Asked<'_>, line: &mut String) -> Written {
 
 /// Answers a call on a document of the given text.
 ///
-/// - `raw`, `view`, `image`, `flat`: bytes, as `raw` says.
+/// - `raw`, `view`, `image`, `flat`, `components`: bytes, as `raw` says.
 /// - `why`: why a reader read nothing, as `reasons` says.
 /// - `guide`: what the code of `docs/LIBRARY.md` answers, as `guide` says.
 /// - all others are as `uses` says.
 fn of_text(alloc: Global, asked: Asked<'_>, line: &mut String) -> Written {
     match &Gltf::from_slice(alloc, asked.given.as_bytes()) {
         Ok(file) => match asked.call {
-            "raw" | "view" | "image" | "flat" => raw::write(alloc, asked, &file.document, line),
+            "raw" | "view" | "image" | "flat" | "components" => {
+                raw::write(alloc, asked, &file.document, line)
+            }
             "why" => reasons::write(alloc, asked, &file.document, line),
             "guide" => guide::write(alloc, asked, &file.document, line),
             _ => uses::write(alloc, asked, file.document.as_json(), line),

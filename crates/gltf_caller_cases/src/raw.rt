@@ -2,7 +2,9 @@
 use crate::buffers::buffers_of;
 use gltf::buffer::{Data, bytes_of};
 use gltf::{Buffer, Document};
-use gltf_access::{Bytes, accessor_bytes, image_bytes, to_bytes, view_bytes};
+use gltf_access::{
+    Bytes, NotWritten, accessor_bytes, image_bytes, to_bytes, view_bytes, write_components,
+};
 use gltf_case::asked::Asked;
 use gltf_case::bytes::write_hex;
 use gltf_case::shown::Written;
@@ -12,6 +14,7 @@ use std::alloc::{AllocError, Global};
 ///
 /// - `raw`: of an accessor, where they lie, after their stride and their count.
 /// - `flat`: of its items, one after the other.
+/// - `components`: of their components, in a room of so many bytes, a second number says.
 /// - `view`, `image`: of a view and of an image.
 pub(crate) fn write(
     alloc: Global,
@@ -24,6 +27,12 @@ pub(crate) fn write(
         "raw" => write_raw(raw_of(document, asked.number(0), &buffers), line),
         "view" => write_bytes(view_of(document, asked.number(0), &buffers), line),
         "image" => write_bytes(image_of(document, asked.number(0), &buffers), line),
+        "components" => {
+            let mut room = Vec::new(alloc);
+            room.resize(asked.number(1), 0x5a)?;
+            let written = components_of(document, asked.number(0), &buffers, &mut room);
+            write_components_in(written, &room, line)
+        }
         _ => write_flat(flat_of(alloc, document, asked.number(0), &buffers)?, line),
     }
 }
@@ -41,6 +50,31 @@ fn view_of<'s>(document: &Document, index: usize, buffers: &'s [Data]) -> Option
 fn image_of<'s>(document: &Document, index: usize, buffers: &'s [Data]) -> Option<&'s [u8]> {
     let given = |buffer: Buffer| bytes_of(buffers, buffer);
     image_bytes(document.images().nth(index)?, &given)
+}
+
+fn components_of(
+    document: &Document,
+    index: usize,
+    buffers: &[Data],
+    room: &mut [u8],
+) -> Option<Result<usize, NotWritten>> {
+    let given = |buffer: Buffer| bytes_of(buffers, buffer);
+    let accessor = document.accessors().nth(index)?;
+    Some(write_components(accessor, &given, room))
+}
+
+/// Writes how many bytes were written, or why none, and the room.
+fn write_components_in(
+    written: Option<Result<usize, NotWritten>>,
+    room: &[u8],
+    line: &mut String,
+) -> Written {
+    match written {
+        Some(Ok(size)) => write!(line, "{size} ")?,
+        Some(Err(reason)) => write!(line, "{reason}: ")?,
+        None => line.push_str("none: ")?,
+    }
+    write_hex(room, line)
 }
 
 fn flat_of(
