@@ -126,12 +126,25 @@ static void make_accessor(model *m, size_t index)
     out->has_max = bounds_of(m, GLTF_ACCESSOR_MAX, index, out->max);
 }
 
+/* Puts the padding into items in which cgltf looks for it: each column of a matrix begins at a
+ * multiple of four bytes (3.6.2.4). */
+static void put_padding(unsigned char *out, const unsigned char *items, const gltf_accessor *in,
+                        size_t padded)
+{
+    size_t columns = !in->is_matrix ? 1 : in->components == 4 ? 2 : in->components == 9 ? 3 : 4;
+    size_t size = in->item_size / columns, step = padded / columns, i;
+    for (i = 0; i < in->count * columns; i++)
+        memcpy(out + i * step, items + i * size, size);
+}
+
 /* Gives a sparse accessor a buffer of its own with its items, once all buffers have their bytes. */
 static void make_sparse(model *m, size_t index)
 {
     cgltf_accessor *out = m->data.accessors + index;
     gltf_accessor in;
     gltf_status status;
+    size_t padded = cgltf_calc_size(out->type, out->component_type);
+    unsigned char *items;
     check(m, gltf_accessor_info(m->file, index, &in));
     if (in.sparse == 0)
         return;
@@ -139,14 +152,17 @@ static void make_sparse(model *m, size_t index)
         fail(m, cgltf_result_out_of_memory);
     out->buffer_view = NEW(m, cgltf_buffer_view, 1);
     out->buffer_view->buffer = NEW(m, cgltf_buffer, 1);
-    out->buffer_view->size = out->buffer_view->buffer->size = in.count * in.item_size;
-    out->buffer_view->buffer->data = allocate(m, in.count, in.item_size);
+    out->buffer_view->size = out->buffer_view->buffer->size = in.count * padded;
+    out->buffer_view->buffer->data = allocate(m, in.count, padded);
     out->offset = 0;
-    out->stride = in.item_size;
-    status = gltf_accessor_read(m->file, index, out->buffer_view->buffer->data,
-                                in.count * in.item_size);
+    out->stride = padded;
+    items = padded == in.item_size ? (unsigned char *)out->buffer_view->buffer->data
+        : NEW(m, unsigned char, in.count * in.item_size);
+    status = gltf_accessor_read(m->file, index, items, in.count * in.item_size);
     if (status != GLTF_SUCCESS)
         fail(m, cgltf_result_data_too_short);
+    if (padded != in.item_size)
+        put_padding((unsigned char *)out->buffer_view->buffer->data, items, &in, padded);
 }
 
 /* ---- Meshes. */

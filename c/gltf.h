@@ -41,7 +41,8 @@
  * left out. `*count` receives the length of the whole list. If `room` is 0, `out` may be NULL.
  *
  * Pointers to bytes (`bytes`, `data`) point into the file and are valid until gltf_close. One into
- * a buffer that waits is NULL, and one beside a `size` of 0 may be any. Do not write to them.
+ * a buffer that waits is NULL, also beside a `size` of 0. Beside a `size` of 0 in another buffer it
+ * may be any. Do not write to them.
  *
  * What a caller has to observe:
  *   1. A pointer may be NULL only where this header says so. A pointer and a size beside it are a
@@ -67,7 +68,7 @@
 #include <stddef.h>
 
 /* The version of this header: major * 10000 + minor * 100 + patch. */
-#define GLTF_VERSION 20100
+#define GLTF_VERSION 20200
 
 #if defined(__GNUC__) || defined(__clang__)
 #define GLTF_CHECKED __attribute__((warn_unused_result))
@@ -110,19 +111,23 @@ enum {
     GLTF_UNREADABLE = 13,        /* the accessor cannot be read: gltf_accessor_read says when */
     GLTF_NO_ROOM = 14,           /* the items do not fit into `out` */
     GLTF_OTHER_TYPE = 16,        /* the accessor's components are not of the type of this call */
-    GLTF_BAD_EXTENSION = 17      /* the extension has a member that is missing or of another kind,
+    GLTF_BAD_EXTENSION = 17,     /* the extension has a member that is missing or of another kind,
                                     an index out of range, or an unknown word */
+    GLTF_BAD_ARGUMENT = 18       /* the options have an unknown flag, or a reserved member that is
+                                    not 0 */
 };
 
 /* Why a file was not opened, or what gltf_variant_fault found. */
 typedef struct gltf_fault {
     gltf_status status;  /* what the call returned; of gltf_variant_fault GLTF_BAD_EXTENSION */
     unsigned int rules;  /* of GLTF_BROKEN_RULES the number of broken rules, or UINT_MAX; else 0 */
-    size_t buffer;       /* that of GLTF_SHORT_BUFFER or of a fault of gltf_load.h, or GLTF_NONE */
+    size_t buffer;       /* the buffer at fault, or GLTF_NONE: of GLTF_BAD_BASE64 to
+                            GLTF_UNSUPPORTED_SCHEME, and of a fault of gltf_load.h */
     size_t expected;     /* the byteLength of that buffer if it is GLTF_SHORT_BUFFER, else 0 */
-    size_t actual;       /* and the number of bytes that it has, in gltf_open with the zeros */
+    size_t actual;       /* and the number of bytes that there are, without zeros */
     size_t reserved[4];
-    char path[128];      /* where, if it is known: a JSON Pointer (RFC 6901) as `/nodes/0/mesh` */
+    char path[128];      /* where, if it is known: a JSON Pointer (RFC 6901) as `/nodes/0/mesh`;
+                            of a buffer `/buffers/N`, or `/buffers/N/uri` if that is at fault */
     char text[512];      /* what: a message for people, with all broken rules */
 } gltf_fault;            /* both texts are cut where they are too long, and end with a zero byte */
 
@@ -134,12 +139,13 @@ GLTF_API unsigned int gltf_version(void);
 
 /* Flags of gltf_open_options. */
 enum {
-    GLTF_EXTERNAL = 1 /* accept buffers in other files; gltf_give supplies their bytes */
+    GLTF_EXTERNAL = 1,     /* accept buffers in other files; gltf_give supplies their bytes */
+    GLTF_EXACT_LENGTHS = 2 /* zeros do not count as bytes of a buffer: see gltf_open */
 };
 
 /* What gltf_open accepts besides. Set a variable to { 0 } first, then the members that you need. */
 typedef struct gltf_open_options {
-    unsigned int flags;            /* GLTF_EXTERNAL or 0; other bits are ignored */
+    unsigned int flags;            /* GLTF_EXTERNAL | .. */
     unsigned int reserved_word;
     const char *const *extensions; /* names of extensions that you handle yourself, which a file may
                                       require then. Texts that end with a zero byte */
@@ -151,14 +157,17 @@ typedef struct gltf_open_options {
  * (2.8, 3.6.1, 4.4). `options` may be NULL. The library keeps copies, so `bytes` may be freed as
  * soon as the call returns.
  *
- * Returns GLTF_SUCCESS only if the container, the JSON text, the records, the rules and the buffers
- * are valid; if they are, it returns that or GLTF_NO_MEMORY, which says nothing about the file.
- * With GLTF_SUCCESS `*file` is the open file, and `*fault` is empty (`status` 0, `buffer`
- * GLTF_NONE). Else `*file` is NULL and `*fault` describes the first of these layers that is not
- * valid. The rules are that indices are in range, codes and attributes known, required members
- * there, and each required extension supported (see gltf_json) or one of `options->extensions`. The
- * buffers are valid if each has as many bytes as it declares, with zeros after them up to a
- * multiple of 4, so up to three may be missing; with GLTF_EXTERNAL those in other files wait. */
+ * If a flag is unknown or a reserved member of the options is not 0, it returns GLTF_BAD_ARGUMENT
+ * or GLTF_NO_MEMORY. Else it returns GLTF_SUCCESS only if the container, the JSON text, the
+ * records, the rules and the buffers are valid; if they are, it returns that or GLTF_NO_MEMORY,
+ * which says nothing about the file. With GLTF_SUCCESS `*file` is the open file, and `*fault` is
+ * empty (`status` 0, `buffer` GLTF_NONE). Else `*file` is NULL and `*fault` describes the first of
+ * these layers that is not valid. The rules are that indices are in range, codes and attributes
+ * known, required members there, and each required extension supported (see gltf_json) or one of
+ * `options->extensions`. The buffers are valid if each has as many bytes as it declares: with
+ * GLTF_EXACT_LENGTHS the bytes that are there, else these with zeros after them up to a multiple of
+ * 4, so that up to three may be missing. With GLTF_EXTERNAL buffers in other files wait, and
+ * gltf_give counts their bytes alike. */
 GLTF_API gltf_status gltf_open(const void *bytes, size_t size, const gltf_open_options *options,
                                gltf_file **file, gltf_fault *fault)
     GLTF_CHECKED GLTF_NONNULL((1, 4, 5));
@@ -176,7 +185,8 @@ GLTF_API gltf_status gltf_open_owned(void *bytes, size_t size, const gltf_open_o
 
 /* Supplies the bytes of a buffer that waits for them (`waits` of gltf_buffer). They are copied.
  * Returns GLTF_NO_SUCH_INDEX if there is no such buffer or it does not wait, GLTF_SHORT_BUFFER if
- * `size` is less than its byteLength, or GLTF_NO_MEMORY. If the call fails, nothing has changed. */
+ * these are not as many as it declares, as gltf_open with the same options counts them, or
+ * GLTF_NO_MEMORY. If the call fails, nothing has changed. */
 GLTF_API gltf_status gltf_give(gltf_file *file, size_t index, const void *bytes, size_t size)
     GLTF_CHECKED GLTF_NONNULL((3));
 
@@ -186,19 +196,9 @@ GLTF_API void gltf_close(gltf_file *file);
 /* ---- Calls for all kinds of records ---------------------------------------------------------- */
 
 enum {
-    GLTF_BUFFERS = 0,
-    GLTF_BUFFER_VIEWS = 1,
-    GLTF_ACCESSORS = 2,
-    GLTF_MESHES = 3,
-    GLTF_NODES = 4,
-    GLTF_MATERIALS = 5,
-    GLTF_SCENES = 6,
-    GLTF_SKINS = 7,
-    GLTF_ANIMATIONS = 8,
-    GLTF_IMAGES = 9,
-    GLTF_TEXTURES = 10,
-    GLTF_SAMPLERS = 11,
-    GLTF_CAMERAS = 12,
+    GLTF_BUFFERS = 0, GLTF_BUFFER_VIEWS = 1, GLTF_ACCESSORS = 2, GLTF_MESHES = 3, GLTF_NODES = 4,
+    GLTF_MATERIALS = 5, GLTF_SCENES = 6, GLTF_SKINS = 7, GLTF_ANIMATIONS = 8, GLTF_IMAGES = 9,
+    GLTF_TEXTURES = 10, GLTF_SAMPLERS = 11, GLTF_CAMERAS = 12,
     GLTF_LIGHTS = 13,              /* of KHR_lights_punctual */
     GLTF_VARIANTS = 14,            /* of KHR_materials_variants */
     GLTF_EXTENSIONS_USED = 15,     /* gltf_name copies the elements of these two lists */
@@ -287,7 +287,8 @@ typedef struct gltf_buffer_view {
     size_t byte_stride;  /* 0 if it is absent */
     unsigned int target; /* 34962 for vertices, 34963 for indices, 0 if it is absent */
     unsigned int reserved_word;
-    size_t reserved[2];
+    const unsigned char *bytes; /* NULL if the view is not inside its buffer, or the buffer waits */
+    size_t reserved[1];
 } gltf_buffer_view;
 
 GLTF_API gltf_status gltf_buffer_view_info(const gltf_file *file, size_t index,
@@ -305,7 +306,7 @@ enum { GLTF_I8 = 5120, GLTF_U8 = 5121, GLTF_I16 = 5122, GLTF_U16 = 5123, GLTF_U3
 typedef struct gltf_accessor {
     size_t count;                /* the number of items, as the file says: check it before you
                                     allocate memory for an accessor whose `data` is NULL */
-    size_t item_size;            /* bytes of one item without padding, 1 to 64 */
+    size_t item_size;            /* bytes of the components of one item, without padding: 1 to 64 */
     unsigned int component_type; /* GLTF_I8 .. GLTF_F32 */
     unsigned int components;     /* of one item: 1, 2, 3 or 4; of a matrix 4, 9 or 16, column by
                                     column */
@@ -314,8 +315,8 @@ typedef struct gltf_accessor {
     size_t sparse;               /* the count of its `sparse`, or 0 */
     size_t view;                 /* a buffer view, or GLTF_NONE */
     size_t byte_offset;          /* in that view */
-    size_t stride;               /* bytes from one item to the next in that view, its byteStride;
-                                    item_size if that is absent or 0 */
+    size_t stride;               /* bytes from one item to the next in that view, its byteStride; if
+                                    that is absent or 0, item_size and any padding (3.6.2.4) */
     const unsigned char *data;   /* the first item, or NULL */
     size_t reserved[4];
 } gltf_accessor;
@@ -323,21 +324,22 @@ typedef struct gltf_accessor {
 GLTF_API gltf_status gltf_accessor_info(const gltf_file *file, size_t index, gltf_accessor *out)
     GLTF_CHECKED GLTF_NONNULL((3));
 
-/* Copies all items to `out` without gaps, count * item_size bytes, with the sparse overrides
- * applied (3.6.2) as far as their indices increase, to zeros if there is no view. Padding inside
- * items (3.6.2.4) is not skipped. The rest of `out` is unchanged. Returns GLTF_UNREADABLE if there
- * is neither a view nor a sparse part, or if the items, sparse indices or sparse values have a
- * count of 0, are not inside their view, or have a view that is not inside its buffer or a
- * byteStride, not 0, less than their size; else GLTF_NO_ROOM if they are more than `room` bytes. A
- * buffer that waits has no bytes. */
+/* Copies the components of all items to `out` without gaps, count * item_size bytes, without the
+ * padding of columns (3.6.2.4), and with the sparse overrides applied (3.6.2.3) as far as their
+ * indices increase; without a view to zeros (5.1.1). The rest of `out` is unchanged. Returns
+ * GLTF_UNREADABLE if the items, sparse indices or sparse values have a count of 0, are not inside
+ * their view, or have a view that is not inside its buffer or a byteStride, not 0, less than the
+ * bytes of one of them, which end with its last component: padding behind that need not be there.
+ * Else returns GLTF_NO_ROOM if they are more than `room` bytes. A buffer that waits has no bytes.
+ * If `room` is 0, `out` may be NULL. */
 GLTF_API gltf_status gltf_accessor_read(const gltf_file *file, size_t index, void *out, size_t room)
-    GLTF_CHECKED GLTF_NONNULL((3));
+    GLTF_CHECKED;
 
 /* Copies the components of all items as `unsigned int`, count * components of them: for indices and
- * joints. `room` is how many fit. Returns GLTF_OTHER_TYPE if they are not GLTF_U8, GLTF_U16 or
- * GLTF_U32; else the same as gltf_accessor_read. */
+ * joints. `room` is how many fit; if it is 0, `out` may be NULL. Returns GLTF_OTHER_TYPE if they
+ * are not GLTF_U8, GLTF_U16 or GLTF_U32; else the same as gltf_accessor_read. */
 GLTF_API gltf_status gltf_accessor_read_u32(const gltf_file *file, size_t index, unsigned int *out,
-                                            size_t room) GLTF_CHECKED GLTF_NONNULL((3));
+                                            size_t room) GLTF_CHECKED;
 
 /* ---- Meshes (3.7.2, 5.23, 5.24) -------------------------------------------------------------- */
 
@@ -437,16 +439,9 @@ typedef struct gltf_texture_use {
 } gltf_texture_use;
 
 /* Bits of gltf_material.has: the extensions that the material has, and pbrMetallicRoughness. */
-enum {
-    GLTF_UNLIT = 1,
-    GLTF_SPECULAR_GLOSSINESS = 2,
-    GLTF_TRANSMISSION = 4,
-    GLTF_IOR = 8,
-    GLTF_EMISSIVE_STRENGTH = 16,
-    GLTF_VOLUME = 32,
-    GLTF_SPECULAR = 64,
-    GLTF_METALLIC_ROUGHNESS = 128
-};
+enum { GLTF_UNLIT = 1, GLTF_SPECULAR_GLOSSINESS = 2, GLTF_TRANSMISSION = 4, GLTF_IOR = 8,
+       GLTF_EMISSIVE_STRENGTH = 16, GLTF_VOLUME = 32, GLTF_SPECULAR = 64,
+       GLTF_METALLIC_ROUGHNESS = 128 };
 enum { GLTF_OPAQUE = 0, GLTF_MASK = 1, GLTF_BLEND = 2 };
 
 /* Clearcoat, sheen, iridescence, anisotropy, dispersion and diffuse transmission have structs of
@@ -525,7 +520,7 @@ GLTF_API gltf_status gltf_texture_info(const gltf_file *file, size_t index, gltf
 typedef struct gltf_image {
     size_t view;                /* a buffer view, or GLTF_NONE */
     const unsigned char *bytes; /* its bytes; NULL if there is no view, or the view is not inside
-                                   its buffer, or the buffer waits */
+                                   its buffer, or the buffer waits (also if the view is empty) */
     size_t size;                /* the byteLength of the view, or 0 */
     size_t reserved[2];
 } gltf_image;

@@ -1,5 +1,5 @@
 /* gltf_load.h: what gltf.h leaves to its caller, in plain C. Files by their path, buffers in other
- * files by a callback, and items as floats.
+ * files by a callback, items as floats, and what URIs have.
  *
  *     #define GLTF_LOAD_IMPLEMENTATION     in one source file, before it is included
  *     #include "gltf_load.h"
@@ -32,8 +32,8 @@ typedef struct gltf_resolver {
 /* Opens a file as gltf_open does, and supplies the bytes of the buffers in other files, in their
  * order. Returns what gltf_open, `resolve` or gltf_give returns, whichever fails first;
  * GLTF_EXTERNAL_REFERENCE for a URI with a zero byte, which is not asked for; or GLTF_NO_MEMORY. If
- * it fails, `*file` is NULL. The fault of such a buffer has its index in `buffer`, and
- * `/buffers/N/uri` in `path`. */
+ * it fails, `*file` is NULL. The fault of such a buffer has its index in `buffer`, and in `path`
+ * `/buffers/N` if it is GLTF_SHORT_BUFFER, else `/buffers/N/uri`. */
 GLTF_API gltf_status gltf_open_with(const void *bytes, size_t size,
                                     const gltf_open_options *options,
                                     const gltf_resolver *resolver, gltf_file **file,
@@ -58,9 +58,20 @@ GLTF_API gltf_status gltf_load_anywhere(const char *path, const gltf_open_option
  * Normalized integers become the numbers that they mean (3.6.2.2): c / 127 and c / 32767, but at
  * least -1, of signed ones, and c / 255 and c / 65535 of unsigned ones. Other integers, and all
  * GLTF_U32, become the nearest float. Returns GLTF_NO_ROOM if they do not fit, else GLTF_NO_MEMORY
- * or what gltf_accessor_read returns. */
+ * or what gltf_accessor_read returns. If `room` is 0, `out` may be NULL. */
 GLTF_API gltf_status gltf_accessor_read_f32(const gltf_file *file, size_t index, float *out,
-                                            size_t room) GLTF_CHECKED GLTF_NONNULL((3));
+                                            size_t room) GLTF_CHECKED;
+
+/* Copies the bytes of an image whose URI is `data:` with base64 (2.8), as many as `room` has room
+ * for. `*size` receives how many there are. If `room` is 0, `out` may be NULL. Returns
+ * GLTF_NO_SUCH_INDEX if there is no such image or its URI is another one, GLTF_BAD_BASE64 if the
+ * data is not base64, or GLTF_NO_MEMORY. (gltf_image has the bytes of an image in a buffer.) */
+GLTF_API gltf_status gltf_image_data(const gltf_file *file, size_t index, void *out, size_t room,
+                                     size_t *size) GLTF_CHECKED GLTF_NONNULL((5));
+
+/* Decodes the escapes of a URI, as `%20` for a space, in place. A `%` that begins none stays.
+ * Returns the length of the result, in which `%00` is a zero byte; another one is behind it. */
+GLTF_API size_t gltf_decode_uri(char *uri) GLTF_NONNULL((1));
 
 #ifdef __cplusplus
 }
@@ -121,6 +132,7 @@ static gltf_status gltf_load_buffer(gltf_file *file, size_t index, size_t byte_l
         resolver->release(resolver->user, bytes);
         if (status == GLTF_SHORT_BUFFER) {
             gltf_load_fault(fault, status, index, "`", uri, "` has fewer bytes than the buffer");
+            sprintf(fault->path, "/buffers/%lu", (unsigned long)index);
             fault->expected = byte_length;
             fault->actual = size;
         } else if (status != GLTF_SUCCESS)
@@ -211,24 +223,20 @@ static int gltf_load_hex(char digit)
     return digit == 0 || at == NULL ? -1 : (int)(at - digits) % 16;
 }
 
-/* Decodes the escapes of a URI in place. Returns 0 if one of them is a zero byte. */
-static int gltf_load_decode(char *uri)
+size_t gltf_decode_uri(char *uri)
 {
-    char *to = uri;
-    for (; *uri != 0; uri++) {
-        int high = *uri == '%' ? gltf_load_hex(uri[1]) : -1;
-        int low = high >= 0 ? gltf_load_hex(uri[2]) : -1;
-        *to = *uri;
+    char *to = uri, *from = uri;
+    for (; *from != 0; from++, to++) {
+        int high = *from == '%' ? gltf_load_hex(from[1]) : -1;
+        int low = high >= 0 ? gltf_load_hex(from[2]) : -1;
+        *to = *from;
         if (low >= 0) {
             *to = (char)(high * 16 + low);
-            if (*to == 0)
-                return 0;
-            uri += 2;
+            from += 2;
         }
-        to++;
     }
     *to = 0;
-    return 1;
+    return (size_t)(to - uri);
 }
 
 /* Whether a relative path may lead out of its folder. */
@@ -264,12 +272,14 @@ static gltf_status gltf_load_resolve(void *user, const char *uri, void **bytes, 
     const char *slash = strrchr(folder->path, '/'), *name;
     size_t before = slash == NULL ? 0 : (size_t)(slash + 1 - folder->path);
     char *path = (char *)malloc(before + strlen(uri) + 1), *decoded;
+    size_t length;
     folder->status = GLTF_NO_MEMORY;
     if (path == NULL)
         return GLTF_NO_MEMORY;
     decoded = path + before;
     strcpy(decoded, uri);
-    name = gltf_load_decode(decoded) ? gltf_load_name(decoded, folder->anywhere) : NULL;
+    length = gltf_decode_uri(decoded);
+    name = length == strlen(decoded) ? gltf_load_name(decoded, folder->anywhere) : NULL;
     if (name == NULL)
         folder->status = GLTF_EXTERNAL_REFERENCE;
     else {
@@ -347,6 +357,82 @@ gltf_status gltf_load_anywhere(const char *path, const gltf_open_options *option
                                gltf_file **file, gltf_fault *fault)
 {
     return gltf_load_path(path, 1, options, file, fault);
+}
+
+/* The number of a digit of base64 (RFC 4648, section 4), or -1. */
+static int gltf_load_digit(char digit)
+{
+    if (digit >= 'A' && digit <= 'Z')
+        return digit - 'A';
+    if (digit >= 'a' && digit <= 'z')
+        return digit - 'a' + 26;
+    if (digit >= '0' && digit <= '9')
+        return digit - '0' + 52;
+    return digit == '+' ? 62 : digit == '/' ? 63 : -1;
+}
+
+/* Decodes base64 of so many characters, of which the `=` may be left out. Returns 0 if it is none:
+ * that is known at the end, when bytes are written already. */
+static int gltf_load_base64(const char *text, size_t length, unsigned char *out, size_t room,
+                            size_t *size)
+{
+    size_t digits = length, i;
+    unsigned int bits = 0;
+    while (digits > 0 && text[digits - 1] == '=')
+        digits--;
+    *size = digits / 4 * 3 + digits % 4 * 3 / 4;
+    for (i = 0; i < digits; i++) {
+        int digit = gltf_load_digit(text[i]);
+        size_t at = i / 4 * 3 + i % 4;
+        if (digit < 0)
+            return 0;
+        bits = (bits << 6 | (unsigned int)digit) & 0xffff;
+        if (i % 4 != 0 && at - 1 < room)
+            out[at - 1] = (unsigned char)(bits >> (6 - i % 4 * 2));
+    }
+    /* What the last digit has beside the last byte is 0. */
+    if (digits % 4 == 2)
+        return length - digits <= 2 && (bits & 15) == 0;
+    return digits % 4 == 3 ? length - digits <= 1 && (bits & 3) == 0
+        : digits % 4 == 0 && length == digits;
+}
+
+/* Decodes a URI of so many bytes, if it is `data:` with base64. Nothing is written else. */
+static gltf_status gltf_load_data(const char *uri, size_t length, unsigned char *out, size_t room,
+                                  size_t *size)
+{
+    const char *const mark = ";base64,";
+    const char *at, *end;
+    size_t count;
+    if (strncmp(uri, "data:", 5) != 0)
+        return GLTF_NO_SUCH_INDEX;
+    at = strstr(uri, mark);
+    if (at == NULL || strlen(uri) != length)
+        return GLTF_BAD_BASE64;
+    at += strlen(mark);
+    end = strstr(at, mark);
+    length = end == NULL ? strlen(at) : (size_t)(end - at);
+    if (!gltf_load_base64(at, length, NULL, 0, &count))
+        return GLTF_BAD_BASE64;
+    gltf_load_base64(at, length, out, room, size);
+    return GLTF_SUCCESS;
+}
+
+gltf_status gltf_image_data(const gltf_file *file, size_t index, void *out, size_t room,
+                            size_t *size)
+{
+    size_t length = 0;
+    char *uri;
+    gltf_status status = gltf_text(file, GLTF_IMAGE_URI, index, NULL, 0, &length);
+    if (status != GLTF_SUCCESS)
+        return status;
+    if ((uri = (char *)malloc(length + 1)) == NULL)
+        return GLTF_NO_MEMORY;
+    status = gltf_text(file, GLTF_IMAGE_URI, index, uri, length + 1, &length);
+    if (status == GLTF_SUCCESS)
+        status = gltf_load_data(uri, length, (unsigned char *)out, room, size);
+    free(uri);
+    return status;
 }
 
 /* A component of an accessor as a float. */

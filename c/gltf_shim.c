@@ -71,10 +71,21 @@ static unsigned int flags_of(const gltf_open_options *options)
     return options == NULL ? 0 : options->flags;
 }
 
+/* All bits that reserved members have: 0 if each is 0. */
+static size_t reserved_of(const gltf_open_options *options)
+{
+    size_t i, all = options == NULL ? 0 : options->reserved_word;
+    for (i = 0; options != NULL && i < sizeof options->reserved / sizeof *options->reserved; i++)
+        all |= options->reserved[i];
+    return all;
+}
+
 extern gltf_status core_open(const void *bytes, size_t size, const char *names, size_t names_size,
-                             unsigned int flags, core_file *file, gltf_fault *fault);
+                             unsigned int flags, size_t reserved, core_file *file,
+                             gltf_fault *fault);
 extern gltf_status core_open_owned(core_block block, const char *names, size_t names_size,
-                                   unsigned int flags, core_file *file, gltf_fault *fault);
+                                   unsigned int flags, size_t reserved, core_file *file,
+                                   gltf_fault *fault);
 extern gltf_status core_give(core_file *file, size_t index, const void *bytes, size_t size);
 extern void core_close(core_file *file);
 extern size_t core_count(core_file *file, unsigned int kind);
@@ -92,7 +103,8 @@ gltf_status gltf_open(const void *bytes, size_t size, const gltf_open_options *o
     gltf_status status;
     if (!make_name_list(options, &list))
         return no_memory(file, fault);
-    status = core_open(bytes, size, list.names, list.size, flags_of(options), &handle, fault);
+    status = core_open(bytes, size, list.names, list.size, flags_of(options), reserved_of(options),
+                       &handle, fault);
     free(list.names);
     *file = (gltf_file *)handle.at;
     return status;
@@ -111,7 +123,8 @@ gltf_status gltf_open_owned(void *bytes, size_t size, const gltf_open_options *o
         free(bytes);
         return no_memory(file, fault);
     }
-    status = core_open_owned(block, list.names, list.size, flags_of(options), &handle, fault);
+    status = core_open_owned(block, list.names, list.size, flags_of(options),
+                             reserved_of(options), &handle, fault);
     free(list.names);
     if (size == 0)
         free(bytes); /* the core takes no block of no bytes */
@@ -152,7 +165,6 @@ size_t gltf_count(const gltf_file *file, unsigned int kind)
     CALL(kind##_info, (core_file *, size_t, gltf_##kind *), \
          (const gltf_file *file, size_t index, gltf_##kind *out), (&handle, index, out))
 
-INFO(buffer_view)
 INFO(mesh)
 INFO(material)
 INFO(sampler)
@@ -207,6 +219,7 @@ typedef struct core_bytes {
     }
 
 INFO_WITH_BYTES(buffer, bytes, buffer, index)
+INFO_WITH_BYTES(buffer_view, bytes, view, index) /* over a reserved word of the core's struct */
 INFO_WITH_BYTES(accessor, data, accessor, index)
 INFO_WITH_BYTES(image, bytes, view, out->view)
 
@@ -233,8 +246,12 @@ CALL(variant_material, (core_file *, size_t, size_t, size_t, size_t *),
 CALL(variant_fault, (core_file *, size_t, size_t, size_t, gltf_fault *),
      (const gltf_file *file, size_t mesh, size_t primitive, size_t variant, gltf_fault *fault),
      (&handle, mesh, primitive, variant, fault))
+/* The room of a call whose pointer may be NULL. */
+#define ROOM(pointer, other) (room == 0 ? (other) : (pointer)), room
+
 CALL(accessor_read, (core_file *, size_t, void *, size_t),
-     (const gltf_file *file, size_t index, void *out, size_t room), (&handle, index, out, room))
+     (const gltf_file *file, size_t index, void *out, size_t room),
+     (&handle, index, ROOM(out, (void *)no_text)))
 /* The components are read to the end of their room, and widened from the first on: none is written
  * over before it is read. */
 gltf_status gltf_accessor_read_u32(const gltf_file *file, size_t index, unsigned int *out,
@@ -250,7 +267,7 @@ gltf_status gltf_accessor_read_u32(const gltf_file *file, size_t index, unsigned
     if (it.component_type != GLTF_U8 && it.component_type != GLTF_U16
         && it.component_type != GLTF_U32)
         return GLTF_OTHER_TYPE;
-    if (it.count > room / it.components)
+    if (it.count == 0 || it.count > room / it.components)
         return core_accessor_read(&handle, index, no_text, 0);
     width = it.item_size / it.components;
     count = it.count * it.components;
@@ -266,9 +283,6 @@ gltf_status gltf_accessor_read_u32(const gltf_file *file, size_t index, unsigned
     }
     return status;
 }
-
-/* The room of a call whose pointer may be NULL. */
-#define ROOM(pointer, other) (room == 0 ? (other) : (pointer)), room
 
 CALL(name, (core_file *, unsigned int, size_t, char *, size_t, size_t *),
      (const gltf_file *file, unsigned int kind, size_t index, char *text, size_t room,
@@ -296,3 +310,29 @@ CALL(attribute_name, (core_file *, size_t, size_t, size_t, size_t, char *, size_
      (const gltf_file *file, size_t mesh, size_t primitive, size_t target, size_t position,
       char *text, size_t room, size_t *length),
      (&handle, mesh, primitive, target, position, ROOM(text, no_text), length))
+
+/* In the shared library a call that version 2.1 added is of the node GLTF_2.1, so that a program
+ * that makes it is not started over version 2.0. It was of GLTF_2 at first, and is found there too.
+ * tools/c.py defines the macro, for that library alone. */
+#ifdef GLTF_SYMBOL_VERSIONS
+#define NODE(name) \
+    __asm__(".globl was_" #name "\n.set was_" #name ", gltf_" #name "\n" \
+            ".symver was_" #name ", gltf_" #name "@GLTF_2\n" \
+            ".globl is_" #name "\n.set is_" #name ", gltf_" #name "\n" \
+            ".symver is_" #name ", gltf_" #name "@@GLTF_2.1");
+
+NODE(open_owned)
+NODE(variant_fault)
+NODE(clearcoat_info)
+NODE(sheen_info)
+NODE(iridescence_info)
+NODE(anisotropy_info)
+NODE(dispersion_info)
+NODE(diffuse_transmission_info)
+NODE(basisu_info)
+NODE(webp_info)
+NODE(instancing_info)
+NODE(visibility_info)
+NODE(meshopt_info)
+NODE(xmp_packet)
+#endif

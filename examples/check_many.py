@@ -2,22 +2,27 @@
 """Checks every glTF file below some folders, and writes one table of what is wrong.
 
     check_many.py PLACE.. [--out TABLE.csv] [--processes N]
-    check_many.py PLACE.. [--out TABLE.csv] --dask ADDRESS
-    check_many.py PLACE.. [--out TABLE.csv] --dask-workers N
+    check_many.py PLACE.. [--out TABLE.csv] --dask ADDRESS [--batch N]
+    check_many.py PLACE.. [--out TABLE.csv] --dask-workers N [--batch N]
     check_many.py PLACE.. [--out TABLE.csv] --reports REPORTS.jsonl
 
 A place is a folder or a glTF file; --list FILE names a file with a path in each line, as `find`
 prints them. Each file is checked by `gltf.check` of the Python package `gltf`, which runs
 gltf_show. With --processes (the default: one for each processor) that is done on this machine. With
 --dask it is done by the workers of the Dask scheduler at an address, which need the package and see
-the same paths; with --dask-workers by a cluster of N processes that is started here. A check that
-fails, or whose worker is lost, is tried again twice. With --reports nothing is checked: the table
-is made of the lines that `gltf_show inspect --json` wrote of these files.
+the same paths; with --dask-workers by a cluster of N processes that is started here. Dask gets the
+files in batches of N, and without --batch in eight for each worker, of at most 50 files: a task for
+each file would take longer than the check of a small one. A check that fails is tried again twice.
+A batch whose worker is lost is given to another one; where that happens each time, its files are
+checked one by one at the end.
+With --reports nothing is checked: the table is made of the lines that `gltf_show inspect --json`
+wrote of these files.
 
 The table has a line for each file, in the order of their names: the path; `ok`, `faults`,
 `unreadable` (there is no report) or `failed` (its worker was lost each time); the code and the
-pointer of the first error, or why there is no report; and the milliseconds that the check took. The
-last lines on standard error sum it up. Exit status: 0 all files are ok, 1 some are not, 2 usage."""
+pointer of the first error, or why there is no report; and the milliseconds that the check took.
+Standard error shows how many files are done, and its last lines sum it up. Exit status: 0 all files
+are ok, 1 some are not, 2 usage."""
 import argparse
 import collections
 import concurrent.futures
@@ -31,6 +36,10 @@ import time
 
 COLUMNS = ("file", "verdict", "code", "pointer", "milliseconds")
 TRIES = 3
+# At most so many files are one task of Dask, and at least so many tasks are there for each worker.
+BATCH, TASKS = 50, 8
+# So many seconds pass from one line about the progress to the next, on a terminal and elsewhere.
+ON_TERMINAL, ELSEWHERE = 0.2, 10
 
 
 def line_of(path, report, milliseconds):
@@ -72,22 +81,50 @@ def by_processes(paths, count):
         yield from pool.map(check_here, paths, chunksize=8)
 
 
-def by_dask(paths, address, workers):
+def check_batch(paths):
+    """The lines of some files."""
+    return [check_here(path) for path in paths]
+
+
+def batch_size(count, workers):
+    """How many files are one task, of so many files and workers."""
+    return max(1, min(BATCH, count // (TASKS * max(workers, 1))))
+
+
+def by_batches(client, batches):
+    """The lines of batches, as they are done. The files of one whose worker was lost each time are
+    checked at the end, one after the other: only one that ends its worker has no report."""
+    from dask.distributed import as_completed
+
+    def submitted(batch):
+        # A worker has a folder of its own.
+        return client.submit(check_batch, [os.path.abspath(path) for path in batch], pure=False)
+
+    tasks, left = {submitted(batch): batch for batch in batches}, []
+    for task in as_completed(list(tasks)):
+        if task.status != "finished":
+            left += tasks[task]
+            continue
+        for path, line in zip(tasks[task], task.result()):
+            yield [path, *line[1:]]
+    for path in left:
+        task = submitted([path])
+        why = task.exception()
+        yield without_report(path, why) if why else [path, *task.result()[0][1:]]
+
+
+def by_dask(paths, address, workers, size):
     """The lines, by a Dask cluster."""
-    from dask.distributed import Client, LocalCluster, as_completed
+    from dask.distributed import Client, LocalCluster
 
     cluster = None
     if address is None:
         cluster = LocalCluster(n_workers=workers, threads_per_worker=1, dashboard_address=None)
     client = Client(address or cluster)
     try:
-        # A worker has a folder of its own.
-        places = [os.path.abspath(path) for path in paths]
-        tasks = client.map(check, places, retries=TRIES - 1, pure=False)
-        path_of = {task.key: path for task, path in zip(tasks, paths)}
-        for task, line in as_completed(tasks, with_results=True, raise_errors=False):
-            path, is_done = path_of[task.key], task.status == "finished"
-            yield [path, *line[1:]] if is_done else without_report(path, task.exception())
+        size = size or batch_size(len(paths), len(client.ncores()))
+        yield from by_batches(
+            client, [paths[at:at + size] for at in range(0, len(paths), size)])
     finally:
         client.close()
         if cluster is not None:
@@ -121,6 +158,22 @@ def paths_of(places, lists):
     return sorted(found)
 
 
+def with_progress(lines, count):
+    """The lines, while standard error shows how many there are already."""
+    is_terminal, done, shown = sys.stderr.isatty(), 0, time.perf_counter()
+    apart = ON_TERMINAL if is_terminal else ELSEWHERE
+    for line in lines:
+        yield line
+        done += 1
+        if time.perf_counter() - shown >= apart:
+            shown = time.perf_counter()
+            text = f"{done} of {count} files are done"
+            print(f"\r{text}" if is_terminal else text, end="" if is_terminal else "\n",
+                  file=sys.stderr, flush=True)
+    if is_terminal:
+        print("\r\33[K", end="", file=sys.stderr, flush=True)
+
+
 def summary(table, seconds):
     """How many files there are of each verdict, and the codes that are found most."""
     verdicts = collections.Counter(line[1] for line in table)
@@ -141,6 +194,8 @@ def main():
     reader.add_argument("--processes", type=int, default=os.cpu_count() or 1, metavar="N")
     reader.add_argument("--dask", metavar="ADDRESS", help="the address of a Dask scheduler")
     reader.add_argument("--dask-workers", type=int, metavar="N", help="a Dask cluster of its own")
+    reader.add_argument("--batch", type=int, default=0, metavar="N",
+                        help="how many files are one task of Dask")
     reader.add_argument("--reports", metavar="REPORTS.jsonl", help="what gltf_show wrote")
     words = reader.parse_args()
     if not words.places and not words.list:
@@ -152,10 +207,10 @@ def main():
     if words.reports:
         lines = by_reports(paths, words.reports)
     elif words.dask or words.dask_workers:
-        lines = by_dask(paths, words.dask, words.dask_workers)
+        lines = by_dask(paths, words.dask, words.dask_workers, max(words.batch, 0))
     else:
         lines = by_processes(paths, words.processes)
-    table = sorted(lines)
+    table = sorted(with_progress(lines, len(paths)))
     seconds = time.perf_counter() - began
     how = {"newline": "", "encoding": "utf-8", "errors": "surrogateescape"}
     with open(words.out or sys.stdout.fileno(), "w", closefd=bool(words.out), **how) as out:

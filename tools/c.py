@@ -73,30 +73,48 @@ def build():
     return CRATE / "out" / c_copy.ARCHIVE.name
 
 
+def joined(archive, name, shown, *more):
+    """One object of the archive, of the shim and of those over malloc, which shows some symbols."""
+    shim, whole = OUT / f"{name}_shim.o", OUT / f"{name}.o"
+    ran("cc", *SHIM, *more, "-c", C / "gltf_shim.c", "-o", shim)
+    ran("ld", "-r", "-o", whole, "--whole-archive", archive, f"{kit()}/c/liblibc_c.a",
+        "--no-whole-archive", shim)
+    ran("objcopy", *(f"--keep-global-symbol={symbol}" for symbol in shown), whole)
+    return whole
+
+
 def join(archive):
     """One archive that shows the calls of the header alone."""
     OUT.mkdir(parents=True, exist_ok=True)
-    shim, joined = OUT / "gltf_shim.o", OUT / "gltf.o"
-    ran("cc", *SHIM, "-c", C / "gltf_shim.c", "-o", shim)
-    ran("ld", "-r", "-o", joined, "--whole-archive", archive, f"{kit()}/c/liblibc_c.a",
-        "--no-whole-archive", shim)
-    ran("objcopy", *(f"--keep-global-symbol={name}" for name in c_code.calls()), joined)
+    whole = joined(archive, "gltf", c_code.calls())
     LIBRARY.unlink(missing_ok=True)
-    ran("ar", "rcs", LIBRARY, joined)
+    ran("ar", "rcs", LIBRARY, whole)
 
 
-def share():
+def nodes():
+    """The calls that are in each node of the shared library. A node has those that were in it."""
+    major = c_code.version().partition(".")[0]
+    return {f"GLTF_{major}": c_code.calls(), f"GLTF_{major}.1": c_code.of_2_1()}
+
+
+def share(archive):
     """The shared library. Its soname has the major version alone: a library with the same soname
     has all that the former one had."""
     version = c_code.version()
     major = version.partition(".")[0]
-    names = "\n".join(f"    {name};" for name in c_code.calls())
+    first, second = nodes()
+    later = nodes()[second]
+    shown = [*(set(c_code.calls()) - set(later)),
+             *(f"{name}{at}" for name in later for at in (f"@{first}", f"@@{second}"))]
+    whole = joined(archive, "gltf_shared", shown, "-DGLTF_SYMBOL_VERSIONS")
+    lists = {node: "".join(f"    {name};\n" for name in names) for node, names in nodes().items()}
     script = OUT / "libgltf.map"
-    script.write_text(f"GLTF_{major} {{\n  global:\n{names}\n  local:\n    *;\n}};\n")
+    script.write_text(f"{first} {{\n  global:\n{lists[first]}  local:\n    *;\n}};\n"
+                      f"{second} {{\n  global:\n{lists[second]}}} {first};\n")
     for old in OUT.glob("libgltf.so*"):
         old.unlink()
     file = OUT / f"libgltf.so.{version}"
-    ran("cc", "-shared", "-nostartfiles", OUT / "gltf.o", f"-Wl,-soname,libgltf.so.{major}",
+    ran("cc", "-shared", "-nostartfiles", whole, f"-Wl,-soname,libgltf.so.{major}",
         f"-Wl,--version-script={script}", "-Wl,-z,defs,-z,relro,-z,now,-z,noexecstack",
         "-Wl,--hash-style=gnu", "-Wl,--build-id", "-o", file)
     (OUT / f"libgltf.so.{major}").symlink_to(file.name)
@@ -112,8 +130,9 @@ def main(words):
     import c_tests
 
     begun = time.time()
-    join(build())
-    share()
+    archive = build()
+    join(archive)
+    share(archive)
     # It is of the sources that were there then.
     os.utime(LIBRARY, (begun, begun))
     results = c_tests.results("--long" in words)

@@ -34,6 +34,8 @@ STRUCTS = {"gltf_file": "core_file", "gltf_bytes": "core_bytes", "gltf_block": "
 OWN = ("gltf_", "core_")
 MEMBERS = {("gltf_light", "type_"): "type", ("gltf_buffer", "no_bytes"): "bytes",
            ("gltf_accessor", "no_data"): "data", ("gltf_image", "no_bytes"): "bytes"}
+# The members of C that are the first of the reserved words in the code, where the shim writes them.
+RESERVED = {"gltf_buffer_view": "bytes"}
 # The enums of the code that C has as enumerators, each with the beginning of their names there:
 # those of which a call gives the number, and those of which it takes the number.
 GIVEN = {"Status": "", "ComponentType": "", "Mode": "", "Semantic": "", "AlphaMode": "",
@@ -65,7 +67,7 @@ ENUMERATORS = {
 # The bits of the header, and the statuses of gltf_load.h and of the shim: the code has no variant
 # for them. The test of every member tries the bits.
 OF_HEADER = {
-    "GLTF_CANNOT_READ", "GLTF_OTHER_TYPE", "GLTF_EXTERNAL", "GLTF_UNLIT",
+    "GLTF_CANNOT_READ", "GLTF_OTHER_TYPE", "GLTF_EXTERNAL", "GLTF_EXACT_LENGTHS", "GLTF_UNLIT",
     "GLTF_SPECULAR_GLOSSINESS", "GLTF_TRANSMISSION", "GLTF_IOR", "GLTF_EMISSIVE_STRENGTH",
     "GLTF_VOLUME", "GLTF_SPECULAR",
     "GLTF_METALLIC_ROUGHNESS", "GLTF_HAS_MATRIX", "GLTF_HAS_TRANSLATION", "GLTF_HAS_ROTATION",
@@ -121,6 +123,12 @@ def calls():
     return re.findall(r"GLTF_API [^;(]*?(\w+)\(", header())
 
 
+def of_2_1():
+    """Those of them that version 2.1 added."""
+    return [f"gltf_{name}" for name in
+            re.findall(r"(?m)^NODE\((\w+)\)$", (C / "gltf_shim.c").read_text("utf-8"))]
+
+
 def version():
     """The version in the header, as `2.0.0`."""
     number = int(re.search(r"#define GLTF_VERSION (\d+)", (C / "gltf.h").read_text("utf-8"))[1])
@@ -145,8 +153,17 @@ def structs():
     # A part of a struct has no name of its own in C: the struct has its members.
     parts = {struct: members for struct, members in found if not struct.startswith(OWN)}
     return [(struct, [(MEMBERS.get((struct, member), member), kind)
-                      for pair in members for member, kind in parts.get(c_struct(pair[1]), [pair])])
+                      for pair in members for member, kind in parts.get(c_struct(pair[1]), [pair])
+                      for member, kind in named(struct, member, kind)])
             for struct, members in found if struct not in parts]
+
+
+def named(struct, member, kind):
+    """A member of the code as the members of C that it is."""
+    if member != "reserved" or struct not in RESERVED:
+        return [(member, kind)]
+    word, count = kind[1:-1].split("; ")
+    return [(RESERVED[struct], word), (member, f"[{word}; {int(count) - 1}]")]
 
 
 def holds_in_c(condition):

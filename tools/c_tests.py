@@ -25,10 +25,10 @@ BOX, TRIANGLE, DANGLING = (EXAMPLES / name for name in
 SQUARE = EXAMPLES / "two files" / "square.gltf"
 RIG, SURFACE = TESTS_OF_C / "rig.gltf", TESTS_OF_C / "surface.gltf"
 # What rich.py writes, and extended.py.
-RICH, RICH_GLB, VALID, PLAIN, EXTENDED = (
+RICH, RICH_GLB, VALID, PLAIN, EXTENDED, ONCE = (
     OUT / "files" / name for name in
-    ("rich.gltf", "rich.glb", "valid.glb", "plain.gltf", "extended.gltf"))
-FINE = [BOX, TRIANGLE, SQUARE, RIG, SURFACE, RICH, RICH_GLB, VALID, PLAIN, EXTENDED]
+    ("rich.gltf", "rich.glb", "valid.glb", "plain.gltf", "extended.gltf", "once.gltf"))
+FINE = [BOX, TRIANGLE, SQUARE, RIG, SURFACE, RICH, RICH_GLB, VALID, PLAIN, EXTENDED, ONCE]
 MESSAGE = programs.DANGLING.rstrip("\n")
 SHOWN = "the first point is 0.5 -0.5 -0.5\n"
 STRICT = ["-Wall", "-Wextra", "-Wconversion", "-pedantic", "-Werror", "-O2"]
@@ -75,9 +75,14 @@ def shows_its_calls_alone():
 
 
 def shared_library_shows_its_calls_alone():
-    shown = {line.split()[-1].partition("@")[0] for line in
-             ran("nm", "-D", "--defined-only", SHARED).splitlines() if " T " in line}
-    same(shown, set(c_code.calls()))
+    """Each by its name and its node; those of version 2.1 also by the node that they had at first,
+    by which a program finds them that was linked then."""
+    shown = {line.split()[-1] for line in ran("nm", "-D", "--defined-only", SHARED).splitlines()
+             if " T " in line}
+    first, second = c.nodes()
+    later = c.nodes()[second]
+    same(shown, {f"{name}@@{first}" for name in set(c_code.calls()) - set(later)}
+         | {f"{name}{at}" for name in later for at in (f"@{first}", f"@@{second}")})
 
 
 def shared_library_is_plain():
@@ -169,17 +174,27 @@ def lists_by(compiler):
     program = OUT / "list_cpp"
     wanted = ("points: 24, in place 24, last 1\nindices: 36\n"
               "node `Box`: 0 children, 0 weights, extras \n"
-              "scene 0, version 2.0, no buffer ``\n12 : gltf: a call returned status 12\n"
+              "scene 0, version 2.0\n12 : gltf: an index is out of range\n"
               f"4 /nodes/0/mesh: {MESSAGE}\n")
     for language in ("c++11", "c++17", "c++20"):
         compiled(TESTS_OF_C / "list.cpp", program, by=compiler, language=language)
         same(ran(program, BOX, DANGLING), wanted)
-        end = "scene -1, version 2.0, no buffer ``\n12 : gltf: a call returned status 12\n"
+        end = "scene -1, version 2.0\n12 : gltf: an index is out of range\n"
         same(ran(program, SURFACE), f"sheen: 1\nno film: 17\n{end}")
         varied = OUT / "varied.gltf"
         varied.write_text(json.dumps(VARIED))
         same(ran(program, varied), f"variant: 1\n17 {MAPPING}: the document has no material with "
              f"this index\nvariant: -1\n{end}")
+
+
+def lists_items_by(compiler):
+    """All items, also of padded matrices and without a view, by the wrapper for C++."""
+    need(compiler)
+    program = compiled(TESTS_OF_C / "items.cpp", OUT / "items_cpp", *SANITIZED, by=compiler,
+                       language="c++11")
+    for file in (BOX, TRIANGLE, RIG, RICH_GLB, VALID, EXTENDED, ONCE):
+        wanted = ran(sys.executable, TESTS_OF_C / "expected.py", "--items", file)
+        same(ran(program, file).splitlines(), wanted.splitlines())
 
 
 # URIs of a buffer of eight bytes in below/file.gltf, with what gltf_load gives of them.
@@ -193,7 +208,7 @@ LOADED = {
     "{room}/up.bin": (8, OUTSIDE), "%2Fetc/passwd": (8, OUTSIDE),
     "file:a%20b.bin": (8, OUTSIDE), "file:///etc/passwd": (8, OUTSIDE),
     "a%00b": (8, OUTSIDE), "a%3Ab": (8, OUTSIDE), "none": (10, MISSING), "%zz%4": (10, MISSING),
-    "short": (6, "`{}` has fewer bytes than the buffer"),
+    "short": (6, "`{}` has fewer bytes than the buffer"), "nearly": "12345",
 }
 LOADED_ANYWHERE = {
     "a%20b.bin": BESIDE, "../up.bin": ABOVE, "%2e%2e/up.bin": ABOVE, "{room}/up.bin": ABOVE,
@@ -209,7 +224,7 @@ def loads_files():
         room = pathlib.Path(name)
         for path, contents in {"up.bin": "above it", "below/a b.bin": "beside it",
                                "below/dir/c..d": "below it", "below/d\u00edr/c": "below it",
-                               "below/short": "short"}.items():
+                               "below/short": "four", "below/nearly": "12345"}.items():
             (room / path).parent.mkdir(parents=True, exist_ok=True)
             (room / path).write_text(contents)
         tables = ((), LOADED), (("anywhere",), LOADED_ANYWHERE), (("resolver",), RESOLVED)
@@ -220,8 +235,9 @@ def loads_files():
                 file.write_text('{"asset":{"version":"2.0"},"buffers":[{"byteLength":8,"uri":"'
                                 f'{uri}"}}]}}')
                 if not isinstance(wanted, str):
-                    sizes = "(5 of 8)" if wanted[0] == 6 else "(0 of 0)"
-                    wanted = f"{wanted[0]} /buffers/0/uri: {wanted[1].format(uri)} {sizes}"
+                    place, sizes = ("/buffers/0", "(4 of 8)") if wanted[0] == 6 else (
+                        "/buffers/0/uri", "(0 of 0)")
+                    wanted = f"{wanted[0]} {place}: {wanted[1].format(uri)} {sizes}"
                 same(ran(program, file, *word), wanted + "\n")
         same(ran(program, room / "none"),
              "10 : cannot read the file: No such file or directory (0 of 0)\n")
@@ -251,6 +267,38 @@ def links_from_rust():
 
 
 # ---- What a caller may do.
+
+# A finding ends the program, also one of undefined behaviour.
+SANITIZED = ["-g", "-fsanitize=address,undefined", "-fno-sanitize-recover=all"]
+
+
+def checked_heap():
+    """The variables by which a program that is there runs with the heap of the address
+    sanitizer."""
+    library = ran("cc", "-print-file-name=libasan.so").strip()
+    if not os.path.isabs(library):
+        raise Lacking("the compiler has no libasan.so")
+    return [f"LD_PRELOAD={os.path.realpath(library)}", "ASAN_OPTIONS=detect_leaks=0"]
+
+
+def options_and_buffers_are_judged():
+    ran(built("options", *SANITIZED, language="c89"))
+
+
+def uris_are_decoded():
+    ran(built("uris", *SANITIZED, language="c89"))
+
+
+def no_items_are_read_by(compiler):
+    """By each wrapper: gltf.h and gltf_load.h, and gltf.hpp."""
+    need(compiler)
+    if compiler == "gcc":
+        ran(compiled(TESTS_OF_C / "empty.c", OUT / "empty", *SANITIZED, by=compiler))
+    else:
+        for language in ("c++11", "c++17"):
+            ran(compiled(TESTS_OF_C / "empty.cpp", OUT / "empty_cpp", *SANITIZED,
+                         "-Wl,--wrap=malloc", by=compiler, language=language))
+
 
 def closed_files_are_defined():
     program = built("nothing")
@@ -302,8 +350,7 @@ def sees_no_race(tool, turns):
 
 
 def mutated_files_break_nothing(times):
-    # A finding ends the program, also one of undefined behaviour.
-    program = built("mutate", "-g", "-fsanitize=address,undefined", "-fno-sanitize-recover=all")
+    program = built("mutate", *SANITIZED)
     print(ran(program, str(times), BOX, TRIANGLE, DANGLING, RIG, RICH, RICH_GLB), end="")
     # A tenth as often, since it is read for longer than the others together.
     print(ran(program, str(times // 10), EXTENDED), end="")
@@ -331,7 +378,7 @@ def makes_every_call(source):
 def each_growth_is_refused_in_turn(is_long):
     wraps = ",".join(f"--wrap={name}" for name in ("malloc", "realloc", "free"))
     program = built("failing", f"-Wl,{wraps}")
-    for file in (BOX, TRIANGLE, DANGLING, RIG, SURFACE, *([RICH] if is_long else [])):
+    for file in (BOX, TRIANGLE, DANGLING, RIG, SURFACE, ONCE, *([RICH] if is_long else [])):
         print(ran(program, file), end="")
 
 
@@ -406,11 +453,11 @@ def by_cmake(room):
                       for kind in ("gltf", "shared", "static"))
     text = ("cmake_minimum_required(VERSION 3.10)\nproject(show C)\n"
             "find_package(gltf {} REQUIRED)\n" + targets)
-    for version in ("3.0", "2.2", "1.9", "2.1", "2.0.0", "2.0"):
+    for version in ("3.0", "2.3", "1.9", "2.2", "2.1", "2.0.0", "2.0"):
         (room / "CMakeLists.txt").write_text(text.format(version))
         words = ["cmake", f"-DCMAKE_PREFIX_PATH={room}/usr", "-S", room,
                  "-B", room / f"built{version}"]
-        is_wanted = version.startswith(("2.0", "2.1"))
+        is_wanted = version.startswith(("2.0", "2.1", "2.2"))
         came = subprocess.run(words, stdout=subprocess.DEVNULL, stderr=subprocess.DEVNULL)
         same(came.returncode == 0, is_wanted)
     ran("cmake", "--build", room / "built2.0")
@@ -449,8 +496,10 @@ def tests(is_long):
         *([headers_compile_by, compiler] for compiler in LANGUAGES),
         *([shows_by, compiler] for compiler in LANGUAGES),
         [pages_name_all_calls], [page_shows_code_that_is_tried],
-        [lists_every_member], [lists_by, "g++"], [lists_by, "clang++"],
+        [lists_every_member], [lists_by, "g++"], [lists_by, "clang++"], [lists_items_by, "g++"],
         [loads_files], [is_read_by_ctypes], [links_from_rust], [closed_files_are_defined],
+        [options_and_buffers_are_judged], [uris_are_decoded],
+        [no_items_are_read_by, "gcc"], [no_items_are_read_by, "g++"],
         [a_stack_has_a_quarter_to_spare], [threads_read_one_file],
         [sees_no_race, "helgrind", turns], [sees_no_race, "drd", turns],
         [mutated_files_break_nothing, mutated], [valgrind_sees_no_error, by_valgrind],

@@ -20,7 +20,7 @@ import tempfile
 
 sys.dont_write_bytecode = True
 
-import c_code
+import c
 import c_install
 import crates
 import package
@@ -132,10 +132,10 @@ def control(room, name, stanza):
     held = {"control": text, "md5sums": "".join(sums)}
     if name == LIBRARY:
         major, whole = package.version().partition(".")[0], package.version()
-        symbols = "".join(f" {call}@GLTF_{major} {whole}\n" for call in sorted(c_code.calls()))
+        symbols = sorted(f" {symbol}@{node} {whole}\n" for node, calls in c.nodes().items()
+                         for symbol in (node, *calls))
         held["shlibs"] = f"libgltf {major} {LIBRARY} (>= {whole})\n"
-        held["symbols"] = (f"libgltf.so.{major} {LIBRARY} #MINVER#\n"
-                           f" GLTF_{major}@GLTF_{major} {whole}\n{symbols}")
+        held["symbols"] = f"libgltf.so.{major} {LIBRARY} #MINVER#\n{''.join(symbols)}"
         held["triggers"] = "activate-noawait ldconfig\n"
     for file, text in held.items():
         c_install.put(f"{folder}/DEBIAN/{file}", text.encode())

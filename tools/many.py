@@ -4,7 +4,8 @@
 It makes that many files in folders, of which every tenth is broken in one of eight ways, and lets
 them be checked by one process, by four, by xargs, and by a Dask cluster of two processes. Each
 table has to say of each file what is wrong with it and nothing else. Some checks are made to fail
-once, and one kills its worker: Dask has to try these again.
+once, and one kills its worker: Dask has to try these again. One kills its worker each time: the
+others of its batch have to be checked without it.
 
     many.py [FILES] [--rates]   with --rates by more engines, for docs/BENCHMARKS.md
 
@@ -57,6 +58,7 @@ name=${path##*/}
 case $name in
     flaky*) mkdir "$GLTF_MARKS/$name" 2> /dev/null && exit 3 ;;
     killer*) mkdir "$GLTF_MARKS/$name" 2> /dev/null && kill -9 "$PPID" && exit 3 ;;
+    murder*) mkdir -p "$GLTF_MARKS/$name" && kill -9 "$PPID" && exit 3 ;;
 esac
 exec "$GLTF_REAL" "$@"
 """
@@ -142,7 +144,7 @@ def faults_of(ran, lines, wanted, has_times=True):
     faults += [f"{path} is not among the files" for path in found if path not in wanted]
     if [line[0] for line in lines[1:]] != sorted(wanted):
         faults.append("the lines are not one of each file, in their order")
-    if has_times and any(float(line[4]) < 0 for line in lines[1:] if line[1] != "unreadable"):
+    if has_times and any(float(line[4]) < 0 for line in lines[1:] if line[1] in ("ok", "faults")):
         faults.append("a time is negative")
     verdicts = [says[0] for says in wanted.values()]
     shown = ", ".join(f"{verdicts.count(it)} {it}" for it in sorted(set(verdicts)))
@@ -219,7 +221,7 @@ def test_tries(room, python):
     wanted, marks = {}, room / "marks"
     for folder in (marks, room / "flaky", room / "elsewhere"):
         folder.mkdir()
-    for name in [*(f"flaky{number}.glb" for number in range(8)), "killer.glb"]:
+    for name in [*(f"flaky{number}.glb" for number in range(8)), "killer.glb", "murderer.glb"]:
         (room / "flaky" / name).write_bytes(BOX)
         wanted[f"flaky/{name}"] = ["ok", "", ""]
     known = environment(GLTF_SHOW=str(room / "flaky.sh"), GLTF_REAL=str(PROGRAM),
@@ -228,8 +230,11 @@ def test_tries(room, python):
                           stdin=subprocess.PIPE, stdout=subprocess.PIPE, text=True,
                           stderr=subprocess.DEVNULL) as cluster:
         address = cluster.stdout.readline().strip()
-        ran, lines = checked(["flaky", "--dask", address], room / "table.csv", python, cwd=room)
+        ran, lines = checked(["flaky", "--dask", address, "--batch", "4"], room / "table.csv",
+                             python, cwd=room)
         cluster.communicate("\n")
+    why = next((line[2] for line in lines if line[0] == "flaky/murderer.glb"), "")
+    wanted["flaky/murderer.glb"] = ["failed", why, ""]
     faults = faults_of(ran, lines, wanted)
     note("Dask tries again what failed, and what a lost worker had",
          faults + ([] if len(os.listdir(marks)) == len(wanted) else ["not each failed once"]))

@@ -55,6 +55,22 @@ def test_package():
         well, text = run([python, "-m", "unittest", "-q", "test_gltf"],
                          cwd=TOP / "python" / "tests", env=known)
         note(f"the tests of python/tests by {python}", well, text)
+    test_sanitized(known)
+
+
+def test_sanitized(known):
+    """A file with no items, over the heap of the address sanitizer."""
+    well, heap = run(["cc", "-print-file-name=libasan.so"])
+    if not well or not os.path.isabs(heap.strip()):
+        print("not tried: the tests with the address sanitizer (Debian: gcc)")
+        return
+    known = dict(known, LD_PRELOAD=os.path.realpath(heap.strip()), PYTHONMALLOC="malloc",
+                 ASAN_OPTIONS="detect_leaks=0")
+    well, text = run([sys.executable, "-m", "unittest", "-q",
+                      "test_gltf.Faults.test_there_are_no_items",
+                      "test_gltf.Faults.test_lengths_are_exact_where_that_is_asked_for"],
+                     cwd=TOP / "python" / "tests", env=known)
+    note("no items, and lengths, over the heap of the address sanitizer", well, text)
 
 
 def snippet(page):

@@ -149,6 +149,13 @@ def tests_pass():
     print(f"{passed} tests of the crate passed")
 
 
+def no_items_are_read_over_a_checked_heap():
+    """With the heap of the address sanitizer, which sees what is read or written past a block."""
+    heap = c_tests.checked_heap()
+    cargo("test", "--test", "reading", "accessors_of_no_items_are_read",
+          CARGO_TARGET_X86_64_UNKNOWN_LINUX_GNU_RUNNER="env " + " ".join(heap))
+
+
 def tests_pass_over_the_archive():
     """Linked with libgltf.a in place of the shared library, which is not found then."""
     cargo("test", "--test", "examples", GLTF_STATIC="1", LD_LIBRARY_PATH="",
@@ -249,7 +256,7 @@ def reads_what_python_reads():
     assert len(found) >= 3
     for file in [*found, c_tests.RIG, c_tests.SURFACE,
                  *(files / name for name in ("rich.gltf", "rich.glb", "valid.glb", "plain.gltf",
-                                             "extended.gltf"))]:
+                                             "extended.gltf", "once.gltf"))]:
         printed = listed(file)
         wanted = wanted_of(file, printed)
         shown = [expected.meaning(line) for line in printed]
@@ -345,8 +352,9 @@ def says_what_to_do_without_the_library():
 TESTS = (
     [declarations_have_the_names_of_the_header], [declarations_are_those_of_the_header],
     [structs_lie_in_rust_as_in_c], [files_are_short], [files_are_formatted], [tests_pass],
-    [tests_pass_over_the_archive], [pages_are_made_without_a_warning], [lints_find_nothing],
-    [reads_what_python_reads], [displays_the_box],
+    [no_items_are_read_over_a_checked_heap], [tests_pass_over_the_archive],
+    [pages_are_made_without_a_warning], [lints_find_nothing], [reads_what_python_reads],
+    [displays_the_box],
     [page_shows_code_that_runs, "rust/gltf-proved/README.md"],
     [page_shows_code_that_runs, "README.md"], [handles_end_with_their_document],
     [is_found_by_pkg_config],

@@ -1,6 +1,7 @@
 #!/usr/bin/env python3
 """Compares what `list` printed of files with what is in them, read here by Python's own means:
 `expected.py PRINTED FILE..`. It prints the lines that differ, and ends with 1 if there are any.
+`expected.py --items FILE` prints what `items` is to print of a file.
 
 The defaults are those of glTF 2.0 and of the extensions, written down here anew. JSON texts are
 compared by what they mean."""
@@ -17,6 +18,8 @@ KINDS = (
     "animations", "images", "textures", "samplers", "cameras",
 )
 COMPONENTS = {"SCALAR": 1, "VEC2": 2, "VEC3": 3, "VEC4": 4, "MAT2": 4, "MAT3": 9, "MAT4": 16}
+# The columns of the types that have several.
+COLUMNS = {"MAT2": 2, "MAT3": 3, "MAT4": 4}
 LETTERS = {5120: "b", 5121: "B", 5122: "h", 5123: "H", 5125: "I", 5126: "f"}
 # What a normalized integer is divided by (3.6.2.2).
 DIVISORS = {5120: 127, 5121: 255, 5122: 32767, 5123: 65535}
@@ -101,6 +104,17 @@ def bytes_of(path, buffer, blob):
     return data + bytes(-len(data) % 4)
 
 
+def layout(accessor):
+    """The bytes from an item to the next, and where the bytes of each of its columns are: a column
+    of a matrix begins at a multiple of four bytes (3.6.2.4), and the last item needs no more than
+    its last column."""
+    width = struct.calcsize(LETTERS[accessor["componentType"]])
+    many = COLUMNS.get(accessor["type"], 1)
+    column = COMPONENTS[accessor["type"]] // many * width
+    step = -(-column // 4) * 4 if accessor["type"] in COLUMNS else column
+    return many * step, [slice(k * step, k * step + column) for k in range(many)]
+
+
 class Unreadable(Exception):
     """A part of an accessor does not fit into its view."""
 
@@ -124,10 +138,11 @@ class File:
         whole = data[at:at + view["byteLength"]]
         return whole if len(whole) == view["byteLength"] else None
 
-    def part(self, part, form, count, stride=None):
-        """So many items of a part of an accessor, each as its bytes."""
-        view, size = self.list("bufferViews")[part["bufferView"]], struct.calcsize("<" + form)
-        stride, at = view.get("byteStride") or size, part.get("byteOffset", 0)
+    def part(self, part, size, count, apart=None):
+        """So many items of a part of an accessor, each as its bytes; they are `apart` where the
+        view states no distance."""
+        view = self.list("bufferViews")[part["bufferView"]]
+        stride, at = view.get("byteStride") or apart or size, part.get("byteOffset", 0)
         data = self.view_bytes(part["bufferView"])
         if data is None or count == 0 or stride < size:
             raise Unreadable
@@ -137,22 +152,23 @@ class File:
         return items
 
     def items(self, accessor):
-        """The items of an accessor, each as its bytes."""
-        letter, count = LETTERS[accessor["componentType"]], accessor["count"]
-        form = letter * COMPONENTS[accessor["type"]]
-        sparse = accessor.get("sparse")
+        """The items of an accessor, each as the bytes of its components: those of its view, or
+        zeros without one (5.1.1), with the sparse values in their places."""
+        apart, columns = layout(accessor)
+        size = columns[-1].stop
+        count, sparse = accessor["count"], accessor.get("sparse")
         if "bufferView" in accessor:
-            items = self.part(accessor, form, count)
-        elif sparse:
-            items = [bytes(struct.calcsize("<" + form))] * count
-        else:
+            items = self.part(accessor, size, count, apart)
+        elif count == 0:
             raise Unreadable
+        else:
+            items = [bytes(size)] * count
         if sparse:
             places = LETTERS[sparse["indices"]["componentType"]]
-            at = self.part(sparse["indices"], places, sparse["count"])
-            for place, item in zip(at, self.part(sparse["values"], form, sparse["count"])):
+            at = self.part(sparse["indices"], struct.calcsize(places), sparse["count"])
+            for place, item in zip(at, self.part(sparse["values"], size, sparse["count"], apart)):
                 items[struct.unpack("<" + places, place)[0]] = item
-        return items
+        return [b"".join(item[column] for column in columns) for item in items]
 
 
 def print_extras(file, about, record):
@@ -380,6 +396,8 @@ def print_view(file, about, index, record):
     for name, member in (("byte_offset", "byteOffset"), ("byte_length", "byteLength"),
                          ("byte_stride", "byteStride"), ("target", "target")):
         put(about, name, record.get(member, 0))
+    data = file.view_bytes(index)
+    put(about, "bytes", None if data is None else data.hex())
 
 
 def as_float(value, record):
@@ -414,9 +432,11 @@ def print_accessor(file, about, index, record):
     letter, each = LETTERS[record["componentType"]], COMPONENTS[record["type"]]
     size = struct.calcsize("<" + letter * each)
     view = record.get("bufferView")
+    padded, _ = layout(record)
     stride = file.list("bufferViews")[view].get("byteStride") if view is not None else None
     try:
-        in_place = "sparse" not in record and bool(file.items(record))
+        in_place = (view is not None and "sparse" not in record and padded == size
+                    and bool(file.items(record)))
     except Unreadable:
         in_place = False
     put(about, "count", record["count"])
@@ -428,22 +448,26 @@ def print_accessor(file, about, index, record):
     put(about, "sparse", record.get("sparse", {}).get("count", 0))
     put(about, "view", view)
     put(about, "byte_offset", record.get("byteOffset", 0))
-    put(about, "stride", stride or size)
+    put(about, "stride", stride or padded)
     put(about, "in place", int(in_place))
     for member in ("min", "max"):
         put_numbers(about, member, all_numbers(record, member))
     print_items(file, about, record)
 
 
-def print_attributes(about, attributes):
+def in_order(attributes):
+    """The names of attributes, by meaning, and then by set; the custom ones are first, by name."""
     def order(name):
-        """By meaning, and then by set; the custom ones are first, by name."""
         word, _, number = name.partition("_")
         if name.startswith("_"):
             return 0, 0, name.encode()
         return 1 + MEANINGS.index(word), int(number or 0), b""
 
-    for name in sorted(attributes, key=order):
+    return sorted(attributes, key=order)
+
+
+def print_attributes(about, attributes):
+    for name in in_order(attributes):
         put(about, name, attributes[name])
 
 
@@ -675,7 +699,31 @@ def print_file(path):
     print_material(file, "default", None, {})
 
 
+def print_of_wrapper(path):
+    """What items.cpp prints of a file."""
+    file = File(path)
+    for index, record in enumerate(file.list("accessors")):
+        letter = LETTERS[record["componentType"]]
+        try:
+            items = b"".join(file.items(record))
+        except Unreadable:
+            put("accessor", index, f"status {UNREADABLE}")
+            continue
+        flat = struct.unpack(f"<{len(items) // struct.calcsize(letter)}{letter}", items)
+        put("accessor", index, *(("%.9g" if letter == "f" else "%d") % value for value in flat))
+        put("floats", index, *(as_float(value, record) for value in flat))
+    for number, mesh in enumerate(file.list("meshes")):
+        for k, primitive in enumerate(mesh["primitives"]):
+            print_attributes(f"attribute {number} {k} -1", primitive["attributes"])
+            for n, target in enumerate(primitive.get("targets", [])):
+                print_attributes(f"attribute {number} {k} {n}", target)
+    print("\n".join(lines))
+
+
 def main():
+    if sys.argv[1] == "--items":
+        print_of_wrapper(pathlib.Path(sys.argv[2]))
+        return 0
     printed = pathlib.Path(sys.argv[1]).read_text("utf-8").splitlines()
     for name in sys.argv[2:]:
         print_file(pathlib.Path(name))

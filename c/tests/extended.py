@@ -1,9 +1,9 @@
 #!/usr/bin/env python3
-"""Writes a file with every extension that gltf.h has a call for, whole, with its defaults, with
-members of wrong kinds and with indices out of range: `extended.py FOLDER`.
+"""Writes files with every extension that gltf.h has a call for: `extended.py FOLDER`.
 
-Each record of `extended.gltf` has one case of each extension of its kind. What the calls return of
-them is in expected.py."""
+Each record of `extended.gltf` has one case of each extension of its kind: whole, with its
+defaults, with members of wrong kinds and with indices out of range. `once.gltf` has each extension
+once, whole. What the calls return of them is in expected.py."""
 import itertools
 import json
 import pathlib
@@ -153,9 +153,32 @@ def document():
     }
 
 
+def once():
+    """A document with each extension once, at the first record of its kind."""
+    each = {kind: {name: whole for name, (whole, _) in named.items()}
+            for kind, named in extensions().items()}
+    each["materials"]["KHR_materials_clearcoat"]["clearcoatTexture"] = {
+        "index": 1, "texCoord": 2, "extensions": {"KHR_texture_transform": MOVED}}
+    named = {PACKETS: {"packet": 1}}
+    return {
+        "asset": {"version": "2.0", "extensions": named},
+        "extensionsUsed": sorted({name for kind in each.values() for name in kind} | {PACKETS}),
+        "materials": [{"extensions": each["materials"]}],
+        "textures": [{"source": 0, "extensions": each["textures"]}, *[{"source": 1}] * 2],
+        "nodes": [{"extensions": {**each["nodes"], **named}}],
+        "images": [{"uri": name} for name in ("a.png", "b.ktx2", "c.webp")],
+        "accessors": [{"componentType": 5126, "count": 1, "type": "VEC3"}] * 3,
+        "bufferViews": [{"buffer": 0, "byteLength": 12, "extensions": each["bufferViews"]}],
+        "buffers": [{"byteLength": 12, "uri": "data:;base64,AACAPwAAAEAAAEBA"},
+                    {"byteLength": 3, "uri": "data:;base64,AAEC"}],
+        "extensions": {PACKETS: {"packets": [{"dc:title": "one"}, {"dc:title": "two"}]}},
+    }
+
+
 def main():
-    text = json.dumps(document(), separators=(",", ":"))
-    (pathlib.Path(sys.argv[1]) / "extended.gltf").write_text(text)
+    for name, made in (("extended", document()), ("once", once())):
+        text = json.dumps(made, separators=(",", ":"))
+        (pathlib.Path(sys.argv[1]) / f"{name}.gltf").write_text(text)
 
 
 if __name__ == "__main__":

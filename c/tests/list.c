@@ -227,6 +227,7 @@ static void print_view(const gltf_file *file, size_t index)
     SIZE(it, byte_length);
     SIZE(it, byte_stride);
     WORD(it, target);
+    print_bytes("bytes", it.bytes, it.byte_length);
     if (EXTENSION(meshopt, meshopt, index)) {
         SIZE(meshopt, buffer);
         SIZE(meshopt, byte_offset);

@@ -52,8 +52,7 @@ static void print(const gltf::file &file)
             std::cout << why.fault.status << " " << why.fault.path << ": " << why.what() << "\n";
         }
     std::cout << "scene " << static_cast<long>(file.default_scene()) << ", version "
-              << file.text(GLTF_ASSET_VERSION, 0) << ", no buffer `"
-              << file.text(GLTF_BUFFER_URI, 99) << "`\n";
+              << file.text(GLTF_ASSET_VERSION, 0) << "\n";
 }
 
 int main(int words, char **word)

@@ -65,6 +65,56 @@ def over(at, form, kind, count, **more):
     return len(accessors) - 1
 
 
+def columns(form, kind, rows):
+    """The bytes of matrices: each column begins at a multiple of four bytes (3.6.2.4). What lies
+    behind a column is no zero, so that a reader shows whether it took it."""
+    side = int(kind[-1])
+    pieces = [struct.pack(f"<{side}{form}", *row[i:i + side])
+              for row in rows for i in range(0, side * side, side)]
+    return b"".join(piece + b"\xee" * (-len(piece) % 4) for piece in pieces)
+
+
+def make_matrices():
+    """Accessors of matrices with padding, over a view of their own, sparse, and without a view. It
+    gives one of small matrices with three columns."""
+    nine, four = list(range(-4, 5)), [1, -2, 3, -128]
+    over(view(columns("b", "MAT2", [four, [5, 6, 7, 8]])), "b", "MAT2", 2)
+    over(view(columns("B", "MAT2", [[1, 2, 3, 255]])), "B", "MAT2", 1)
+    small = over(view(columns("b", "MAT3", [nine, nine[::-1]])), "b", "MAT3", 2)
+    over(view(columns("B", "MAT3", [list(range(247, 256))])), "B", "MAT3", 1, normalized=True)
+    over(view(columns("h", "MAT3", [[1000 * k for k in nine], nine])), "h", "MAT3", 2)
+    shorts = view(columns("H", "MAT3", [list(range(9)), list(range(65527, 65536))]))
+    over(shorts, "H", "MAT3", 2)
+    over(view(columns("h", "MAT2", [[-300, 300, 7, 8]])), "h", "MAT2", 1)
+    over(view(columns("B", "MAT4", [list(range(16))])), "B", "MAT4", 1)
+    # At a stride, and behind other bytes.
+    spread = view(b"\xaa" * 4 + columns("B", "MAT2", [[9, 8, 7, 6]]) + b"\xaa" * 8
+                  + columns("B", "MAT2", [[5, 4, 3, 2]]) + b"\xaa" * 4, byteStride=16)
+    over(spread, "B", "MAT2", 2, byteOffset=4)
+    # The sparse values have the same layout (3.6.2.3).
+    places = view(bytes([1, 4]))
+    where = {"count": 2, "indices": {"bufferView": places, "componentType": 5121},
+             "values": {"bufferView": view(columns("b", "MAT3", [nine, [7] * 9]))}}
+    over(view(columns("b", "MAT3", [[k] * 9 for k in range(5)])), "b", "MAT3", 5, sparse=where)
+    accessors.append({"componentType": 5120, "count": 6, "type": "MAT3", "sparse": where})
+    # Without a view all items are zeros (5.1.1).
+    accessors.append({"componentType": 5123, "count": 3, "type": "VEC2"})
+    accessors.append({"componentType": 5122, "count": 2, "type": "MAT3"})
+    accessors.append({"componentType": 5126, "count": 1, "type": "MAT4"})
+    if not is_valid:
+        # The last item needs no padding behind its last column, but for cgltf's validation.
+        over(view(columns("b", "MAT2", [four, four])[:-2]), "b", "MAT2", 2)
+        over(view(columns("B", "MAT3", [list(range(9))])[:-1]), "B", "MAT3", 1)
+        over(view(columns("h", "MAT3", [nine, nine])[:-2]), "h", "MAT3", 2)
+        over(view(columns("b", "MAT2", [four])[:5]), "b", "MAT2", 1)
+        over(shorts, "H", "MAT3", 3)
+        over(view(bytes(36), byteStride=18), "h", "MAT3", 2)  # they overlap
+        for stride in (10, 11):  # an item ends with its eleventh byte
+            over(view(bytes(range(22)), byteStride=stride), "b", "MAT3", 2)
+        accessors.append({"componentType": 5121, "count": 0, "type": "MAT2"})
+    return small
+
+
 def make_accessors():
     """The accessors that the records name, by what they are for."""
     vertices = {"target": 34962}
@@ -114,6 +164,7 @@ def make_accessors():
         accessors[at["zeros"]].update(min=[0, None, 0], max="none")
         over(0, "f", "VEC3", 4000)  # more than its view holds: it cannot be read
         over(strided, "f", "VEC4", 2)  # the same, of items that are too wide
+    at["small inverse"] = make_matrices()
     return at
 
 
@@ -222,6 +273,13 @@ def meshes(at):
         yield {"primitives": [odd]}
 
 
+def skins(at):
+    yield marked({"joints": [1, 2], "inverseBindMatrices": at["inverse"], "skeleton": 1})
+    yield {"joints": [2]}
+    if not is_valid:
+        yield {"joints": [1, 2], "inverseBindMatrices": at["small inverse"]}
+
+
 def cameras():
     yield marked({"type": "perspective", "perspective": {
         "yfov": 0.75, "znear": 0.1, "zfar": 50, "aspectRatio": 1.5}})
@@ -262,8 +320,7 @@ def document():
         "asset": asset, "extensionsUsed": used, "extensionsRequired": used[:3], "scene": 1,
         "scenes": [marked({"nodes": [0, 4]}), {"nodes": [7, 5, 6], "name": "Main"}, {}],
         "nodes": list(nodes()), "meshes": list(meshes(at)), "materials": list(materials()),
-        "skins": [marked({"joints": [1, 2], "inverseBindMatrices": at["inverse"], "skeleton": 1}),
-                  {"joints": [2]}],
+        "skins": list(skins(at)),
         "animations": list(animations(at)), "cameras": list(cameras()), "images": images,
         "samplers": samplers, "textures": textures, "accessors": accessors, "bufferViews": views,
         "buffers": [marked({"byteLength": len(data), "uri": "rich%20data.bin"}),

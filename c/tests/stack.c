@@ -56,7 +56,7 @@ static void *reads(void *it)
 static void *gives(void *it)
 {
     work *w = (work *)it;
-    w->wrong = give_all(w->file);
+    w->wrong = give_all(w->file, 0);
     return it;
 }
 

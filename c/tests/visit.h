@@ -166,7 +166,8 @@ static void visit_numbers(visit *v, unsigned int what, size_t index)
         size_t zero_; \
         memset(&(it), 0x5a, sizeof (it)); \
         MUST(v, (missing) == GLTF_NO_SUCH_INDEX && ((unsigned char *)&(it))[0] == 0x5a \
-                && (it).reserved[0] == (it).reserved[1] && (it).reserved[0] != 0); \
+                && (it).reserved[0] != 0 \
+                && (it).reserved[0] == (it).reserved[sizeof (it).reserved / sizeof (size_t) - 1]); \
         memset(&(it), 0xa5, sizeof (it)); \
         MUST(v, (call) == GLTF_SUCCESS); \
         for (zero_ = 0; zero_ < sizeof (it).reserved / sizeof *(it).reserved; zero_++) \
@@ -220,6 +221,15 @@ static void visit_packet(visit *v, unsigned int kind, size_t index, size_t part)
     visit_add(v, &packet, sizeof packet);
 }
 
+/* Whether a view is in a buffer that waits: no call gives an address there, also of no bytes. */
+static int is_awaited(visit *v, size_t view)
+{
+    gltf_buffer_view at;
+    gltf_buffer it;
+    return view != GLTF_NONE && gltf_buffer_view_info(v->file, view, &at) == GLTF_SUCCESS
+        && gltf_buffer_info(v->file, at.buffer, &it) == GLTF_SUCCESS && it.waits == 1;
+}
+
 static void visit_buffer(visit *v, size_t index)
 {
     gltf_buffer it;
@@ -242,7 +252,10 @@ static void visit_view(visit *v, size_t index)
                 && meshopt.filter <= GLTF_MESHOPT_EXPONENTIAL);
     MUST(v, is_below(it.buffer, v->counts[GLTF_BUFFERS]));
     MUST(v, it.target == 0 || it.target == 34962 || it.target == 34963);
-    visit_add(v, &it, sizeof it);
+    MUST(v, it.bytes == NULL || !is_awaited(v, index));
+    visit_add(v, &it, offsetof(gltf_buffer_view, bytes));
+    if (it.bytes != NULL)
+        visit_add(v, it.bytes, it.byte_length < VISIT_MOST ? it.byte_length : VISIT_MOST);
 }
 
 /* The items in place, and those that are copied, which are the same. */
@@ -290,6 +303,7 @@ static void visit_accessor(visit *v, size_t index)
     MUST(v, it.item_size == width * it.components && it.stride >= (it.data ? it.item_size : 0));
     MUST(v, is_below_or_none(it.view, v->counts[GLTF_BUFFER_VIEWS]));
     MUST(v, it.data == NULL || (it.view != GLTF_NONE && it.sparse == 0 && it.count > 0));
+    MUST(v, it.data == NULL || !is_awaited(v, it.view));
     visit_add(v, &it, offsetof(gltf_accessor, data));
     visit_numbers(v, GLTF_ACCESSOR_MIN, index);
     visit_numbers(v, GLTF_ACCESSOR_MAX, index);
@@ -474,6 +488,7 @@ static void visit_image(visit *v, size_t index)
     gltf_image it;
     INFO(v, image, it, index, v->counts[GLTF_IMAGES]);
     MUST(v, is_below_or_none(it.view, v->counts[GLTF_BUFFER_VIEWS]));
+    MUST(v, it.bytes == NULL || !is_awaited(v, it.view));
     visit_add(v, &it.size, sizeof it.size);
     if (it.bytes != NULL)
         visit_add(v, it.bytes, it.size < VISIT_MOST ? it.size : VISIT_MOST);

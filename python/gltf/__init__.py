@@ -14,7 +14,7 @@ from ._accessor import Accessor
 from ._check import check
 from ._document import Document, Folder, open
 from ._errors import (
-    BadExtensionError, Base64Error, ClosedError, ContainerError, DocumentError,
+    BadArgumentError, BadExtensionError, Base64Error, ClosedError, ContainerError, DocumentError,
     ExternalReferenceError, GltfError, MissingBlobError, NoRoomError,
     NoSuchIndexError, OtherTypeError, OutOfMemoryError, RulesError, ShortBufferError,
     UnreadableError, UnsupportedSchemeError)
@@ -23,12 +23,12 @@ from ._records import (
     Animation, Buffer, BufferView, Camera, Channel, Extension, Image, Light, Material, Mesh, Node,
     Primitive, Sampler, Scene, Skin, Texture, TextureUse, Variant)
 
-__version__ = "2.1.0"
+__version__ = "2.2.0"
 __all__ = [
-    "Accessor", "Animation", "BadExtensionError", "Base64Error", "Buffer", "BufferView",
-    "Camera", "Channel", "ClosedError", "ContainerError", "Document", "DocumentError",
-    "Extension", "ExternalReferenceError", "Folder", "GltfError", "Image", "Light", "Material",
-    "Mesh", "MissingBlobError", "NoRoomError", "NoSuchIndexError", "Node",
+    "Accessor", "Animation", "BadArgumentError", "BadExtensionError", "Base64Error", "Buffer",
+    "BufferView", "Camera", "Channel", "ClosedError", "ContainerError", "Document",
+    "DocumentError", "Extension", "ExternalReferenceError", "Folder", "GltfError", "Image",
+    "Light", "Material", "Mesh", "MissingBlobError", "NoRoomError", "NoSuchIndexError", "Node",
     "OtherTypeError", "OutOfMemoryError", "Primitive", "Record", "Records", "RulesError",
     "Sampler", "Scene", "ShortBufferError", "Skin", "Texture", "TextureUse", "UnreadableError",
     "UnsupportedSchemeError", "Variant", "check", "open"]

@@ -66,7 +66,7 @@ class Accessor(Record):
 
     @property
     def item_size(self) -> int:
-        """The bytes of an item, without padding."""
+        """The bytes of the components of an item, without padding."""
         return int(self._info.item_size)
 
     @property
@@ -100,10 +100,12 @@ class Accessor(Record):
         return self._file.numbers("max", self.index)
 
     def bytes(self) -> bytearray:
-        """A copy of all items, one after the other without padding, sparse values applied.
+        """A copy of the components of all items, one item after the other, sparse values applied.
 
-        Raises UnreadableError where the items do not lie in the file, and NoRoomError where there
-        are more than a program can hold.
+        The padding of small matrices is left out (section 3.6.2.4), and without a view the items
+        are zeros (section 5.1.1): a file may state any number of these. Raises UnreadableError
+        where the items do not lie in the file, and NoRoomError where there are more than a program
+        can hold.
         """
         size = self.count * self.item_size
         if size >= _MOST:
@@ -116,8 +118,9 @@ class Accessor(Record):
 
     def view(self) -> Optional[memoryview]:
         """The file's own bytes from the first item to the end of the last one, read-only, without
-        a copy. Item i begins at `i * stride`. None where the items are not plain: sparse, padded
-        inside, or without a view that holds them."""
+        a copy. Item i begins at `i * stride`. None where there are no items, or they are not
+        plain: with a sparse part, also one of no values, padded inside, at a stride below their
+        size, or without a view that holds them."""
         if not self._info.data:
             return None
         size = (self.count - 1) * self.stride + self.item_size
@@ -125,7 +128,8 @@ class Accessor(Record):
 
     @property
     def stride(self) -> int:
-        """The bytes from one item of the view to the next."""
+        """The bytes from one item of the view to the next, with the padding of an item: the
+        view's stride, or what an item takes up there (section 3.6.2.4)."""
         return int(self._info.stride)
 
     def items(self) -> Sequence[Item]:

@@ -11,7 +11,6 @@ from . import _native, _records
 from ._accessor import Accessor
 from ._errors import ClosedError, ExternalReferenceError
 from ._file import File
-from ._native import library
 from ._record import Records
 
 Source = Union[str, "os.PathLike[str]", bytes, bytearray, memoryview]
@@ -54,7 +53,8 @@ class Document:
     """An open glTF file. Its lists have the names of the format, in snake case.
 
     It is closed at the end of a `with`, by `close`, or when it is dropped. Arrays and views that
-    it gave keep their bytes, also then. Threads may read one document side by side.
+    it gave keep their bytes, also then. Threads may read one document side by side, and one of
+    them may close it: `close` waits for the calls of the library that others are in.
     """
 
     def __init__(self, file: File) -> None:
@@ -67,8 +67,11 @@ class Document:
         return file
 
     def close(self) -> None:
-        """Closes the document. What follows raises ClosedError."""
-        self._held = None
+        """Closes the document, when no other thread is in a call of the library on it. What follows
+        raises ClosedError."""
+        file, self._held = self._held, None
+        if file is not None:
+            file.close()
 
     @property
     def closed(self) -> bool:
@@ -149,8 +152,8 @@ class Document:
     def scene(self) -> Optional["_records.Scene"]:
         """The scene to show (section 3.5.1), or None where the file names none."""
         at = c_size_t()
-        status = library.gltf_default_scene(self._open().at, byref(at))
-        return self.scenes[at.value] if status == 0 else None
+        status = self._open().returned("default_scene", byref(at))
+        return _records.Scene(self, at.value) if status == 0 else None
 
     def _names(self, kind: str) -> List[str]:
         file = self._open()
@@ -198,7 +201,7 @@ class Document:
 
 
 def open(source: Source, *, resolver: Optional[Resolver] = None, extensions: Iterable[str] = (),
-         outside: bool = False) -> Document:
+         outside: bool = False, exact_lengths: bool = False) -> Document:
     """Opens a glTF file: a path, or the bytes of a file.
 
     A file that breaks the format raises the GltfError of what is wrong, with its place. The files
@@ -206,14 +209,19 @@ def open(source: Source, *, resolver: Optional[Resolver] = None, extensions: Ite
     they are looked for in the folder of the file, and nowhere above it unless `outside` is true;
     bytes alone have no folder, and raise ExternalReferenceError where they name a file.
 
-    `extensions` names extensions that the caller handles: a file that requires them opens too.
+    `extensions` names extensions that the caller handles: a file that requires them opens too. A
+    name with a zero character raises ValueError.
+
+    A buffer may have up to three bytes fewer than it declares, as many as there are zeros up to a
+    multiple of four; with `exact_lengths` none may.
     """
     data: Any = source
     if isinstance(source, (str, os.PathLike)):
         with builtins.open(source, "rb") as it:
             data = it.read()
         resolver = resolver or Folder(os.path.dirname(os.fspath(source)), outside)
-    file = File(data, extensions, external=resolver is not None)
+    flags = _native.EXTERNAL if resolver is not None else 0
+    file = File(data, extensions, flags | (_native.EXACT_LENGTHS if exact_lengths else 0))
     for index in range(file.count("buffers")):
         if file.get("buffer", _native.Buffer, index).waits and resolver is not None:
             file.give(index, _resolved(resolver, file.text("buffer_uri", index) or "", index))

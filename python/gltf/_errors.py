@@ -86,12 +86,17 @@ class BadExtensionError(GltfError):
     """An extension has a member that is missing or of another kind, or an index out of range."""
 
 
+class BadArgumentError(GltfError):
+    """The library does not know what was asked for when the file was opened."""
+
+
 # By the number of the status, as gltf.h has it.
 BY_STATUS = {
     1: OutOfMemoryError, 2: ContainerError, 3: DocumentError, 4: RulesError, 5: Base64Error,
     6: ShortBufferError, 7: MissingBlobError, 8: ExternalReferenceError,
     9: UnsupportedSchemeError, 11: ClosedError, 12: NoSuchIndexError, 13: UnreadableError,
     14: NoRoomError, 16: OtherTypeError, 17: BadExtensionError,
+    18: BadArgumentError,
 }
 # What is said where the library gives no text.
 SENTENCES = {

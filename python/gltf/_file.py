@@ -3,11 +3,12 @@ from __future__ import annotations
 
 import ctypes
 import json
+import threading
 from ctypes import byref, c_char, c_double, c_size_t, c_void_p
-from typing import Any, Iterable, List, Optional
+from typing import Any, Dict, Iterable, List, Optional
 
 from . import _native
-from ._errors import GltfError, error
+from ._errors import ClosedError, GltfError, error
 from ._native import NONE, library
 
 # The kinds of records, by their numbers in gltf.h.
@@ -37,15 +38,54 @@ def _fault_error(fault: Any) -> GltfError:
         expected=fault.expected, actual=fault.actual, rules=fault.rules)
 
 
-class File:
-    """What the library holds of one file. It is closed when the last that uses it is dropped: a
-    document, or an array over the file's bytes."""
+def _extension_name(name: str) -> bytes:
+    """The name of an extension, as the library takes it: it would end at a zero."""
+    if "\0" in name:
+        raise ValueError("the name of an extension has a zero character: %r" % name)
+    return name.encode("utf-8")
 
-    def __init__(self, data: Any, extensions: Iterable[str] = (), external: bool = False) -> None:
+
+class _UnderWay:
+    """The calls of the library that are under way on one file, by their threads."""
+
+    def __init__(self) -> None:
+        self._changed = threading.Condition()
+        self._counts: Dict[int, int] = {}
+        self._is_over = False
+
+    def __enter__(self) -> None:
+        thread = threading.get_ident()
+        with self._changed:
+            if self._is_over:
+                raise ClosedError("the document is closed")
+            self._counts[thread] = self._counts.get(thread, 0) + 1
+
+    def __exit__(self, *why: object) -> None:
+        thread = threading.get_ident()
+        with self._changed:
+            self._counts[thread] -= 1
+            if not self._counts[thread]:
+                del self._counts[thread]
+                self._changed.notify_all()
+
+    def end(self) -> None:
+        """Refuses further calls, and waits for those of other threads. One of this thread is under
+        way where a signal's handler is called during it: it ends after this."""
+        with self._changed:
+            self._is_over = True
+            self._changed.wait_for(lambda: not set(self._counts) - {threading.get_ident()})
+
+
+class File:
+    """What the library holds of one file. Its memory is freed when the last that uses it is
+    dropped: a document, or an array over the file's bytes."""
+
+    def __init__(self, data: Any, extensions: Iterable[str] = (), flags: int = 0) -> None:
         self.at: Optional[int] = None
-        names = [name.encode("utf-8") for name in extensions]
+        self._under_way = _UnderWay()
+        names = [_extension_name(name) for name in extensions]
         options = _native.OpenOptions(
-            flags=_native.EXTERNAL if external else 0,
+            flags=flags,
             extensions=(ctypes.c_char_p * len(names))(*names), extension_count=len(names))
         at, fault = c_void_p(), _native.Fault()
         whole = bytes(data)
@@ -59,6 +99,16 @@ class File:
         if at is not None:
             close(at)
 
+    def close(self) -> None:
+        """Refuses further calls, and returns when no other thread is in one. Bytes that were lent
+        stay."""
+        self._under_way.end()
+
+    def returned(self, name: str, *words: Any) -> int:
+        """What a call of the library returns. No other thread closes the file meanwhile."""
+        with self._under_way:
+            return int(getattr(library, "gltf_" + name)(self.at, *words))
+
     def lend(self, at: int, size: int) -> memoryview:
         """Bytes that the library holds, read-only and without a copy. The view keeps the file."""
         block = (c_char * size).from_address(at)
@@ -66,7 +116,7 @@ class File:
         return memoryview(block).cast("B").toreadonly()
 
     def count(self, kind: str) -> int:
-        return int(library.gltf_count(self.at, KIND[kind]))
+        return self.returned("count", KIND[kind])
 
     def get(self, what: str, struct: Any, *indices: int) -> Any:
         """The struct of a record."""
@@ -77,7 +127,7 @@ class File:
     def extension(self, what: str, index: int) -> Any:
         """The struct of an extension of a record, or None where the record has none."""
         out = _native.EXTENSIONS[what]()
-        status = getattr(library, "gltf_%s_info" % what)(self.at, index, byref(out))
+        status = self.returned(what + "_info", index, byref(out))
         if status == NO_SUCH_INDEX:
             return None
         if status != 0:
@@ -88,19 +138,19 @@ class File:
         """Raises where the material of a primitive in a variant is out of range: the indices of the
         mesh, the primitive and the variant."""
         fault = _native.Fault()
-        if library.gltf_variant_fault(self.at, *place, byref(fault)) == 0:
+        if self.returned("variant_fault", *place, byref(fault)) == 0:
             raise _fault_error(fault)
 
     def call(self, name: str, *words: Any, about: str = "") -> None:
         """A call that returns a status; raises where it does not succeed."""
-        status = getattr(library, "gltf_" + name)(self.at, *words)
+        status = self.returned(name, *words)
         if status != 0:
             raise error(status, path=about)
 
     def give(self, index: int, data: Any) -> None:
         """Gives the bytes of a buffer that waits for them."""
         whole = bytes(data)
-        status = library.gltf_give(self.at, index, whole, len(whole))
+        status = self.returned("give", index, whole, len(whole))
         if status == 6:
             expected = self.get("buffer", _native.Buffer, index).byte_length
             raise error(
@@ -112,14 +162,14 @@ class File:
 
     def _string(self, name: str, *words: Any) -> Optional[str]:
         """A text, or None where there is none."""
-        length, call = c_size_t(), getattr(library, "gltf_" + name)
-        status = call(self.at, *words, None, 0, byref(length))
+        length = c_size_t()
+        status = self.returned(name, *words, None, 0, byref(length))
         if status == NO_SUCH_INDEX:
             return None
         if status != 0:
             raise error(status)
         room = ctypes.create_string_buffer(length.value + 1)
-        status = call(self.at, *words, room, len(room), byref(length))
+        status = self.returned(name, *words, room, len(room), byref(length))
         if status != 0:
             raise error(status)
         return room.raw[:length.value].decode("utf-8")

@@ -11,11 +11,11 @@ from ctypes import POINTER, c_char, c_char_p, c_double, c_size_t, c_uint, c_void
 from typing import Any, List, Tuple, Type
 
 # The version that is needed: the same major version, and no older one.
-VERSION = 20100
+VERSION = 20200
 NAME = "libgltf.so.2"
 # An index that is absent.
 NONE = c_size_t(-1).value
-EXTERNAL = 1
+EXTERNAL, EXACT_LENGTHS = 1, 2
 
 _TYPES = {"z": c_size_t, "u": c_uint, "d": c_double, "p": c_void_p}
 
@@ -47,7 +47,7 @@ OpenOptions = _struct(
 Buffer = _struct("Buffer", _fields(
     "p bytes, z size, z byte_length, u waits, u reserved_word"), 2)
 BufferView = _struct("BufferView", _fields(
-    "z buffer, z byte_offset, z byte_length, z byte_stride, u target, u reserved_word"), 2)
+    "z buffer, z byte_offset, z byte_length, z byte_stride, u target, u reserved_word, p bytes"), 1)
 Accessor = _struct("Accessor", _fields(
     "z count, z item_size, u component_type, u components, u is_matrix, u normalized, z sparse, "
     "z view, z byte_offset, z stride, p data"), 4)

@@ -11,7 +11,7 @@ from typing import TYPE_CHECKING, Any, Dict, List, Optional, Tuple
 from . import _native
 from ._accessor import Accessor
 from ._file import or_none
-from ._native import NONE, library
+from ._native import NONE
 from ._record import Record, Records
 
 if TYPE_CHECKING:
@@ -322,7 +322,7 @@ class Primitive:
     def _attributes(self, target: int) -> Dict[str, Accessor]:
         file, info, found, position = self.document._open(), _native.Attribute(), {}, 0
         place = (self.mesh.index, self.index, target)
-        while library.gltf_attribute_info(file.at, *place, position, byref(info)) == 0:
+        while file.returned("attribute_info", *place, position, byref(info)) == 0:
             name = file.attribute_name(*place, position)
             found[name] = self.document.accessors[info.accessor]
             position += 1
@@ -346,7 +346,7 @@ class Primitive:
         material, file = c_size_t(), self.document._open()
         place = (self.mesh.index, self.index, variant)
         file.check_variant(*place)
-        status = library.gltf_variant_material(file.at, *place, byref(material))
+        status = file.returned("variant_material", *place, byref(material))
         return self.document.materials[material.value] if status == 0 else self.material
 
     @property

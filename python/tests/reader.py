@@ -7,6 +7,15 @@ import urllib.parse
 
 COMPONENTS = {5120: "b", 5121: "B", 5122: "h", 5123: "H", 5125: "I", 5126: "f"}
 MANY = {"SCALAR": 1, "VEC2": 2, "VEC3": 3, "VEC4": 4, "MAT2": 4, "MAT3": 9, "MAT4": 16}
+# Each column of a matrix begins at a multiple of four bytes (glTF 2.0, section 3.6.2.4).
+PADDED = {("MAT2", 1): "2%s2x2%s2x", ("MAT3", 1): "3%sx3%sx3%sx", ("MAT3", 2): "3%s2x3%s2x3%s2x"}
+
+
+def form_of(one):
+    """How the items of an accessor are packed."""
+    letter = COMPONENTS[one["componentType"]]
+    form = PADDED.get((one["type"], struct.calcsize(letter)), "%d%%s" % MANY[one["type"]])
+    return "<" + form.replace("%s", letter)
 
 
 class Reader:
@@ -47,7 +56,7 @@ class Reader:
     def accessor(self, index):
         """The items of an accessor, as tuples."""
         one = self.root["accessors"][index]
-        form = "<%d%s" % (MANY[one["type"]], COMPONENTS[one["componentType"]])
+        form = form_of(one)
         if "bufferView" in one:
             items = self._packed(one["bufferView"], one.get("byteOffset", 0), one["count"], form)
         else:

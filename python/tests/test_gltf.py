@@ -1,4 +1,5 @@
 """Tests of the Python package, over the library that GLTF_LIBRARY names: `make python`."""
+import base64
 import gc
 import json
 import os
@@ -7,12 +8,14 @@ import random
 import resource
 import shutil
 import subprocess
+import sys
 import tempfile
 import threading
 import unittest
+import weakref
 
 import gltf
-from gltf import _native
+from gltf import _file, _native
 from reader import Reader
 
 try:
@@ -32,6 +35,22 @@ SPARSE = {
     "accessors": [{"componentType": 5121, "count": 3, "type": "VEC2", "normalized": True,
                    "sparse": {"count": 1, "indices": {"bufferView": 0, "componentType": 5121},
                               "values": {"bufferView": 1}}}]}
+# Two matrices whose columns are padded, and zeros, since there is no view.
+PADDED = {
+    "asset": {"version": "2.0"},
+    "buffers": [{"byteLength": 16,
+                 "uri": "data:application/octet-stream;base64,AQL//wME//8FBv//Bwj//w=="}],
+    "bufferViews": [{"buffer": 0, "byteLength": 16}],
+    "accessors": [{"bufferView": 0, "componentType": 5121, "count": 2, "type": "MAT2"},
+                  {"componentType": 5122, "count": 2, "type": "MAT3"}]}
+# Accessors of no items, and an image of no bytes.
+EMPTY = {
+    "asset": {"version": "2.0"},
+    "buffers": [{"byteLength": 4, "uri": "data:;base64,AAAAAA=="}],
+    "bufferViews": [{"buffer": 0, "byteLength": 0}],
+    "accessors": [{"bufferView": 0, "componentType": 5126, "count": 0, "type": "VEC3"},
+                  {"componentType": 5121, "count": 0, "type": "SCALAR"}],
+    "images": [{"bufferView": 0, "mimeType": "image/png"}]}
 # How many mutated files are opened, and in how many rounds.
 MUTATIONS, ROUNDS = int(os.environ.get("GLTF_MUTATIONS", "10000")), 6
 
@@ -151,14 +170,26 @@ class Variants(unittest.TestCase):
 class Files(unittest.TestCase):
     """What is read of the examples is what an independent reader reads."""
 
+    def items_are_those_of(self, path):
+        """The number of accessors of a file, of which each has the items that the reader reads."""
+        reader = Reader(path)
+        with gltf.open(path) as document:
+            for accessor in document.accessors:
+                wanted = reader.accessor(accessor.index)
+                found = [it if isinstance(it, tuple) else (it,) for it in accessor.items()]
+                self.assertEqual(found, wanted, (path, accessor.index))
+            return len(document.accessors)
+
     def test_items_are_those_of_the_file(self):
         for path in FILES:
-            reader = Reader(path)
-            with gltf.open(path) as document:
-                for accessor in document.accessors:
-                    wanted = reader.accessor(accessor.index)
-                    found = [it if isinstance(it, tuple) else (it,) for it in accessor.items()]
-                    self.assertEqual(found, wanted, (path, accessor.index))
+            self.items_are_those_of(path)
+
+    def test_items_of_every_kind_are_those_of_the_file(self):
+        """Matrices with padding, sparse items, and zeros without a view."""
+        with tempfile.TemporaryDirectory() as folder:
+            subprocess.run([sys.executable, str(TOP / "c" / "tests" / "rich.py"), folder],
+                           check=True)
+            self.assertGreater(self.items_are_those_of(pathlib.Path(folder, "valid.glb")), 40)
 
     def test_records_are_those_of_the_file(self):
         for path in FILES:
@@ -195,6 +226,17 @@ class Files(unittest.TestCase):
         self.assertEqual(accessor.floats()[1], (7 / 255, 8 / 255))
         self.assertIsNone(accessor.view())
         self.assertEqual((accessor.type, len(accessor), accessor.sparse), ("VEC2", 3, 1))
+
+    def test_padding_is_skipped_and_zeros_need_no_view(self):
+        with gltf.open(text_of(PADDED)) as document:
+            matrices, zeros = document.accessors
+            self.assertEqual((matrices.item_size, matrices.stride), (4, 8))
+            self.assertIsNone(matrices.view())
+            self.assertEqual(matrices.items(), [(1, 2, 3, 4), (5, 6, 7, 8)])
+            self.assertEqual((zeros.view(), zeros.items()), (None, [(0,) * 9] * 2))
+            if numpy is not None:
+                wanted = [[[1, 2], [3, 4]], [[5, 6], [7, 8]]]
+                self.assertEqual(matrices.array().tolist(), wanted)
 
     def test_an_image_has_its_bytes(self):
         document = gltf.open(EXAMPLES / "box.glb")
@@ -252,19 +294,52 @@ class Faults(unittest.TestCase):
         self.refused(gltf.DocumentError, text_of({}))
         fault = self.refused(gltf.RulesError, text_of({**asset, "nodes": [{"mesh": 3}]}))
         self.assertEqual((fault.path, fault.rules), ("/nodes/0/mesh", 1))
-        for uri, kind in (("data:;base64,!", gltf.Base64Error), ("a.bin",
-                          gltf.ExternalReferenceError), ("http://a", gltf.UnsupportedSchemeError)):
-            self.refused(kind, text_of({**asset, "buffers": [{"byteLength": 1, "uri": uri}]}))
-        self.refused(gltf.MissingBlobError, text_of({**asset, "buffers": [{"byteLength": 1}]}))
-        short = text_of({**asset, "buffers": [{"byteLength": 9, "uri": "data:;base64,AAAA"}]})
-        fault = self.refused(gltf.ShortBufferError, short)
-        self.assertEqual((fault.buffer, fault.expected), (0, 9))
+
+    def test_faults_of_buffers_have_their_index(self):
+        asset, fine = {"asset": {"version": "2.0"}}, {"byteLength": 3, "uri": "data:;base64,AAAA"}
+        for buffer, kind, path in (
+                ({"uri": "data:;base64,!"}, gltf.Base64Error, "/buffers/1/uri"),
+                ({"uri": "a.bin"}, gltf.ExternalReferenceError, "/buffers/1/uri"),
+                ({"uri": "http://a"}, gltf.UnsupportedSchemeError, "/buffers/1/uri"),
+                ({}, gltf.MissingBlobError, "/buffers/1"),
+                ({"uri": fine["uri"]}, gltf.ShortBufferError, "/buffers/1")):
+            text = text_of({**asset, "buffers": [fine, {"byteLength": 9, **buffer}]})
+            fault = self.refused(kind, text)
+            self.assertEqual((fault.buffer, fault.path), (1, path))
+        self.assertEqual((fault.expected, fault.actual), (9, 3))
+
+    def test_lengths_are_exact_where_that_is_asked_for(self):
+        """Three bytes may be missing, as far as zeros are put after the others."""
+        for there, declared, opens in ((5, 8, True), (5, 9, False), (4, 5, False), (8, 8, True)):
+            data = base64.b64encode(bytes(there)).decode()
+            for uri, how in ((f"data:;base64,{data}", {}),
+                             ("a.bin", {"resolver": lambda uri: bytes(there)})):
+                text = text_of({"asset": {"version": "2.0"},
+                                "buffers": [{"byteLength": declared, "uri": uri}]})
+                for exact in (False, True):
+                    if opens and (there >= declared or not exact):
+                        with gltf.open(text, exact_lengths=exact, **how) as document:
+                            self.assertEqual(len(document.buffers), 1)
+                        continue
+                    fault = self.refused(gltf.ShortBufferError, text, exact_lengths=exact, **how)
+                    self.assertEqual((fault.expected, fault.actual), (declared, there))
+                    self.assertEqual((fault.buffer, fault.path), (0, "/buffers/0"))
+
+    def test_there_are_no_items(self):
+        with gltf.open(text_of(EMPTY)) as document:
+            for accessor in document.accessors:
+                self.assertEqual((len(accessor), accessor.view()), (0, None))
+                for read in (accessor.bytes, accessor.items, accessor.floats):
+                    self.assertRaises(gltf.UnreadableError, read)
+            self.assertEqual(document.images[0].bytes, b"")
 
     def test_required_extensions_are_the_callers(self):
         text = text_of({"asset": {"version": "2.0"}, "extensionsUsed": ["EXT_mine"],
                         "extensionsRequired": ["EXT_mine"]})
         self.refused(gltf.RulesError, text)
         self.assertEqual(len(gltf.open(text, extensions=["EXT_mine"]).nodes), 0)
+        with self.assertRaisesRegex(ValueError, "zero character"):
+            gltf.open(text, extensions=["EXT_mine\0"])
         both = text_of({"asset": {"version": "2.0"}, "extensionsRequired": ["EXT_mine", "EXT_its"]})
         for name, place in (("EXT_mine", 1), ("EXT_its", 0)):
             fault = self.refused(gltf.RulesError, both, extensions=[name])
@@ -299,8 +374,8 @@ class Faults(unittest.TestCase):
                                  b"abcd")
             fault = self.refused(gltf.ExternalReferenceError, write("missing.bin"))
             self.assertEqual((fault.buffer, fault.path), (0, "/buffers/0/uri"))
-            fault = self.refused(gltf.ShortBufferError, write("b.bin"), resolver=lambda uri: b"a")
-            self.assertEqual((fault.expected, fault.actual), (4, 1))
+            fault = self.refused(gltf.ShortBufferError, write("b.bin"), resolver=lambda uri: b"")
+            self.assertEqual((fault.expected, fault.actual), (4, 0))
 
 
 def mutated(data, random_):
@@ -370,6 +445,69 @@ class Strangers(unittest.TestCase):
         self.assertEqual(faults, [])
         self.assertGreater(len(opened), MUTATIONS // 20)
         self.assertLess(held[-1] - held[1], 2048, "KiB more after the rounds: %s" % held)
+
+    def during_a_call(self, document, act):
+        """Reads a document while something is done in each call of the library."""
+        class Acting:
+            def __getattr__(self, name):
+                call = getattr(_native.library, name)
+
+                def acting(*words):
+                    act()
+                    return call(*words)
+                return acting
+
+        _file.library = Acting()
+        try:
+            return document.scene
+        finally:
+            _file.library = _native.library
+
+    def test_close_waits_for_the_calls_of_other_threads(self):
+        document, order = gltf.open(EXAMPLES / "box.glb"), []
+        closing = threading.Thread(target=lambda: (document.close(), order.append("closed")))
+
+        def act():
+            closing.start()
+            closing.join(0.2)  # it does not end
+            order.append("called")
+
+        self.assertIsNotNone(self.during_a_call(document, act))
+        closing.join()
+        self.assertEqual(order, ["called", "closed"])
+        with self.assertRaises(gltf.ClosedError):
+            _ = document.scene
+
+    def test_a_call_begins_no_more_while_another_thread_closes(self):
+        document, raised = gltf.open(EXAMPLES / "box.glb"), []
+        file = document._open()
+        closing = threading.Thread(target=document.close)
+
+        def act():
+            closing.start()
+            while not file._under_way._is_over:
+                pass
+            with self.assertRaises(gltf.ClosedError):
+                file.count("nodes")
+            raised.append(True)
+
+        self.during_a_call(document, act)
+        closing.join()
+        self.assertEqual(raised, [True])
+
+    def test_a_handler_of_a_signal_closes_during_a_call(self):
+        """It does not wait for the call that it interrupts, which has the file to its end."""
+        document = gltf.open(EXAMPLES / "box.glb")
+        held, kept = weakref.ref(document._open()), []
+
+        def act():
+            document.close()
+            kept.append(held() is not None)
+
+        self.assertIsNotNone(self.during_a_call(document, act))
+        self.assertEqual(kept, [True])
+        with self.assertRaises(gltf.ClosedError):
+            _ = document.scene
 
     def test_one_document_is_read_by_four_threads(self):
         with gltf.open(EXAMPLES / "box.glb") as document:

@@ -6,7 +6,7 @@ use std::path::Path;
 use std::process::{self, Command};
 
 const HELP: &str = "
-gltf-proved needs libgltf, version 2.1 or a later 2, and did not find it. Do one of these:
+gltf-proved needs libgltf, version 2.2 or a later 2, and did not find it. Do one of these:
   - install it where pkg-config finds it: in the repository of the loader, `make c`, then
     `make install PREFIX=FOLDER`, and export PKG_CONFIG_PATH=FOLDER/lib/pkgconfig
   - name the folder that has libgltf.so or libgltf.a: export GLTF_LIB_DIR=FOLDER/lib
@@ -49,7 +49,7 @@ fn folder_of_variable(folder: &str, is_static: bool) -> String {
 
 /// The folders that pkg-config names. None where the linker finds the library by itself.
 fn folders_of_pkg_config() -> Vec<String> {
-    let words = ["--libs-only-L", "--keep-system-libs", "gltf >= 2.1", "gltf < 3.0"];
+    let words = ["--libs-only-L", "--keep-system-libs", "gltf >= 2.2", "gltf < 3.0"];
     let ran = match Command::new("pkg-config").args(words).output() {
         Ok(ran) => ran,
         Err(why) => {

@@ -21,7 +21,7 @@ ghost use Rattle.gltf_c_calls.specs.Exported.{found_attribute_of, attribute_name
 ghost use Rattle.gltf_c_calls.specs.Exported.{shown_primitive_of, variant_material_of, name_of};
 ghost use Rattle.gltf_c_calls.specs.Exported.{shown_node_of, shown_scene_of, shown_skin_of};
 ghost use Rattle.gltf_c_calls.specs.Exported.{node_list_of, variant_fault_of, Gives, GivesRead};
-ghost use Rattle.gltf_c_calls.specs.Exported.{said, shown, IsOpened, IsGivenBytes};
+ghost use Rattle.gltf_c_calls.specs.Exported.{said, shown, IsOpened, wanted_of, IsGivenBytes};
 ghost use Rattle.gltf_c_calls.specs.Rooms.{GivesText, GivesTextOr, GivesList};
 ghost use Rattle.gltf_c_calls.specs.Rooms.{ReadsItems, ReadsJson};
 
@@ -53,19 +53,31 @@ use std::alloc::Global;
 use std::borrow::CowSlice;
 
 /// Opens a file from its bytes, with the names of extensions that the caller handles, each with a
-/// zero byte after it. With an odd number in `flags` buffers of other files wait for their bytes.
+/// zero byte after it. Of `flags` the lowest bit says that buffers of other files wait for their
+/// bytes, and the next that zeros after the bytes of a buffer do not count. The others are 0, and so
+/// is `reserved`.
 #[unsafe(no_mangle)]
 pub extern "C" fn core_open(
     alloc: Global,
     bytes: &[u8],
     names: &[u8],
     flags: u32,
+    reserved: usize,
     file: &mut GltfFile,
     fault: &mut GltfFault,
 ) -> u32
-    ensures { IsOpened flags names.now bytes.now result file.new.value fault.new }
+    ensures { IsOpened (wanted_of flags reserved) names.now bytes.now result file.new.value
+        fault.new }
 {
-    open::open(alloc, CowSlice::Borrowed(bytes), names, flags, file, fault)
+    open::open(
+        alloc,
+        CowSlice::Borrowed(bytes),
+        names,
+        flags,
+        reserved,
+        file,
+        fault,
+    )
 }
 
 /// The same of a block of memory that is given up. It is freed here, or with the file.
@@ -75,13 +87,15 @@ pub extern "C" fn core_open_owned(
     block: GltfBlock,
     names: &[u8],
     flags: u32,
+    reserved: usize,
     file: &mut GltfFile,
     fault: &mut GltfFault,
 ) -> u32
-    ensures { IsOpened flags names.now block.bytes result file.new.value fault.new }
+    ensures { IsOpened (wanted_of flags reserved) names.now block.bytes result file.new.value
+        fault.new }
 {
     let bytes = CowSlice::Owned(into_vec(alloc, block));
-    open::open(alloc, bytes, names, flags, file, fault)
+    open::open(alloc, bytes, names, flags, reserved, file, fault)
 }
 
 /// Gives the bytes of the buffer at an index, which waits for them.
@@ -218,7 +232,7 @@ pub extern "C" fn core_numbers(
     room::numbers(alloc, file, what, index, out, count)
 }
 
-/// The items of the accessor at an index, one after the other.
+/// The components of the items of the accessor at an index, one item after the other.
 #[unsafe(no_mangle)]
 pub extern "C" fn core_accessor_read(
     alloc: Global,

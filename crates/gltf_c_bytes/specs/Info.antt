@@ -5,6 +5,7 @@ use Rattle.std.specs.Option.{option_and_then}
 use Rattle.gltf_json.specs.declared.root.Root.{Root}
 use Rattle.gltf_json_geometry.specs.declared.accessor.Accessor.{Accessor}
 use Rattle.gltf_handles.specs.Sizes.{code_of, item_size}
+use Rattle.gltf_access.specs.Components.{layout_of, padded_size}
 use Rattle.gltf_c_open.specs.declared.file.File.{File}
 use Rattle.gltf_c_scene.specs.Values.{index_or_none, one_or_zero}
 use Rattle.gltf_c_bytes.specs.Places.{waits, stride_of}
@@ -31,11 +32,13 @@ buffer_of index file =
     (slice_get file.buffers.items index))
     (slice_get file.document.buffers.items index)
 
--- the bytes from one item to the next: those that the view states, else those of an item
+-- the bytes from one item to the next: those that the view states, else those of an item with its
+-- padding (section 3.6.2.4)
 abbrev pub view_stride_of : Root → Accessor → ℕ
 view_stride_of r a =
-    unwrap_or (option_map (λ v. stride_of v (item_size a))
-    (option_and_then (λ i. slice_get r.buffer_views.items i) a.buffer_view)) (item_size a)
+    unwrap_or (option_map (λ v. stride_of v (padded_size (layout_of a)))
+    (option_and_then (λ i. slice_get r.buffer_views.items i) a.buffer_view))
+    (padded_size (layout_of a))
 
 abbrev pub sparse_count : Accessor → ℕ
 sparse_count a = unwrap_or (option_map (λ s. s.count) a.sparse) 0

@@ -39,9 +39,11 @@ place_of_view v d =
     if lies_in (unwrap_or v.byte_offset 0) v.byte_length (length d.0.items)
     then Some (placed d (unwrap_or v.byte_offset 0) v.byte_length 0) else None
 
+-- one of a buffer that waits has none, also where it has no bytes itself
 abbrev pub view_place : ℕ → File → Option GltfBytes
 view_place index file =
-    option_and_then (λ v. option_and_then (place_of_view v) (slice_get file.buffers.items v.buffer))
+    option_and_then (λ v. if waits v.buffer file then None
+    else option_and_then (place_of_view v) (slice_get file.buffers.items v.buffer))
     (slice_get file.document.buffer_views.items index)
 
 -- the bytes from one item to the next: those of an item where the view states none

@@ -5,7 +5,7 @@ ghost use Rattle.gltf_c_bytes.specs.Info.{shown_buffer, buffer_of, shown_accesso
 ghost use Rattle.gltf_c_bytes.specs.Info.{image_of, view_stride_of, sparse_count, view_length};
 
 use crate::place::{or_zero, stride, waits};
-use crate::shape::{component_number, is_matrix, item_size, multiplicity};
+use crate::shape::{component_number, is_matrix, item_size, multiplicity, padded_item_size};
 use gltf_c_open::file::File;
 use gltf_c_scene::numbers::{index_or_none, one_or_zero};
 use gltf_json::accessor::Accessor;
@@ -53,7 +53,7 @@ pub struct GltfAccessor {
     pub view: usize,
     /// The bytes of the view before the first item.
     pub byte_offset: usize,
-    /// The bytes from one item to the next.
+    /// The bytes from one item to the next in the view, with the padding of a matrix.
     pub stride: usize,
     /// 0; C has the pointer to the first item here.
     pub no_data: usize,
@@ -110,12 +110,12 @@ pub fn accessor(file: &File, index: usize) -> Option<GltfAccessor>
     Some(shown_accessor(accessor, view_stride(root, accessor)))
 }
 
-/// The bytes from one item of an accessor to the next: those that its view states, else those of
-/// an item.
+/// The bytes from one item of an accessor to the next: those that its view states, else those of an
+/// item with its padding.
 fn view_stride(root: &Root, accessor: &Accessor) -> usize
     ensures { result ≡ view_stride_of root.now accessor.now }
 {
-    let size = item_size(accessor);
+    let size = padded_item_size(accessor);
     let Some(index) = accessor.buffer_view else {
         return size;
     };

@@ -58,12 +58,15 @@ fn placed(buffer: &Data, offset: usize, size: usize, stride: usize) -> GltfBytes
     }
 }
 
-/// The bytes of the view at an index. None where there is no such view, or it does not lie in the
-/// bytes of its buffer.
+/// The bytes of the view at an index. None where there is no such view, or its buffer waits for its
+/// bytes, or the view does not lie in these.
 pub fn view(file: &File, index: usize) -> Option<GltfBytes>
     ensures { result ≡ view_place index file.now }
 {
     let view = file.document.as_json().buffer_views.get(index)?;
+    if waits(file, view.buffer.value()) {
+        return None;
+    }
     of_view(view, file.buffers.get(view.buffer.value())?)
 }
 

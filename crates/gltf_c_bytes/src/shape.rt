@@ -1,9 +1,12 @@
 //! The items of accessors: their components and sizes (glTF 2.0, section 3.6.2.2).
-ghost use Rattle.std.specs.Prelude.{◌≡◌};
+ghost use Rattle.std.specs.Prelude.{◌≡◌, ◌≤◌};
 ghost use Rattle.gltf_handles.specs.Sizes.{code_of, item_size};
 ghost use Rattle.gltf_c_bytes.specs.Shapes.{component_number, size_of_code, many_of_code};
 ghost use Rattle.gltf_c_bytes.specs.Shapes.{is_matrix, is_packed};
+ghost use Rattle.gltf_access.specs.Components.{layout_of, padded_size};
 
+use gltf_access::padded_size;
+use gltf_data::accessor::Dimensions;
 use gltf_json::accessor::{Accessor, ComponentType, Type};
 use gltf_json_record::validation::Checked;
 
@@ -24,7 +27,8 @@ pub(crate) fn component_number(component: Checked<ComponentType>) -> u32
 
 /// The bytes of a component.
 fn component_size(component: Checked<ComponentType>) -> usize
-    ensures { result ≡ size_of_code component }
+    ensures gives { result ≡ size_of_code component }
+    ensures small { result ≤ 4 }
 {
     match component {
         Checked::Invalid => 0,
@@ -54,6 +58,19 @@ pub(crate) fn item_size(accessor: &Accessor) -> usize
     ensures { result ≡ item_size accessor.now }
 {
     component_size(accessor.component_type) * multiplicity(accessor.type_)
+}
+
+/// The bytes that an item takes up with its padding.
+pub(crate) fn padded_item_size(accessor: &Accessor) -> usize
+    ensures { result ≡ padded_size (layout_of accessor.now) }
+{
+    match accessor.type_ {
+        Checked::Invalid => 0,
+        Checked::Valid(shape) => padded_size(
+            component_size(accessor.component_type),
+            Dimensions::from(shape),
+        ),
+    }
 }
 
 /// Whether an item is a matrix.

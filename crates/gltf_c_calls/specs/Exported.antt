@@ -25,5 +25,5 @@ pub use Rattle.gltf_c_scene.specs.Nodes.{shown_node_of, shown_scene_of}
 pub use Rattle.gltf_c_scene.specs.Skins.{shown_skin_of, node_list_of}
 pub use Rattle.gltf_c_scene.specs.Variants.{variant_fault_of}
 pub use Rattle.gltf_c_handle.specs.Calls.{Gives, GivesRead, said, shown}
-pub use Rattle.gltf_c_handle.specs.Opened.{IsOpened}
+pub use Rattle.gltf_c_handle.specs.Opened.{IsOpened, wanted_of}
 pub use Rattle.gltf_c_handle.specs.Waiting.{IsGivenBytes}

@@ -126,8 +126,8 @@ impl Ask<GltfBytes> for ViewBytes {
     }
 }
 
-/// Where the bytes of the view at an index lie. `NoSuchIndex` also where it does not lie in the
-/// bytes of its buffer.
+/// Where the bytes of the view at an index lie. `NoSuchIndex` also where its buffer waits for its
+/// bytes, or the view does not lie in these.
 pub fn view_bytes(alloc: Global, file: &mut GltfFile, index: usize, out: &mut GltfBytes) -> u32
     ensures same { file.new.value ≡ file.old.value }
     ensures given { Gives (view_place index) file.old.value result out.old out.new }

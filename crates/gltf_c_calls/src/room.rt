@@ -315,8 +315,9 @@ impl Fill for ItemsOf {
     }
 }
 
-/// The items of the accessor at an index as bytes, one after the other, with the sparse overrides
-/// (glTF 2.0, section 3.6.2), at the front of the room.
+/// The components of the items of the accessor at an index as bytes, one item after the other, with
+/// the sparse overrides (glTF 2.0, section 3.6.2), at the front of the room: without the padding of
+/// small matrices (3.6.2.4), and zeros where there is no view (5.1.1).
 ///
 /// `Unreadable` where the accessor cannot be read over the buffers; `NoRoom` where there are more
 /// bytes than room.

@@ -12,7 +12,7 @@ use Rattle.gltf_c_fault.specs.declared.status.Status.TheVariants.{ExternalRefere
 use Rattle.gltf_c_fault.specs.declared.status.Status.TheVariants.{UnsupportedScheme}
 use Rattle.gltf_c_fault.specs.declared.status.Status.TheVariants.{InputOutput, Closed, NoSuchIndex}
 use Rattle.gltf_c_fault.specs.declared.status.Status.TheVariants.{Unreadable, NoRoom}
-use Rattle.gltf_c_fault.specs.declared.status.Status.TheVariants.{BadExtension}
+use Rattle.gltf_c_fault.specs.declared.status.Status.TheVariants.{BadExtension, BadArgument}
 
 -- the number that C sees
 abbrev pub code : Status → ℕ
@@ -32,6 +32,7 @@ code NoSuchIndex = 12
 code Unreadable = 13
 code NoRoom = 14
 code BadExtension = 17
+code BadArgument = 18
 
 -- each layer that may refuse bytes has statuses of its own: the container, the text and the records
 -- in it, the rules, and the buffers

@@ -3,7 +3,7 @@ ghost use Rattle.std.specs.Prelude.{◌≡◌, ℕ, List, map, replicate};
 ghost use Rattle.gltf_json_record.specs.Place.{place_of};
 ghost use Rattle.gltf_json_record.specs.Pointer.{pointer_text};
 ghost use Rattle.gltf_c_fault.specs.Fault.{no_fault, IsFault, first_place, numbers_of, rules_of};
-ghost use Rattle.gltf_c_fault.specs.Fault.{extension_fault};
+ghost use Rattle.gltf_c_fault.specs.Fault.{extension_fault, argument_fault, reason_fault, part_of};
 ghost use Rattle.gltf_c_fault.specs.Fault as fault;
 ghost use Rattle.gltf_c_fault.specs.Message.{Tells, text_in_room};
 
@@ -27,11 +27,11 @@ pub struct GltfFault {
     pub status: u32,
     /// How many rules are broken.
     pub rules: u32,
-    /// The buffer that has too few bytes, else [`NONE`].
+    /// The buffer at fault, else [`NONE`].
     pub buffer: usize,
-    /// How many bytes that buffer declares, else 0.
+    /// How many bytes that buffer declares, where it has too few, else 0.
     pub expected: usize,
-    /// How many it has, else 0.
+    /// How many it has then, else 0.
     pub actual: usize,
     /// 0.
     pub reserved: [usize; 4],
@@ -58,29 +58,25 @@ pub fn no_fault() -> GltfFault
     }
 }
 
-/// The buffer that has too few bytes, how many it declares, and how many it has.
+/// How many bytes a buffer declares that has too few, and how many it has.
 #[derive(Clone, Copy, Drop)]
 struct Numbers {
-    buffer: usize,
     expected: usize,
     actual: usize,
 }
 
-/// What is said of an error of the loader. Where there is no memory for the text, that says so.
-pub fn fault_of(alloc: Global, error: &Error) -> GltfFault
-    ensures { IsFault error.now result }
+/// What is said of an error of the loader, which may be that of a buffer. Where there is no memory
+/// for the text, that says so.
+pub fn fault_of(alloc: Global, error: &Error, buffer: Option<usize>) -> GltfFault
+    ensures { IsFault error.now buffer result }
 {
-    let Numbers {
-        buffer,
-        expected,
-        actual,
-    } = numbers_of(error);
-    let path = path_of(error);
+    let Numbers { expected, actual } = numbers_of(error);
+    let path = path_of(error, buffer);
     let text = text_of(alloc, error);
     GltfFault {
         status: Status::of(error).code(),
         rules: rules_of(error),
-        buffer,
+        buffer: buffer.unwrap_or(NONE),
         expected,
         actual,
         reserved: [0; 4],
@@ -93,12 +89,27 @@ pub fn fault_of(alloc: Global, error: &Error) -> GltfFault
 pub fn extension_fault(steps: &[Step], reason: &[u8]) -> GltfFault
     ensures { result ≡ extension_fault (map place_of steps.now) reason.now }
 {
+    reason_fault(Status::BadExtension, steps, reason)
+}
+
+/// What is said of options of which a flag is not known, or a reserved member is not 0.
+pub fn argument_fault() -> GltfFault
+    ensures { result ≡ argument_fault }
+{
+    let reason = b"an unknown flag, or a reserved member that is not 0";
+    reason_fault(Status::BadArgument, &[], reason)
+}
+
+/// A fault with this status, at this place, for this reason.
+fn reason_fault(status: Status, steps: &[Step], reason: &[u8]) -> GltfFault
+    ensures { result ≡ reason_fault status (map place_of steps.now) reason.now }
+{
     let mut path = [0; 128];
     put_pointer(steps, &mut path);
     let mut text = [0; 512];
     put(reason, &mut text);
     GltfFault {
-        status: Status::BadExtension.code(),
+        status: status.code(),
         rules: 0,
         buffer: NONE,
         expected: 0,
@@ -124,16 +135,14 @@ fn numbers_of(error: &Error) -> Numbers
 {
     match error {
         Error::BufferLength {
-            buffer,
             expected,
             actual,
+            ..
         } => Numbers {
-            buffer: *buffer,
             expected: *expected,
             actual: *actual,
         },
         _ => Numbers {
-            buffer: NONE,
             expected: 0,
             actual: 0,
         },
@@ -141,17 +150,38 @@ fn numbers_of(error: &Error) -> Numbers
 }
 
 /// The JSON Pointer of the place of an error in its room.
-fn path_of(error: &Error) -> [u8; 128]
-    ensures { result ≡ text_in_room (pointer_text (fault.place_of error.now)) (replicate 128 0) }
+fn path_of(error: &Error, buffer: Option<usize>) -> [u8; 128]
+    ensures { result
+        ≡ text_in_room (pointer_text (fault.place_of error.now buffer)) (replicate 128 0) }
 {
     let mut room = [0; 128];
-    put_pointer(steps_of(error), &mut room);
+    match buffer {
+        Some(index) => put_part(error, index, &mut room),
+        None => put_pointer(steps_of(error), &mut room),
+    }
     room
+}
+
+/// Writes the JSON Pointer of the part of a buffer that an error is of.
+fn put_part(error: &Error, index: usize, room: &mut [u8])
+    ensures { room.new ≡ text_in_room (pointer_text (part_of error.now index)) room.old }
+{
+    match error {
+        Error::Base64(_) | Error::ExternalReferenceInSliceImport | Error::UnsupportedScheme => {
+            let steps = [
+                Step::Member("buffers"),
+                Step::Item(index),
+                Step::Member("uri"),
+            ];
+            put_pointer(&steps, room);
+        }
+        _ => put_pointer(&[Step::Member("buffers"), Step::Item(index)], room),
+    }
 }
 
 /// The steps to the place of an error.
 fn steps_of(error: &Error) -> &[Step]
-    ensures { map place_of result.now ≡ fault.place_of error.now }
+    ensures { map place_of result.now ≡ fault.place_in error.now }
 {
     match error {
         Error::Validation(broken) => first_steps(broken),

@@ -39,6 +39,8 @@ pub enum Status {
     NoRoom,
     /// An extension does not fit its table, or breaks its rules.
     BadExtension,
+    /// A flag is not known, or what is reserved is not 0.
+    BadArgument,
 }
 
 impl Status {
@@ -65,6 +67,7 @@ impl Status {
             Status::Unreadable => 13,
             Status::NoRoom => 14,
             Status::BadExtension => 17,
+            Status::BadArgument => 18,
         }
     }
 

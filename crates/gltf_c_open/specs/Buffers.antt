@@ -1,47 +1,61 @@
 -- Buffers that have their bytes, and buffers that wait for them, since their URI leads to another
 -- file (glTF 2.0, section 3.6.1).
-use Rattle.std.specs.Prelude.{◌≡◌, ⊤, ℕ, Bool, true, false, List, [], ◌∷◌, length}
-use Rattle.std.specs.Prelude.{Option, Result, Ok, Err}
-use Rattle.gltf_glb.specs.declared.error.Error.{Error}
-use Rattle.gltf_glb.specs.declared.error.Error.TheVariants.{ExternalReferenceInSliceImport}
-use Rattle.gltf_buffers.specs.Buffers.{Source}
-use Rattle.gltf_buffers.specs.Each.{AreAnswers}
-use Rattle.gltf_buffers.specs.Names.{Nowhere}
+use Rattle.std.specs.Prelude.{◌≡◌, ◌<◌, ⊤, ℕ, Bool, true, false, List, [], length, get_or}
+use Rattle.std.specs.Prelude.{slice_get, Option, Some, None, Result, Ok, Err, if◌then◌else◌}
+use Rattle.gltf_buffers.specs.Buffers.{Source, BufferFault, External, TooShort}
+use Rattle.gltf_buffers.specs.Buffers.{blob_for, raw_bytes}
+use Rattle.gltf_buffers.specs.Padding.{padded}
+use Rattle.gltf_c_open.specs.Lengths.{is_enough}
+use Rattle.gltf_c_open.specs.declared.wanted.Wanted.{Wanted}
 
--- what is kept of a buffer's answer: its bytes; or none, and it waits, where it leads to another
--- file
-abbrev pub IsKept : Result (List ℕ) Error → List ℕ → Bool → Type 0
-IsKept (Ok bytes) data_ waits = (data_ ≡ bytes) × (waits ≡ false)
-IsKept (Err ExternalReferenceInSliceImport) data_ waits = (data_ ≡ []) × (waits ≡ true)
-IsKept (Err other) data_ waits = ⊥
+-- the bytes with zeros after them up to a multiple of four, where there are enough for what buffer
+-- i declares. Else the fault has the number of the bytes themselves
+abbrev pub long_enough : Bool → ℕ → ℕ → List ℕ → Result (List ℕ) BufferFault
+long_enough exact i declared bytes =
+    if is_enough exact declared (length bytes) then Ok (padded bytes)
+    else Err (TooShort i declared (length bytes))
 
-abbrev pub AreKept : List (Result (List ℕ) Error) → List (List ℕ) → List Bool → Type 0
-AreKept [] [] [] = ⊤
-AreKept (a ∷ more) (b ∷ bs) (w ∷ ws) = IsKept a b w × AreKept more bs ws
-AreKept answers buffers waiting = ⊥
+abbrev pub judged : Bool → ℕ → ℕ → Result (List ℕ) BufferFault → Result (List ℕ) BufferFault
+judged exact i declared (Ok bytes) = long_enough exact i declared bytes
+judged exact i declared (Err fault) = Err fault
 
--- of an answer nothing is kept, since it is this error
-abbrev pub IsFault : Result (List ℕ) Error → Error → Type 0
-IsFault (Ok bytes) e = ⊥
-IsFault (Err ExternalReferenceInSliceImport) e = ⊥
-IsFault (Err other) e = e ≡ other
+-- the bytes of buffer i with zeros after them, or what is wrong with it. No name can be asked for
+abbrev pub bytes_or_fault : Bool → Option (List ℕ) → ℕ → Source → Result (List ℕ) BufferFault
+bytes_or_fault exact blob i source =
+    judged exact i source.declared (raw_bytes None blob source.uri)
 
--- this is the error of the first answer of which nothing is kept
-abbrev pub IsFirstFault : List (Result (List ℕ) Error) → Error → Type 0
-IsFirstFault [] e = ⊥
-IsFirstFault (Ok bytes ∷ more) e = IsFirstFault more e
-IsFirstFault (Err ExternalReferenceInSliceImport ∷ more) e = IsFirstFault more e
-IsFirstFault (Err other ∷ more) e = e ≡ other
+-- what is kept of a buffer: its bytes; or none, and it waits, where it leads to another file and
+-- may wait
+abbrev pub IsKept : Bool → Result (List ℕ) BufferFault → List ℕ → Bool → Type 0
+IsKept may_wait (Ok bytes) data_ waits = (data_ ≡ bytes) × (waits ≡ false)
+IsKept may_wait (Err External) data_ waits = (may_wait ≡ true) × (data_ ≡ []) × (waits ≡ true)
+IsKept may_wait (Err other) data_ waits = ⊥
 
--- each buffer has these bytes, or waits for them
-pub record HaveOrAwait (sources : List Source) (blob : Option (List ℕ)) (buffers : List (List ℕ))
-    (waiting : List Bool) : Type 0 where
-  pub answers : List (Result (List ℕ) Error)
-  pub each : AreAnswers Nowhere sources blob (length sources) answers
-  pub kept : AreKept answers buffers waiting
+-- each fault refuses a file, but that a buffer leads to another file where it may wait
+abbrev pub Refuses : Bool → BufferFault → Type 0
+Refuses may_wait External = may_wait ≡ false
+Refuses may_wait other = ⊤
 
--- the error is that of the first buffer with a fault but that it leads to another file
-pub record HasOtherFault (sources : List Source) (blob : Option (List ℕ)) (e : Error) : Type 0 where
-  pub answers : List (Result (List ℕ) Error)
-  pub each : AreAnswers Nowhere sources blob (length sources) answers
-  pub first : IsFirstFault answers e
+-- a fault of buffer i that refuses the file
+abbrev pub IsFaultOf : Wanted → Option (List ℕ) → ℕ → Source → BufferFault → Type 0
+IsFaultOf wanted blob i source fault =
+    (bytes_or_fault wanted.exact blob i source ≡ Err fault) × Refuses wanted.may_wait fault
+
+-- each of the first n buffers has these bytes, or waits for them
+pub record HaveOrAwait (wanted : Wanted) (sources : List Source) (blob : Option (List ℕ)) (n : ℕ)
+    (buffers : List (List ℕ)) (waiting : List Bool) : Type 0 where
+  pub count : length buffers ≡ n
+  pub as_many : length waiting ≡ n
+  pub each : (i : ℕ) (source : Source) → i < n → slice_get sources i ≡ Some source
+      → IsKept wanted.may_wait (bytes_or_fault wanted.exact (blob_for sources blob i) i source)
+      (get_or buffers i []) (get_or waiting i false)
+
+-- this is the fault of the buffer at an index, the first that has one which refuses the file
+pub record HasFault (wanted : Wanted) (sources : List Source) (blob : Option (List ℕ)) (index : ℕ)
+    (fault : BufferFault) : Type 0 where
+  pub before : List (List ℕ)
+  pub waiting : List Bool
+  pub fine : HaveOrAwait wanted sources blob index before waiting
+  pub source : Source
+  pub there : slice_get sources index ≡ Some source
+  pub wrong : IsFaultOf wanted (blob_for sources blob index) index source fault

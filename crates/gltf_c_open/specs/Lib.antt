@@ -1,3 +1,5 @@
+pub mod Lengths
+pub mod Refusals
 pub mod Given
 pub mod Names
 pub mod Buffers

@@ -1,59 +1,61 @@
 -- Files from their bytes, with the names of extensions that the caller handles (glTF 2.0, sections
 -- 2.8, 3.6.1, 3.12 and 4.4).
-use Rattle.std.specs.Prelude.{◌≡◌, ◌≢◌, ◌⊎◌, ℕ, List, [], Option}
+use Rattle.std.specs.Prelude.{◌≡◌, ◌⊎◌, ℕ, List, length, Option, None, false}
 use Rattle.gltf_json.specs.declared.root.Root.{Root}
-use Rattle.gltf_glb.specs.declared.error.Error.{Error}
-use Rattle.gltf_glb.specs.declared.error.Error.TheVariants.{Memory}
 use Rattle.gltf_buffers.specs.Buffers.{sources_of}
 use Rattle.gltf_buffers.specs.Names.{Nowhere}
-use Rattle.gltf.specs.Errors.{OutOfMemoryOr}
 use Rattle.gltf.specs.Shown.{bytes_of_each}
 use Rattle.gltf_options.specs.Import.{AcceptsBesides, IsOnlyImportBesides, IsNotAcceptedBesides}
-use Rattle.gltf_options.specs.Import.{RefusesImportBesides, RefusesDocumentBesides}
+use Rattle.gltf_options.specs.Import.{RefusesDocumentBesides}
 use Rattle.gltf_options.specs.Import.{IsValidBesides, IsOnlyBesides, IsNoValidBesides}
-use Rattle.gltf_c_open.specs.Buffers.{HaveOrAwait, HasOtherFault}
+use Rattle.gltf_c_open.specs.Buffers.{HaveOrAwait, HasFault}
+use Rattle.gltf_c_open.specs.Refusals.{out_of_memory, RefusesBuffer}
 use Rattle.gltf_c_open.specs.declared.file.File.{File}
+use Rattle.gltf_c_open.specs.declared.refusal.Refusal.{Refusal}
+use Rattle.gltf_c_open.specs.declared.wanted.Wanted.{Wanted}
 
--- the bytes are those of this document and these buffers, and of no other
-pub record Holds (also : List (List ℕ)) (bytes : List ℕ) (file : File) : Type 0 where
-  pub taken : List (List ℕ)
-  pub accepted :
-      AcceptsBesides also Nowhere bytes file.document taken (bytes_of_each file.buffers.items)
-  pub only :
-      IsOnlyImportBesides also Nowhere bytes file.document taken (bytes_of_each file.buffers.items)
-  pub none_waits : file.waiting.items ≡ []
+-- the loader imports the bytes as this document and these buffers, and in no other way
+abbrev pub IsImport : List (List ℕ) → List ℕ → Root → List (List ℕ) → List (List ℕ) → Type 0
+IsImport also bytes r taken buffers =
+    AcceptsBesides also Nowhere bytes r taken buffers
+    × IsOnlyImportBesides also Nowhere bytes r taken buffers
 
--- the error of the layer at fault, and then the bytes are not accepted; or there was not enough
--- memory
-pub record Refuses (also : List (List ℕ)) (bytes : List ℕ) (e : Error) : Type 0 where
-  pub fault : OutOfMemoryOr (RefusesImportBesides also Nowhere bytes) e
-  pub exact : e ≢ Memory → IsNotAcceptedBesides also Nowhere bytes
-
--- container, text, records and rules hold; each buffer has its bytes, or waits for them
-pub record HoldsWaiting (also : List (List ℕ)) (bytes : List ℕ) (file : File) : Type 0 where
+-- container, text, records and rules hold, of this document and of no other; each buffer has its
+-- bytes, or waits for them. Where none may wait, the loader imports the same
+pub record Holds (wanted : Wanted) (also : List (List ℕ)) (bytes : List ℕ) (file : File)
+    : Type 0 where
   pub taken : List (List ℕ)
   pub blob : Option (List ℕ)
   pub valid : IsValidBesides also bytes file.document taken blob
   pub only : IsOnlyBesides also bytes file.document taken blob
-  pub data_ : HaveOrAwait (sources_of file.document) blob (bytes_of_each file.buffers.items)
-      file.waiting.items
+  pub data_ : HaveOrAwait wanted (sources_of file.document) blob
+      (length (sources_of file.document)) (bytes_of_each file.buffers.items) file.waiting.items
+  pub lengths : file.exact ≡ wanted.exact
+  pub loaded : wanted.may_wait ≡ false
+      → IsImport also bytes file.document taken (bytes_of_each file.buffers.items)
 
 -- container, text, records or rules do not hold of any document
-pub record RefusesDocument (also : List (List ℕ)) (bytes : List ℕ) (e : Error) : Type 0 where
-  pub fault : RefusesDocumentBesides also bytes e
+pub record HaveNoDocument (also : List (List ℕ)) (bytes : List ℕ) (refusal : Refusal)
+    : Type 0 where
+  pub of_no_buffer : refusal.buffer ≡ None
+  pub fault : RefusesDocumentBesides also bytes refusal.error
   pub exact : IsNoValidBesides also bytes
 
--- they hold of this document and of no other; a buffer has a fault, and does not only lead to
--- another file
-pub record RefusesBuffer (also : List (List ℕ)) (bytes : List ℕ) (e : Error) : Type 0 where
+-- they hold of this document and of no other; a buffer has a fault that refuses the file. Where
+-- none may wait and the zeros count, the loader does not import the bytes either
+pub record HaveNoBuffers (wanted : Wanted) (also : List (List ℕ)) (bytes : List ℕ)
+    (refusal : Refusal) : Type 0 where
   pub root : Root
   pub taken : List (List ℕ)
   pub blob : Option (List ℕ)
   pub valid : IsValidBesides also bytes root taken blob
   pub only : IsOnlyBesides also bytes root taken blob
-  pub fault : HasOtherFault (sources_of root) blob e
+  pub fault : RefusesBuffer (HasFault wanted (sources_of root) blob) refusal
+  pub not_loaded : wanted.may_wait ≡ false → wanted.exact ≡ false
+      → IsNotAcceptedBesides also Nowhere bytes
 
--- the error of the layer at fault; or there was not enough memory
-abbrev pub RefusesWaiting : List (List ℕ) → List ℕ → Error → Type 0
-RefusesWaiting also bytes =
-    OutOfMemoryOr (λ e. RefusesDocument also bytes e ⊎ RefusesBuffer also bytes e)
+-- the first layer that does not hold; or there was not enough memory
+abbrev pub IsRefused : Wanted → List (List ℕ) → List ℕ → Refusal → Type 0
+IsRefused wanted also bytes refusal =
+    (refusal ≡ out_of_memory) ⊎ (HaveNoDocument also bytes refusal
+    ⊎ HaveNoBuffers wanted also bytes refusal)

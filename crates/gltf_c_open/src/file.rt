@@ -10,6 +10,8 @@ pub struct File {
     pub document: Document,
     /// The bytes of its buffers. One that waits for its bytes has none.
     pub buffers: Vec<Data>,
-    /// Which buffers wait for their bytes, by index; empty where none can.
+    /// Which buffers wait for their bytes, by index.
     pub waiting: Vec<bool>,
+    /// Whether each has as many bytes as it declares, the zeros after them not counted.
+    pub exact: bool,
 }

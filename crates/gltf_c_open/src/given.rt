@@ -5,6 +5,7 @@ ghost use Rattle.gltf_buffers.specs.Shown.{bytes_of_each};
 ghost use Rattle.gltf_c_open.specs.Given.{IsGiven, awaited_length};
 
 use crate::file::File;
+use crate::length::is_enough;
 use gltf::buffer::Data;
 use gltf_buffers::payload::pad_to_four;
 use std::alloc::{AllocError, Global};
@@ -14,14 +15,14 @@ use std::alloc::{AllocError, Global};
 pub enum GiveError {
     /// There is no such buffer, or it does not wait.
     NotAwaited,
-    /// There are fewer bytes than the buffer declares.
+    /// There are fewer bytes than the file was opened to ask for.
     TooShort,
     /// There was not enough memory.
     Memory,
 }
 
-/// How many bytes the buffer at an index waits for, at least: its `byteLength` (glTF 2.0, section
-/// 5.10.2). None where there is no such buffer, or it does not wait.
+/// How many bytes the buffer at an index declares that waits for them: its `byteLength` (glTF 2.0,
+/// section 5.10.2). None where there is no such buffer, or it does not wait.
 pub fn awaited_length(file: &File, index: usize) -> Option<u64>
     ensures { result ≡ awaited_length index file.now }
 {
@@ -32,14 +33,16 @@ pub fn awaited_length(file: &File, index: usize) -> Option<u64>
 }
 
 /// Copies bytes to the buffer at an index, which waits for them, with zeros after them up to a
-/// multiple of four. The buffer waits no more then. Where the call fails, nothing has changed.
+/// multiple of four. The buffer waits no more then. They have to be as many as it declares; the
+/// zeros count, unless the file was opened with exact lengths. Where the call fails, nothing has
+/// changed.
 pub fn give(alloc: Global, file: &mut File, index: usize, bytes: &[u8]) -> Result<(), GiveError>
     ensures { IsGiven (awaited_length index file.old) index bytes.now result file.old file.new }
 {
     let Some(declared) = awaited_length(file, index) else {
         return Err(GiveError::NotAwaited);
     };
-    if (bytes.len() as u64) < declared {
+    if !is_enough(bytes.len(), declared, file.exact) {
         return Err(GiveError::TooShort);
     }
     match padded_copy(alloc, bytes) {
@@ -66,6 +69,7 @@ fn put(file: &mut File, index: usize, bytes: Data)
     ensures buffers { bytes_of_each file.new.buffers.items
         ≡ set (bytes_of_each file.old.buffers.items) index bytes.0.items }
     ensures waiting { file.new.waiting.items ≡ set file.old.waiting.items index false }
+    ensures lengths { file.new.exact ≡ file.old.exact }
 {
     replace(&mut file.buffers, index, bytes);
     replace(&mut file.waiting, index, false);

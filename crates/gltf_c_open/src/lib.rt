@@ -5,5 +5,8 @@
 mod buffers;
 pub mod file;
 pub mod given;
+mod length;
 pub mod names;
 pub mod open;
+pub mod refusal;
+pub mod wanted;

@@ -42,6 +42,8 @@ pub enum Status {
     /// An extension has a member that is missing or of another kind, an index out of range, or an
     /// unknown word.
     BadExtension,
+    /// The library does not know what a file was to be opened with.
+    BadArgument,
     /// What a later library answers.
     Unknown(u32),
 }
@@ -85,7 +87,7 @@ pub enum Error {
         buffer: usize,
         /// How many bytes it declares.
         expected: usize,
-        /// How many there are.
+        /// How many there are, without zeros after them.
         actual: usize,
     },
     /// A buffer has no URI, and there is no BIN chunk for it.
@@ -126,6 +128,7 @@ impl Status {
             sys::GLTF_NO_ROOM => Status::NoRoom,
             sys::GLTF_OTHER_TYPE => Status::OtherType,
             sys::GLTF_BAD_EXTENSION => Status::BadExtension,
+            sys::GLTF_BAD_ARGUMENT => Status::BadArgument,
             other => Status::Unknown(other),
         }
     }

@@ -259,7 +259,8 @@ impl<'a> Instancing<'a> {
         self.accessor(self.info.translation)
     }
 
-    /// How they are turned (`ROTATION`), by unit quaternions: x, y, z, w. None: not at all.
+    /// How they are turned (`ROTATION`), by quaternions x, y, z, w as the file has them: no rule
+    /// says that they are unit quaternions. None: not at all.
     pub fn rotation(&self) -> Option<Accessor<'a>> {
         self.accessor(self.info.rotation)
     }

@@ -9,7 +9,7 @@ use crate::error::{Error, Fault, Result, Status};
 use crate::sys::{self, gltf_file, gltf_status};
 
 /// The version of the library: major, minor, patch. It works with this crate if its major version
-/// is 2 and it is not older than 2.1; this crate makes no call that 2.1.0 has not.
+/// is 2 and it is not older than 2.2; this crate asks for nothing that 2.2.0 does not know.
 pub fn library_version() -> (u32, u32, u32) {
     // SAFETY: the call takes nothing and changes nothing.
     let number = unsafe { sys::gltf_version() };
@@ -143,12 +143,12 @@ pub(crate) fn or_none(index: usize) -> Option<usize> {
 }
 
 impl File {
-    /// Opens a file. Where `waits` is true, buffers in other files wait for [`File::give`]. A file
-    /// that requires one of `extensions` is accepted.
-    pub(crate) fn open(bytes: &[u8], waits: bool, extensions: &[CString]) -> Result<File> {
+    /// Opens a file with these flags: buffers may wait for [`File::give`], and lengths be exact. A
+    /// file that requires one of `extensions` is accepted.
+    pub(crate) fn open(bytes: &[u8], flags: u32, extensions: &[CString]) -> Result<File> {
         let names: Vec<*const c_char> = extensions.iter().map(|name| name.as_ptr()).collect();
         let options = sys::gltf_open_options {
-            flags: if waits { sys::GLTF_EXTERNAL } else { 0 },
+            flags,
             reserved_word: 0,
             extensions: names.as_ptr(),
             extension_count: names.len(),
@@ -378,8 +378,8 @@ impl File {
 
     /// Lends bytes of the file; none where the pointer is NULL.
     ///
-    /// # Safety The pointer is NULL, or a pointer that the library gave of this file, to so many
-    /// bytes there.
+    /// # Safety
+    /// The pointer is NULL, or one that the library gave of this file, to so many bytes there.
     pub(crate) unsafe fn lent(&self, bytes: *const u8, size: usize) -> Option<&[u8]> {
         // SAFETY: gltf.h says that they stay until gltf_close, which comes after all borrows of
         // `self`. They are not written: gltf_give only adds bytes to buffers that had none.

@@ -21,6 +21,7 @@ use crate::{sys, Document, Folder};
 pub struct Options {
     extensions: Vec<CString>,
     outside: bool,
+    exact_lengths: bool,
 }
 
 impl Options {
@@ -43,6 +44,13 @@ impl Options {
         self
     }
 
+    /// Whether each buffer has as many bytes as it declares. Else it may have up to three fewer: as
+    /// many as there are zeros up to a multiple of four.
+    pub fn exact_lengths(mut self, are_asked_for: bool) -> Options {
+        self.exact_lengths = are_asked_for;
+        self
+    }
+
     /// Opens the file at a path, with its buffers in other files.
     pub fn open<P: AsRef<Path>>(&self, path: P) -> Result<Document> {
         let path = path.as_ref();
@@ -53,7 +61,7 @@ impl Options {
 
     /// Opens a file that is in memory. A buffer in another file is refused.
     pub fn from_slice(&self, bytes: &[u8]) -> Result<Document> {
-        File::open(bytes, false, &self.extensions).map(Document::of_file)
+        File::open(bytes, self.flags(), &self.extensions).map(Document::of_file)
     }
 
     /// Opens a file that is in memory. Of each buffer in another file, `resolve` gets the URI, as
@@ -64,7 +72,8 @@ impl Options {
     where
         F: FnMut(&str) -> io::Result<Vec<u8>>,
     {
-        let mut file = File::open(bytes, true, &self.extensions)?;
+        let flags = self.flags() | sys::GLTF_EXTERNAL;
+        let mut file = File::open(bytes, flags, &self.extensions)?;
         for buffer in 0..file.count(sys::GLTF_BUFFERS) {
             let info: sys::gltf_buffer = file.info(buffer);
             if info.waits != 0 {
@@ -74,6 +83,14 @@ impl Options {
             }
         }
         Ok(Document::of_file(file))
+    }
+
+    fn flags(&self) -> u32 {
+        if self.exact_lengths {
+            sys::GLTF_EXACT_LENGTHS
+        } else {
+            0
+        }
     }
 }
 

@@ -8,7 +8,7 @@
 use std::os::raw::{c_char, c_void};
 
 /// The version of the header: major * 10000 + minor * 100 + patch.
-pub const GLTF_VERSION: u32 = 20100;
+pub const GLTF_VERSION: u32 = 20200;
 
 /// The index of a record that is absent.
 pub const GLTF_NONE: usize = usize::MAX;
@@ -38,7 +38,9 @@ pub const GLTF_UNREADABLE: u32 = 13;
 pub const GLTF_NO_ROOM: u32 = 14;
 pub const GLTF_OTHER_TYPE: u32 = 16;
 pub const GLTF_BAD_EXTENSION: u32 = 17;
+pub const GLTF_BAD_ARGUMENT: u32 = 18;
 pub const GLTF_EXTERNAL: u32 = 1;
+pub const GLTF_EXACT_LENGTHS: u32 = 2;
 pub const GLTF_BUFFERS: u32 = 0;
 pub const GLTF_BUFFER_VIEWS: u32 = 1;
 pub const GLTF_ACCESSORS: u32 = 2;
@@ -172,7 +174,9 @@ pub struct gltf_buffer_view {
     pub byte_stride: usize,
     pub target: u32,
     pub reserved_word: u32,
-    pub reserved: [usize; 2],
+    /// An address, as a number: a handle is to be sent to other threads.
+    pub bytes: usize,
+    pub reserved: [usize; 1],
 }
 
 #[repr(C)]

@@ -16,17 +16,19 @@ fn refused(members: &str) -> Error {
 
 #[test]
 fn each_fault_has_its_status_and_its_place() {
-    let buffer = |member: &str| refused(&format!(r#","buffers":[{{"byteLength":9{member}}}]"#));
+    let fine = r#"{"byteLength":3,"uri":"data:;base64,AAAA"}"#;
+    let buffer =
+        |member: &str| refused(&format!(r#","buffers":[{fine},{{"byteLength":9{member}}}]"#));
     for (why, status, pointer, at) in [
         (Document::from_slice(b"glTF\x01\0\0\0").unwrap_err(), Status::BadContainer, "", None),
         (Document::from_slice(b"{").unwrap_err(), Status::BadJson, "", None),
         (Document::from_slice(b"").unwrap_err(), Status::BadJson, "", None),
         (refused(r#","nodes":[{"mesh":3}]"#), Status::BrokenRules, "/nodes/0/mesh", None),
-        (buffer(r#","uri":"data:;base64,!""#), Status::BadBase64, "", None),
-        (buffer(r#","uri":"data:;base64,AAAAAA==""#), Status::ShortBuffer, "/buffers/0", Some(0)),
-        (buffer(""), Status::MissingBlob, "", None),
-        (buffer(r#","uri":"a.bin""#), Status::ExternalReference, "", None),
-        (buffer(r#","uri":"http://a/b""#), Status::UnsupportedScheme, "", None),
+        (buffer(r#","uri":"data:;base64,!""#), Status::BadBase64, "/buffers/1/uri", Some(1)),
+        (buffer(r#","uri":"data:;base64,AAAAAA==""#), Status::ShortBuffer, "/buffers/1", Some(1)),
+        (buffer(""), Status::MissingBlob, "/buffers/1", Some(1)),
+        (buffer(r#","uri":"a.bin""#), Status::ExternalReference, "/buffers/1/uri", Some(1)),
+        (buffer(r#","uri":"http://a/b""#), Status::UnsupportedScheme, "/buffers/1/uri", Some(1)),
     ] {
         assert_eq!(why.status(), status, "{why:?}");
         assert_eq!((why.pointer().as_ref(), why.buffer()), (pointer, at), "{why:?}");
@@ -89,11 +91,35 @@ fn bytes_that_are_given_may_be_too_few() {
     let options = Options::new();
     let open = |bytes: &[u8]| options.from_slice_with(text, |_| Ok(bytes.to_vec()));
     assert_eq!(open(b"abcd").unwrap().buffers().next().unwrap().bytes(), Some(&b"abcd"[..]));
-    let why = open(b"abc").unwrap_err();
-    assert!(matches!(why, Error::BufferLength { buffer: 0, expected: 4, actual: 3 }), "{why:?}");
+    assert_eq!(open(b"a").unwrap().buffers().next().unwrap().bytes(), Some(&b"a\0\0\0"[..]));
+    let why = open(b"").unwrap_err();
+    assert!(matches!(why, Error::BufferLength { buffer: 0, expected: 4, actual: 0 }), "{why:?}");
     let why = options.from_slice_with(text, |_| Err(io::ErrorKind::TimedOut.into())).unwrap_err();
     assert!(matches!(&why, Error::ExternalFile(fault, _) if fault.pointer == "/buffers/0/uri"));
     assert!(why.to_string().contains("a.bin"), "{why}");
+}
+
+#[test]
+fn lengths_are_exact_where_that_is_asked_for() {
+    let exact = Options::new().exact_lengths(true);
+    for uri in ["data:;base64,QUJDREU=", "a.bin"] {
+        for declared in 4..10 {
+            let buffer = format!(r#"{{"byteLength":{declared},"uri":"{uri}"}}"#);
+            let text = format!(r#"{{"asset":{{"version":"2.0"}},"buffers":[{buffer}]}}"#);
+            for (options, most) in [(Options::new(), 8), (exact.clone(), 5)] {
+                match options.from_slice_with(text.as_bytes(), |_| Ok(b"ABCDE".to_vec())) {
+                    Ok(document) => {
+                        let bytes = document.buffers().next().unwrap().bytes();
+                        assert_eq!((bytes, declared <= most), (Some(&b"ABCDE\0\0\0"[..]), true));
+                    }
+                    Err(why) => {
+                        assert_eq!((why.expected(), why.actual()), (Some(declared), Some(5)));
+                        assert_eq!((why.pointer().as_ref(), declared > most), ("/buffers/0", true));
+                    }
+                }
+            }
+        }
+    }
 }
 
 /// A folder of its own for a test, which is removed at the end.
@@ -157,7 +183,7 @@ fn an_accessor_that_does_not_fit_is_told() {
     let members = r#","bufferViews":[{"buffer":0,"byteLength":8}],"accessors":[
         {"bufferView":0,"componentType":5126,"count":3,"type":"SCALAR"},
         {"bufferView":0,"componentType":5126,"count":2,"type":"SCALAR"},
-        {"componentType":5126,"count":2,"type":"SCALAR"}]"#;
+        {"componentType":5126,"count":0,"type":"SCALAR"}]"#;
     let document = document_of(members, &[0; 8]).unwrap();
     let accessor = |index: usize| document.accessors().nth(index).unwrap();
     for index in [0, 2] {

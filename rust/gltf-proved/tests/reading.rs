@@ -6,7 +6,7 @@ use gltf_proved::camera::Projection;
 use gltf_proved::khr_lights_punctual::Kind;
 use gltf_proved::material::AlphaMode;
 use gltf_proved::mesh::util::ReadColors;
-use gltf_proved::{Document, Semantic};
+use gltf_proved::{image, Document, Error, Semantic};
 
 mod support;
 use support::{document_of, example, file};
@@ -88,6 +88,41 @@ fn matrices_are_arrays_of_columns() {
     assert!(matrices.next().is_none());
     assert_eq!(skin.joints().len(), 1);
     assert_eq!(skin.skeleton().map(|it| it.index()), Some(0));
+}
+
+#[test]
+fn padding_in_matrices_is_skipped() {
+    // Each column begins at a multiple of four bytes (glTF 2.0, section 3.6.2.4).
+    let data = [1, 2, 99, 99, 3, 4, 99, 99, 5, 6, 99, 99, 7, 8, 99, 99];
+    let members = r#","bufferViews":[{"buffer":0,"byteLength":16}],
+        "accessors":[{"bufferView":0,"componentType":5121,"count":2,"type":"MAT2"}]"#;
+    let document = document_of(members, &data).unwrap();
+    let accessor = document.accessors().next().unwrap();
+    assert_eq!((accessor.size(), accessor.stride()), (4, 8));
+    assert!(accessor.bytes().is_none());
+    assert_eq!(accessor.read_bytes().unwrap(), [1, 2, 3, 4, 5, 6, 7, 8]);
+    assert_eq!(accessor.read_u32().unwrap(), [1, 2, 3, 4, 5, 6, 7, 8]);
+    assert_eq!(accessor.read_f32().unwrap()[7], 8.0);
+    assert_eq!(accessor.read::<[u8; 4]>().unwrap(), [[1, 2, 3, 4], [5, 6, 7, 8]]);
+}
+
+#[test]
+fn items_without_a_view_are_zeros() {
+    let members = r#","bufferViews":[{"buffer":0,"byteLength":4},
+        {"buffer":0,"byteOffset":4,"byteLength":24}],
+        "accessors":[{"componentType":5126,"count":2,"type":"VEC3"},
+        {"componentType":5123,"count":3,"type":"MAT3","sparse":{"count":1,
+        "indices":{"bufferView":0,"componentType":5121},"values":{"bufferView":1}}}]"#;
+    let mut data = vec![1, 0, 0, 0];
+    for column in 0..3u8 {
+        data.extend([3 * column, 0, 3 * column + 1, 0, 3 * column + 2, 0, 99, 99]);
+    }
+    let document = document_of(members, &data).unwrap();
+    let accessor = |index: usize| document.accessors().nth(index).unwrap();
+    assert_eq!(accessor(0).read::<[f32; 3]>().unwrap(), [[0.0; 3]; 2]);
+    assert!(accessor(0).bytes().is_none());
+    let wanted: Vec<u32> = (0..27).map(|it| if it / 9 == 1 { it % 9 } else { 0 }).collect();
+    assert_eq!(accessor(1).read_u32().unwrap(), wanted);
 }
 
 #[test]
@@ -206,4 +241,27 @@ fn lists_are_iterators_of_known_length() {
     assert_eq!(document.nodes().nth(2).unwrap().weights(), Some(&[0.25, 1.0][..]));
     assert_eq!(document.nodes().nth(2).unwrap().name(), Some(""));
     assert_eq!(document.nodes().nth(1).unwrap().name(), None);
+}
+
+#[test]
+fn accessors_of_no_items_are_read() {
+    let members = r#","bufferViews":[{"buffer":0,"byteLength":0}],
+        "accessors":[{"bufferView":0,"componentType":5126,"count":0,"type":"VEC3"},
+                     {"componentType":5121,"count":0,"type":"SCALAR"}],
+        "images":[{"bufferView":0,"mimeType":"image/png"}]"#;
+    let document = document_of(members, b"1234").unwrap();
+    for accessor in document.accessors() {
+        assert_eq!((accessor.count(), accessor.bytes()), (0, None));
+        for why in [
+            accessor.read_bytes().unwrap_err(),
+            accessor.read_f32().unwrap_err(),
+            accessor.read::<[f32; 3]>().unwrap_err(),
+            accessor.read_u32().unwrap_err(),
+        ] {
+            assert!(matches!(why, Error::Unreadable(_) | Error::OtherType(_)), "{why:?}");
+        }
+    }
+    let image = document.images().next().unwrap();
+    assert!(matches!(image.source(), image::Source::View { .. }));
+    assert_eq!(image.bytes(), Some(&[][..]));
 }

@@ -32,7 +32,7 @@ impl Sparse {
 }
 
 impl<'a> Accessor<'a> {
-    /// The bytes of one item, without padding.
+    /// The bytes of the components of one item, without padding.
     pub fn size(&self) -> usize {
         self.info.item_size
     }
@@ -47,13 +47,14 @@ impl<'a> Accessor<'a> {
         self.info.byte_offset
     }
 
-    /// The bytes from one item of the view to the next.
+    /// The bytes from one item of the view to the next, with the padding of a small matrix: the
+    /// view's stride, or what an item takes up there (glTF 2.0, section 3.6.2.4).
     pub fn stride(&self) -> usize {
         self.info.stride
     }
 
-    /// How many items there are, as the file says it. An accessor that is sparse and has no view
-    /// may state any number: look at it before you read all items of a file that you do not trust.
+    /// How many items there are, as the file says it. An accessor that has no view may state any
+    /// number: look at it before you read all items of a file that you do not trust.
     pub fn count(&self) -> usize {
         self.info.count
     }
@@ -94,8 +95,9 @@ impl<'a> Accessor<'a> {
     }
 
     /// The bytes of the file from the first item to the end of the last one, in place. Item i
-    /// begins at i * [`Accessor::stride`]. None where the items are not in the file as they are:
-    /// they are sparse or padded inside, or have no view that holds them.
+    /// begins at i * [`Accessor::stride`]. None where there are no items, or they are not in the
+    /// file as they are: they have a sparse part, also one of no values, are padded inside, have a
+    /// stride below their size, or no view that holds them.
     pub fn bytes(&self) -> Option<&'a [u8]> {
         if self.info.data.is_null() {
             return None;
@@ -145,7 +147,9 @@ impl<'a> Accessor<'a> {
         }
     }
 
-    /// A copy of the bytes of all items, without gaps, with the sparse ones applied.
+    /// A copy of the bytes of the components of all items, without gaps and without the padding of
+    /// small matrices (glTF 2.0, section 3.6.2.4), with the sparse ones applied. Without a view the
+    /// items are zeros under these (section 5.1.1).
     pub fn read_bytes(&self) -> Result<Vec<u8>> {
         let size = self.info.count.checked_mul(self.info.item_size);
         let mut out = room(size.ok_or(Error::NoMemory)?, 0)?;

@@ -13,7 +13,8 @@ pub type Translations<'a> = Iter<'a, [f32; 3]>;
 /// How a node is scaled.
 pub type Scales<'a> = Iter<'a, [f32; 3]>;
 
-/// How a node is turned: unit quaternions x, y, z, w, as the file stores them.
+/// How a node is turned: quaternions x, y, z, w, as the file stores them. They are to be unit
+/// quaternions, and no rule checks that.
 #[derive(Clone, Debug)]
 pub enum Rotations<'a> {
     /// Of 8 bits each.

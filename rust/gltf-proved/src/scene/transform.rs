@@ -13,7 +13,8 @@ pub enum Transform {
     Decomposed {
         /// By how much it is moved.
         translation: [f32; 3],
-        /// By how much it is turned: a unit quaternion x, y, z, w.
+        /// By how much it is turned: x, y, z, w, as the file says. It is to be a unit quaternion,
+        /// and no rule checks that.
         rotation: [f32; 4],
         /// By how much it is scaled.
         scale: [f32; 3],

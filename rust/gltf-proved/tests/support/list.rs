@@ -130,6 +130,7 @@ fn list_buffers(document: &Document) {
         put(about, "byte_length", it.length());
         put(about, "byte_stride", it.stride().unwrap_or(0));
         put(about, "target", it.target().map_or(0, |target| target.as_gl_enum()));
+        put_bytes(about, "bytes", it.bytes());
         list_meshopt(&it);
     }
 }
