@@ -66,6 +66,7 @@ CRATES = {
         ("two files/square.gltf", "two files/square data.bin"),
     ),
     "gltf_extension_cases": ("extensions quantized mended lenient instances".split(), ()),
+    "gltf_meshopt_cases": ("attributes triangles indices broken faults".split(), ()),
 }
 BYTES = r'"([^"]*)"|(\d+)\.(?!\S)|([0-9A-Fa-f]{2})×(\d+)|([0-9A-Fa-f]+)|\S+'
 # Lines at the margin, and lines below them that are not.
