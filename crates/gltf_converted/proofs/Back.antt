@@ -1,14 +1,16 @@
 -- The images of a file that is bundled and split.
-use Rattle.std.proofs.Common.{◌≡◌, ◌≢◌, ℕ, List, Option, Some, None, Bool, Ok, subst}
+use Rattle.std.proofs.Common.{◌≡◌, ◌≢◌, ℕ, List, Option, Some, None, Bool, Ok, refl, subst, ◌∙◌}
 use Rattle.std.proofs.Common.{option_map, string_bytes}
 use Rattle.std.specs.Prelude.{slice_get}
 use Rattle.gltf_json.specs.declared.root.Root.{Root}
 use Rattle.gltf_json_scene.specs.declared.image.Image.{Image}
+use Rattle.gltf_names.specs.Named.{File}
 use Rattle.gltf_buffers.specs.Buffers.{IsMeant}
-use Rattle.gltf_buffers.specs.Names.{Held}
+use Rattle.gltf_buffers.specs.Names.{Names, Held}
 use Rattle.gltf_buffers.specs.Uri.{uri_of}
 use Rattle.gltf_required.specs.Import.{IsRead}
 use Rattle.gltf_required.specs.declared.required.Required.{Required}
+use Rattle.gltf_bundle.specs.Bundle.{IsBundle}
 use Rattle.gltf_bundle.specs.Laws as bundled
 use Rattle.gltf_bundle.specs.declared.options.Keep.{Keep}
 use Rattle.gltf_bundle.specs.declared.options.Keep.TheVariants.{Nothing, Every}
