@@ -1,17 +1,11 @@
 /* Accessors of no items, with no room for them, and an image of no bytes: by gltf.h and
  * gltf_load.h. It ends with 0 where each call returns what the header says; a sanitizer sees the
  * rest. */
+#include "check.h"
 #include "empty.h"
 
 #define GLTF_LOAD_IMPLEMENTATION
 #include "gltf_load.h"
-
-static int wrong;
-
-#define CHECK(holds) do { \
-        if (!(holds)) \
-            wrong = __LINE__; \
-    } while (0)
 
 static void read_nothing(const gltf_file *file)
 {

@@ -1,14 +1,9 @@
 /* The escapes of URIs, and images in data URIs: by gltf_load.h. It ends with 0 where each call
  * returns what the header says; a sanitizer sees the rest. */
+#include "check.h"
+
 #define GLTF_LOAD_IMPLEMENTATION
 #include "gltf_load.h"
-
-static int wrong;
-
-#define CHECK(holds) do { \
-        if (!(holds)) \
-            wrong = __LINE__; \
-    } while (0)
 
 /* A URI and what it is decoded to, of so many bytes. */
 static void is_decoded(const char *uri, const char *wanted, size_t length)
