@@ -34,7 +34,7 @@ use Rattle.gltf_bundle.specs.Bundle.{blob_of}
 use Rattle.gltf_bundle.specs.Causes.{is_memory}
 use Rattle.gltf_bundle.specs.Images.{IsFirstNotTaken, IsRefused, HasNoMedia, text_at}
 use Rattle.gltf_bundle.specs.Laws.{LacksOnlyMemoryAgain}
-use Rattle.gltf_bundle.specs.Refusals.{RefusesBundle, LacksMemoryOr}
+use Rattle.gltf_bundle.specs.Refusals.{RefusesBundle, HasFailedAtMissing, LacksMemoryOr}
 use Rattle.gltf_bundle.specs.declared.error.BundleError.{BundleError}
 use Rattle.gltf_bundle.specs.declared.error.BundleError.TheVariants as bundle
 use Rattle.gltf_bundle.specs.declared.options.Keep.{Keep}
@@ -210,7 +210,8 @@ module _ (law : Law) (back : ReadsBack) (spaces : SpacesBehind)
                 (subst (λ (bytes : List ℕ). RefusesImportAs others Nowhere bytes e)
                 (sym is.written) told)
 
-  no_import : (e : Error) → LacksMemoryOr (kept ≢ stay.Missing → failures ≡ failures)
+  no_import : (e : Error)
+      → LacksMemoryOr (HasFailedAtMissing others (Held from) other kept failures failures)
       (RefusesFileAs others (Held from) other failures failures) e
       → bundle.Import e ≡ bundle.Import error.Memory
   no_import error.Memory told = refl

@@ -15,7 +15,7 @@ use Rattle.gltf_json_record.specs.declared.error.Error.TheVariants.{Text, Record
 use Rattle.gltf_json_record.specs.declared.error.Error.TheVariants.{Memory as TextMemory}
 use Rattle.gltf_json.specs.Alike.{AreAlikeInEachMember}
 use Rattle.gltf_json.specs.Documents.{root}
-use Rattle.gltf_json.specs.Reading.{Reads, Refuses}
+use Rattle.gltf_json.specs.Reading.{Reads}
 use Rattle.gltf_json.specs.declared.root.Root.{Root}
 use Rattle.gltf_validation.specs.Documents.{Faults}
 use Rattle.gltf_glb.specs.declared.error.Error.{Error}
@@ -31,7 +31,7 @@ use Rattle.gltf_buffers.specs.Names.{Names, Nowhere, Held, AreKnown, MayBeGiven,
 use Rattle.gltf_buffers.specs.Uri.{Meaning, uri_of}
 use Rattle.gltf_buffers.specs.Uri as uri
 use Rattle.gltf.specs.Errors.{TellsRules}
-use Rattle.gltf.specs.Import.{AreParts, IsDocument, RefusesContainer, RefusesText}
+use Rattle.gltf.specs.Import.{AreParts, RefusesContainer}
 use Rattle.gltf.specs.Laws.{OneTextAndBlob}
 use Rattle.gltf_options.specs.Alike.{AreLeftAlike, BreakTheSameBesides, HaveNoBuffers}
 use Rattle.gltf_options.specs.Besides.{IsBesides, required_of, listed}
@@ -40,10 +40,15 @@ use Rattle.gltf_options.specs.Laws.{AreBrokenWithout}
 use Rattle.gltf_options.specs.Names.{left_of}
 use Rattle.gltf_options.specs.Places.{places_left, in_file}
 use Rattle.gltf_required.specs.Files.{RefusesFileAs, FailsOrRefusesAs}
-use Rattle.gltf_required.specs.Import.{AcceptsAs, RefusesImportAs}
-use Rattle.gltf_required.specs.Required.{IsLeft, IsBare, TellsAs}
+use Rattle.gltf_mend.specs.declared.mends.Mends.{Mends}
+use Rattle.gltf_lenient.specs.Import.{also_of}
+use Rattle.gltf_required.specs.Import.{AcceptsAs, IsDocumentAs, RefusesImportAs, RefusesTextAs}
+use Rattle.gltf_required.specs.Import.{RefusesMendedBy, RefusesValueAs}
+use Rattle.gltf_required.specs.Required.{IsLeft, IsBare, TellsAs, TellsBare, as_read, mended_by}
+use Rattle.gltf_required.specs.Required.{mends_of}
 use Rattle.gltf_required.specs.declared.required.Required.{Required}
 use Rattle.gltf_required.specs.declared.required.Required.TheVariants.{Supported, Also, All}
+use Rattle.gltf_required.specs.declared.required.Required.TheVariants.{Mended, AllMended}
 use Rattle.gltf_bundle.specs.Bundle.{IsAcceptedAs}
 
 -- ---- container, text and records
@@ -58,32 +63,35 @@ no_container bytes text blob e parts refused =
 same_value : (d e : Data) → ◌≡◌ {A = Option Data} (Some d) (Some e) → d ≡ e
 same_value d e same = cc
 
-read_text : (text : List ℕ) (d : Data) (r : Root) (cause : json.Error) → Reads text d
-    → root.is d r → cause ≢ TextMemory → Refuses text cause → ⊥
-read_text text d r (Text refused) reads is other fails = fails.1 d reads
-read_text text d r (Record path fault) reads is other fails =
-    root.apart d path fault (root.needs d r is)
-    (subst (λ (e : Data). root.fault e path fault)
+read_text : (o : Option Mends) (text : List ℕ) (d : Data) (r : Root) (cause : json.Error)
+    → Reads text d → root.is (mended_by o d) r → cause ≢ TextMemory
+    → RefusesMendedBy o text cause → ⊥
+read_text o text d r (Text refused) reads is other fails = fails.1 d reads
+read_text o text d r (Record path fault) reads is other fails =
+    root.apart (mended_by o d) path fault (root.needs (mended_by o d) r is)
+    (subst (λ (e : Data). root.fault (mended_by o e) path fault)
     (same_value fails.0 d (sym fails.1.1 ∙ reads.1)) fails.2)
-read_text text d r TextMemory reads is other fails = absurd (other refl)
+read_text o text d r TextMemory reads is other fails = absurd (other refl)
 
-pub no_text : OneTextAndBlob → (bytes : List ℕ) (r : Root) (blob : Option (List ℕ))
-    → IsDocument bytes r blob → (e : Error) → RefusesText bytes e → ⊥
-no_text one bytes r blob document e refused =
+pub no_text : OneTextAndBlob → (required : Required) (bytes : List ℕ) (r : Root)
+    (blob : Option (List ℕ)) → IsDocumentAs required bytes r blob → (e : Error)
+    → RefusesTextAs required bytes e → ⊥
+no_text one required bytes r blob document e refused =
     let same = one bytes document.text refused.text blob refused.blob document.parts refused.parts
     in
-    read_text document.text document.value r refused.cause document.reads document.records
-    refused.not_memory
-    (subst (λ (t : List ℕ). Refuses t refused.cause) same.0 refused.fails)
+    read_text (mends_of required) document.text document.value r refused.cause document.reads
+    document.records refused.not_memory
+    (subst (λ (t : List ℕ). RefusesValueAs required t refused.cause) same.0 refused.fails)
 
 -- bytes are one document, and have one blob
-pub one_document : OneTextAndBlob → (bytes : List ℕ) (r s : Root) (blob rest : Option (List ℕ))
-    → IsDocument bytes r blob → IsDocument bytes s rest
-    → (root.content r ≡ root.content s) × (rest ≡ blob)
-one_document one bytes r s blob rest x y =
+pub one_document : OneTextAndBlob → (required : Required) (bytes : List ℕ) (r s : Root)
+    (blob rest : Option (List ℕ)) → IsDocumentAs required bytes r blob
+    → IsDocumentAs required bytes s rest → (root.content r ≡ root.content s) × (rest ≡ blob)
+one_document one required bytes r s blob rest x y =
     let parts = one bytes x.text y.text blob rest x.parts y.parts in
     let value = same_value y.value x.value (sym y.reads.1 ∙ ap read parts.0 ∙ x.reads.1) in
-    (root.alike x.value r s x.records (subst (λ (d : Data). root.is d s) value y.records), parts.1)
+    let other = subst (λ (d : Data). root.is (as_read required d) s) value y.records in
+    (root.alike (as_read required x.value) r s x.records other, parts.1)
 
 -- ---- names
 
@@ -146,22 +154,35 @@ besides_some : (also : List (List ℕ)) (r : Root) (e : Error) → RefusesBeside
 besides_some also r (error.Validation faults) told = told.1
 besides_some also r e told = absurd told
 
-no_rules : Law → (required : Required) (r s left : Root) → root.content r ≡ root.content s
-    → IsLeft required r left → Faults left ≡ [] → (e : Error) → TellsAs required s e → ⊥
-no_rules law Supported r s left same is none e told =
-    tells_some s e told (sym (law.rules r s same) ∙ sym (ap Faults is) ∙ none)
-no_rules law (Also options) r s left same is none e told =
-    let also = listed options in
+no_rules_besides : Law → (also : List (List ℕ)) (r s left : Root)
+    → root.content r ≡ root.content s → IsBesides also r left → Faults left ≡ [] → (e : Error)
+    → RefusesBesides also s e → ⊥
+no_rules_besides law also r s left same is none e told =
     besides_some also s e told
     (sym (law.besides also r s same) ∙ law.without also r left is
     ∙ ap (map (in_file (places_left also (required_of r)))) none)
-no_rules law All r s left same is none e told =
+
+no_rules_bare : Law → (r s left : Root) → root.content r ≡ root.content s → IsBare r left
+    → Faults left ≡ [] → (e : Error) → TellsBare s e → ⊥
+no_rules_bare law r s left same is none e told =
     let also = required_of r in
     let names : required_of s ≡ also = sym ((law.members r s same).extensions_required) in
     let one = bare_besides also r left refl is in
     let other = bare_besides also s told.0 names told.1 in
     let alike = law.left also r s left told.0 same one other in
     tells_some told.0 e told.2 (sym (law.rules left told.0 alike.0) ∙ none)
+
+no_rules : Law → (required : Required) (r s left : Root) → root.content r ≡ root.content s
+    → IsLeft required r left → Faults left ≡ [] → (e : Error) → TellsAs required s e → ⊥
+no_rules law Supported r s left same is none e told =
+    tells_some s e told (sym (law.rules r s same) ∙ sym (ap Faults is) ∙ none)
+no_rules law (Also options) r s left same is none e told =
+    no_rules_besides law (listed options) r s left same is none e told
+no_rules law All r s left same is none e told = no_rules_bare law r s left same is none e told
+no_rules law (Mended options) r s left same is none e told =
+    no_rules_besides law (also_of options) r s left same is none e told
+no_rules law (AllMended mends) r s left same is none e told =
+    no_rules_bare law r s left same is none e told
 
 -- ---- buffers
 
@@ -231,14 +252,14 @@ not_refused law required names known bytes r buffers is e (inl (inl (inl told)))
     let document = is.valid.document in
     no_container bytes document.text is.blob e document.parts told
 not_refused law required names known bytes r buffers is e (inl (inl (inr told))) =
-    no_text law.one bytes r is.blob is.valid.document e told
+    no_text law.one required bytes r is.blob is.valid.document e told
 not_refused law required names known bytes r buffers is e (inl (inr told)) =
-    let same = one_document law.one bytes r told.root is.blob told.blob is.valid.document
+    let same = one_document law.one required bytes r told.root is.blob told.blob is.valid.document
     told.document in
     no_rules law required r told.root is.valid.left same.0 is.valid.is_left is.valid.rules e
     told.fails
 not_refused law required names known bytes r buffers is e (inr told) =
-    let same = one_document law.one bytes r told.root is.blob told.blob is.valid.document
+    let same = one_document law.one required bytes r told.root is.blob told.blob is.valid.document
     told.valid.document in
     no_buffers law names known r told.root is.blob buffers same.0 is.data_ e
     (subst (λ (b : Option (List ℕ)).

@@ -30,7 +30,10 @@ use Rattle.gltf_buffers.specs.Padding as payload
 use Rattle.gltf_pack.specs.Laws.{SpacesBehind}
 use Rattle.gltf.specs.Import.{AreParts}
 use Rattle.gltf_required.specs.Import.{IsRead}
+use Rattle.gltf_mended.specs.Edited.{buffers_left, images_left}
 use Rattle.gltf_required.specs.Left.{others_are}
+use Rattle.gltf_required.specs.Read.{get_read, object_read, read_moved, read_placed}
+use Rattle.gltf_required.specs.Required.{ReadAlike, as_read}
 use Rattle.gltf_required.specs.declared.required.Required.{Required}
 use Rattle.gltf_edit.specs.Bundled.{bundled, views_after, with_some, one_buffer}
 use Rattle.gltf_edit.specs.BundledLaws.{get_with, get_with_some_other, object_with_some, differ}
@@ -214,8 +217,8 @@ from_one over one bytes cs blob others is_one is_blob whole no_uri long are =
 
 module _ (one : OneTextAndBlob) (back : ReadsBack) (spaces : SpacesBehind)
     (required : Required) (names : Names) (path : List ℕ) (keep : Keep) (answer : List ℕ)
-    (is : IsBundle required names path keep answer) (over : Names) (s : Root)
-    (others : List (List ℕ)) (accepted : IsRead over answer s others) where
+    (is : IsBundle required names path keep answer) (reading : Required) (over : Names) (s : Root)
+    (others : List (List ℕ)) (accepted : IsRead reading over answer s others) where
   abbrev all : List (List ℕ)
   all = is.buffers ++ is.images
 
@@ -258,22 +261,30 @@ module _ (one : OneTextAndBlob) (back : ReadsBack) (spaces : SpacesBehind)
       one_value is.json is.json document.value edited refl
       ((spaces n is.json document.value).0 padded_reads) is.reads
 
-  pub after : root.is edited s
-  after = subst (λ (d : Data). root.is d s) the_value accepted.document.records
+  pub after : root.is (as_read reading edited) s
+  after =
+      subst (λ (d : Data). root.is (as_read reading d) s) the_value accepted.document.records
+
+  is_object : IsSome (as_object is.value)
+  unfolding root
+  is_object = object_read required is.value source.records.0
 
   pub own_count : length is.buffers ≡ length is.root_.buffers.items
   own_count = source.data_.count ∙ length_of_map source_of is.root_.buffers.items
 
-  abbrev pub is_moved : IsMoved is.buffers is.images is.root_ s
-  is_moved = record {
-    value = is.value;
+  abbrev pub is_moved : ReadAlike required reading → IsMoved is.buffers is.images is.root_ s
+  is_moved alike = record {
+    value = as_read required is.value;
     pictures = is.pictures;
     before = source.records;
     rules =
         (source.left, source.rules, others_are required is.root_ source.left source.is_left);
     count = own_count;
-    after = after;
-    placed = is.placed;
+    after =
+        subst (λ (d : Data). root.is d s)
+        (sym (alike edited) ∙ read_moved required (spans_from 0 all) total is.pictures is.value)
+        after;
+    placed = read_placed required (spans_from 0 all) is.pictures is.value is.placed;
     fits = is.short;
   }
 
@@ -284,12 +295,14 @@ module _ (one : OneTextAndBlob) (back : ReadsBack) (spaces : SpacesBehind)
   unfolding root
   the_list =
       none_or_one total (get (codes "buffers") is.value) (buffers_of is.pictures)
-      is.root_.buffers.items s.buffers.items source.records.1.1.1.1.0
+      is.root_.buffers.items s.buffers.items
+      (subst (λ o. ReadsBuffers o is.root_.buffers.items)
+      (get_read required (codes "buffers") buffers_left is.value) source.records.1.1.1.1.0)
       (subst (λ o. ReadsBuffers o s.buffers.items)
-      (buffers_changed (spans_from 0 all) total between
-      (object_embedded is.pictures is.value source.records.0)
-      ∙ ap (option_map (one_buffer total))
-      (longer_buffers is.pictures is.value source.records.0))
+      (get_read reading (codes "buffers") buffers_left edited
+      ∙ buffers_changed (spans_from 0 all) total between
+      (object_embedded is.pictures is.value is_object)
+      ∙ ap (option_map (one_buffer total)) (longer_buffers is.pictures is.value is_object))
       after.1.1.1.1.0)
 
   as_many : length all ≡ count
@@ -346,9 +359,10 @@ module _ (one : OneTextAndBlob) (back : ReadsBack) (spaces : SpacesBehind)
       no_uris names (get (codes "images") is.value) is.pictures
       (count_at (codes "bufferViews") is.value) is.images is.lost s.images.items taken
       (subst (λ o. ReadsImages o s.images.items)
-      (bundled_other (spans_from 0 all) total between (codes "images")
+      (get_read reading (codes "images") images_left edited
+      ∙ bundled_other (spans_from 0 all) total between (codes "images")
       (differ (codes "images") (codes "buffers") refl)
       (differ (codes "images") (codes "bufferViews") refl)
-      ∙ embedded_images is.pictures is.value source.records.0
+      ∙ embedded_images is.pictures is.value is_object
       ∙ images_over names is.pictures is.value)
       after.1.1.1.1.1.1.1.0)

@@ -1,7 +1,6 @@
 pub mod Joins
 pub mod Written
 pub mod Parts
-pub mod Opened
 pub mod Tried
 pub mod Taken
 pub mod Uris

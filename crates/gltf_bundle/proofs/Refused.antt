@@ -1,7 +1,7 @@
 -- Why a file was not bundled: for the clauses `refused` of `load`, `gather`, `places_of` and
 -- `bundle`.
 use Rattle.std.proofs.Common.{◌≡◌, ℕ, zero, suc, ◌+◌, ◌-◌, ◌%◌, ◌≤◌, ◌<◌, List, []}
-use Rattle.std.proofs.Common.{◌∷◌, ◌++◌, ◌≢◌, refl}
+use Rattle.std.proofs.Common.{◌∷◌, ◌++◌, refl}
 use Rattle.std.proofs.Common.{length, take, get_or, Option, subst, sym, ap, ◌∙◌, arith}
 use Rattle.std.proofs.Common.{inl, inr, length-append, codes, false}
 use Rattle.std.specs.declared.io.Error.{Error as IoError}
@@ -21,6 +21,7 @@ use Rattle.gltf_required.specs.Left.{same_sources}
 use Rattle.gltf_required.specs.Required.{TellsAs}
 use Rattle.gltf_required.specs.declared.required.Required.{Required}
 use Rattle.gltf_required.specs.declared.required.Required.TheVariants.{Supported, Also, All}
+use Rattle.gltf_required.specs.declared.required.Required.TheVariants.{Mended, AllMended}
 use Rattle.gltf.specs.Shown.{bytes_of_each}
 use Rattle.gltf_edit.specs.Bundled.{bundled, ArePlaced}
 use Rattle.gltf_edit.specs.Embedded.{embedded, items_at}
@@ -37,17 +38,18 @@ use Rattle.gltf_bundle.specs.Causes.{of_fault, of_answer, is_memory}
 use Rattle.gltf_glb.specs.Glb.{RefusesToWrite}
 use Rattle.gltf_json.specs.Reading.{Reads}
 use Rattle.serde_json.specs.Read.{max_depth}
-use Rattle.gltf_bundle.specs.Images.{RefusesImages}
+use Rattle.gltf_bundle.specs.Images.{RefusesImages, FailedAtMissing}
 use Rattle.gltf_bundle.specs.Refusals.{RefusesSource, RefusesFile, RefusesBundle}
+use Rattle.gltf_bundle.specs.Refusals.{HasFailedAtMissing}
 use Rattle.gltf_bundle.specs.Refusals.{RefusesContainerOf, HasNoContainer, LacksMemoryOr}
 use Rattle.gltf_bundle.specs.declared.joining.Places.{Places}
 use Rattle.gltf_bundle.specs.declared.error.BundleError.{BundleError}
 use Rattle.gltf_bundle.specs.declared.error.BundleError.TheVariants as bundle
 use Rattle.gltf_bundle.proofs.Joins.{each_more}
 use Rattle.gltf_bundle.proofs.Sourced.{moved_depth}
-use Rattle.gltf_bundle.proofs.Taken.{fine_taken}
+use Rattle.gltf_bundle.proofs.Taken.{failed_behind}
 use Rattle.gltf_bundle.specs.declared.options.Keep.{Keep}
-use Rattle.gltf_bundle.specs.declared.options.Keep.TheVariants.{Missing}
+use Rattle.gltf_bundle.specs.declared.options.Keep.TheVariants.{Nothing, Missing, Every}
 
 -- ---- the import
 
@@ -66,6 +68,8 @@ no_rules : (required : Required) (r : Root) (cause : IoError) → TellsAs requir
 no_rules Supported r cause told = told
 no_rules (Also options) r cause told = told
 no_rules All r cause told = told.2
+no_rules (Mended options) r cause told = told
+no_rules (AllMended mends) r cause told = told.2
 
 no_io : (required : Required) (bytes : List ℕ) (cause : IoError)
     → RefusesDocumentAs required bytes (error.Io cause) → ⊥
@@ -140,12 +144,36 @@ module _ (required : Required) (names : Names) (path : List ℕ) where
 
 -- ---- the images
 
+-- the source did not fail
+as_before : (required : Required) (names : Names) (path : List ℕ) (keep : Keep)
+    (old new : List Named) → new ≡ old → HasFailedAtMissing required names path keep old new
+as_before required names path Nothing old new same = same
+as_before required names path Missing old new same = inl same
+as_before required names path Every old new same = same
+
+-- it failed at names of images of a file that is accepted
+at_images : (required : Required) (names : Names) (path : List ℕ) (keep : Keep)
+    (old new : List Named) (value : Data) (r : Root) (buffers : List (List ℕ))
+    → IsSource required names path value r buffers
+    → FailedAtMissing keep names (items_at (codes "images") value) old new
+    → HasFailedAtMissing required names path keep old new
+at_images required names path Nothing old new value r buffers source failed = failed
+at_images required names path Missing old new value r buffers source failed =
+    inr (record {
+      value = value;
+      root_ = r;
+      buffers = buffers;
+      source = source;
+      failed = failed;
+    })
+at_images required names path Every old new value r buffers source failed = failed
+
 pub load_refused : (required : Required) (names : Names) (path : List ℕ) (keep : Keep)
     (old new : List Named) (e : BundleError) → RefusesSource required names path old new e
     → RefusesFile required names path keep old new e
 load_refused required names path keep old new (bundle.Import e) told =
-    weaker (new ≡ old) (keep ≢ Missing → new ≡ old) (RefusesFileAs required names path old new) e
-    (λ same some. same) told
+    weaker (new ≡ old) (HasFailedAtMissing required names path keep old new)
+    (RefusesFileAs required names path old new) e (as_before required names path keep old new) told
 load_refused required names path keep old new (bundle.View i) told = absurd told
 load_refused required names path keep old new (bundle.Image i u e) told = absurd told
 load_refused required names path keep old new (bundle.ImageType i) told = absurd told
@@ -159,8 +187,9 @@ pub images_refused : (required : Required) (names : Names) (path : List ℕ) (ke
     → RefusesFile required names path keep old new e
 images_refused required names path keep old new value r buffers (bundle.Import e) source told =
     subst (λ e.
-    LacksMemoryOr (keep ≢ Missing → new ≡ old) (RefusesFileAs required names path old new) e)
-    (sym told.0) told.1
+    LacksMemoryOr (HasFailedAtMissing required names path keep old new)
+    (RefusesFileAs required names path old new) e)
+    (sym told.0) (at_images required names path keep old new value r buffers source told.1)
 images_refused required names path keep old new value r buffers (bundle.View i) source told =
     absurd told
 images_refused required names path keep old new value r buffers (bundle.Image i u e) source told =
@@ -190,8 +219,10 @@ module _ (required : Required) (names : Names) (path : List ℕ) (keep : Keep)
     (gathered : IsGathered required names path keep value r buffers images ps lost)
     (after : new ≡ lost ++ old) where
   -- where there is no memory behind the images
-  pub fine : keep ≢ Missing → new ≡ old
-  fine = fine_taken keep names value ps images lost old new gathered.taken after
+  pub fine : HasFailedAtMissing required names path keep old new
+  fine =
+      at_images required names path keep old new value r buffers gathered.source
+      (failed_behind keep names value ps images lost old new gathered.taken after)
 
   abbrev whole : List (List ℕ)
   whole = buffers ++ images
@@ -233,7 +264,8 @@ module _ (required : Required) (names : Names) (path : List ℕ) (keep : Keep)
       → RefusesBundle required names path keep old new e
   container_refused (bundle.Import e) placed told =
       subst (λ e.
-      LacksMemoryOr (keep ≢ Missing → new ≡ old) (RefusesFileAs required names path old new) e)
+      LacksMemoryOr (HasFailedAtMissing required names path keep old new)
+      (RefusesFileAs required names path old new) e)
       (sym told) fine
   container_refused (bundle.View i) placed told = absurd told
   container_refused (bundle.Image i u e) placed told = absurd told
@@ -296,8 +328,8 @@ pub import_refused : (required : Required) (names : Names) (path : List ℕ) (ke
     → OutOfMemoryOr (RefusesImportAs required Nowhere answer) e
     → RefusesBundle required names path keep old new (of_answer e)
 import_refused required names path keep old new answer error.Memory is told =
-    fine_taken keep names is.0.value is.0.pictures is.0.images is.0.lost old new
-    is.0.gathered.taken is.1
+    fine required names path keep old new is.0.value is.0.root_ is.0.buffers is.0.images
+    is.0.pictures is.0.lost is.0.gathered is.1
 import_refused required names path keep old new answer e is told =
     no_container required names path keep answer e is.0 refl told
 

@@ -1,21 +1,20 @@
 -- An image of the file that has a URI, in the container.
 use Rattle.std.proofs.Common.{◌≡◌, ℕ, zero, suc, ◌+◌, List, [], ◌∷◌, ◌++◌, Option, Some, None}
 use Rattle.std.proofs.Common.{refl, sym, ap, subst, ◌∙◌, arith, codes, unwrap_or, option_map}
-use Rattle.std.proofs.Common.{String}
-use Rattle.std.proofs.Common.{Global, string_bytes, Ok}
-use Rattle.std.specs.Prelude.{MatchOption, option_and_then, slice_get}
-use Rattle.serde_json.specs.Data.{Data, null, boolean, number, string, array, object, Items}
-use Rattle.serde_json.specs.Data.{no_items, item}
-use Rattle.serde_json.specs.Find.{get, get_item, as_array, as_str}
-use Rattle.gltf_json_record.specs.Member.{unless_null}
+use Rattle.std.proofs.Common.{string_bytes, Ok}
+use Rattle.std.specs.Prelude.{option_and_then, slice_get}
+use Rattle.serde_json.specs.Data.{Data, Items, no_items, item}
+use Rattle.serde_json.specs.Find.{get, get_item, as_array}
 use Rattle.gltf_json.specs.Documents.{root}
 use Rattle.gltf_json_scene.specs.Images.{image}
 use Rattle.gltf_json_scene.specs.declared.image.Image.{Image}
 use Rattle.gltf_edit.specs.Bundled.{size_at}
 use Rattle.gltf_edit.specs.Embedded.{seats, own_uri, own_uri_at}
 use Rattle.gltf_edit.specs.declared.picture.Picture.{Picture}
+use Rattle.gltf_mended.specs.Edited.{images_left}
+use Rattle.gltf_required.specs.Read.{get_read}
 use Rattle.gltf_moved.specs.Images.{IsInView, ShowsImages as MovedShows, seats_before}
-use Rattle.gltf_moved.specs.RowLaws.{optional_index, comes_from}
+use Rattle.gltf_moved.specs.RowLaws.{ReadsList, optional_index, comes_from}
 use Rattle.gltf_glb.specs.Laws.{ReadsBack}
 use Rattle.gltf.specs.Laws.{OneTextAndBlob}
 use Rattle.gltf_pack.specs.Laws.{SpacesBehind}
@@ -27,26 +26,10 @@ use Rattle.gltf_bundle.specs.Laws.{ShowsImages}
 use Rattle.gltf_bundle.specs.declared.options.Keep.TheVariants.{Nothing}
 use Rattle.gltf_names.specs.Named.{Named}
 use Rattle.gltf_bundle.specs.Media.{media_of}
+use Rattle.gltf_bundle.specs.TextLaws.{text_read}
 use Rattle.gltf_bundle.proofs.Imported.{is_moved, the_buffers}
 
 -- ---- its texts
-
-text_there : (e : Data) (f : Option (String Global))
-    → MatchOption f ⊥ (λ t. as_str e ≡ Some (string_bytes t)) → as_str e ≡ option_map string_bytes f
-text_there e None is = absurd is
-text_there e (Some t) is = is
-
-text_read : (o : Option Data) (f : Option (String Global))
-    → MatchOption (option_and_then unless_null o) (f ≡ None)
-    (λ e. MatchOption f ⊥ (λ t. as_str e ≡ Some (string_bytes t)))
-    → option_and_then as_str o ≡ option_map string_bytes f
-text_read None f is = sym (ap (option_map string_bytes) is)
-text_read (Some null) f is = sym (ap (option_map string_bytes) is)
-text_read (Some (boolean b)) f is = text_there (boolean b) f is
-text_read (Some (number n)) f is = text_there (number n) f is
-text_read (Some (string s)) f is = text_there (string s) f is
-text_read (Some (array ds)) f is = text_there (array ds) f is
-text_read (Some (object ms)) f is = text_there (object ms) f is
 
 uri_read : (e : Data) (x : Image) → image.is e x
     → text_at (codes "uri") e ≡ option_map string_bytes x.uri
@@ -138,12 +121,14 @@ of_some same = cc
 
 pub shows_images : OneTextAndBlob → ReadsBack → SpacesBehind → MovedShows → ShowsImages
 unfolding root
-shows_images one back spaces law required names path answer is over s others accepted i x there
-    uri with_uri no_view_named =
+shows_images one back spaces law required names path answer is reading alike over s others accepted
+    i x there uri with_uri no_view_named =
     let value = is.value in
     let source = is.gathered.source in
+    let kept = get_read required (codes "images") images_left value in
     let read = comes_from image.is (get (codes "images") value) is.root_.images.items i x
-    source.records.1.1.1.1.1.1.1.0 there in
+    (subst (λ o. ReadsList image.is o is.root_.images.items) kept
+    source.records.1.1.1.1.1.1.1.0) there in
     let e = read.from in
     let text = own_read e x read.reads no_view_named ∙ with_uri in
     let found = taken_at names e uri text
@@ -151,9 +136,11 @@ shows_images one back spaces law required names path answer is over s others acc
     is.images is.lost i is.gathered.taken read.listed in
     let picture = found.is_taken in
     let same : picture.uri ≡ uri = of_some (sym picture.there ∙ text) in
-    let moved = is_moved one back spaces required names path Nothing answer is over s others
-    accepted in
-    let view = law is.buffers is.images is.root_ s moved i e read.listed found.picture found.has
+    let moved = is_moved one back spaces required names path Nothing answer is reading over s others
+    accepted alike in
+    let here = ap (λ (o : Option Data).
+    get_item i (unwrap_or (option_and_then as_array o) no_items)) kept ∙ read.listed in
+    let view = law is.buffers is.images is.root_ s moved i e here found.picture found.has
     found.bytes
     found.given picture.long in
     record {
@@ -167,7 +154,7 @@ shows_images one back spaces law required names path answer is over s others acc
       in_view =
           subst (λ (bs : List (List ℕ)). IsInView bs s i
           (string_bytes found.picture.media) found.bytes)
-          (sym (the_buffers one back spaces required names path Nothing answer is over s others
-          accepted))
+          (sym (the_buffers one back spaces required names path Nothing answer is reading over s
+          others accepted))
           view;
     }

@@ -13,6 +13,7 @@ use Rattle.gltf_buffers.specs.Buffers.{Source, sources_of, AreBytes}
 use Rattle.gltf_buffers.specs.Names.{Names, Gives}
 use Rattle.gltf_required.specs.Import.{IsOpenedAs}
 use Rattle.gltf_required.specs.Left.{same_sources}
+use Rattle.gltf_required.specs.Required.{as_read}
 use Rattle.gltf_required.specs.declared.required.Required.{Required}
 use Rattle.gltf_edit.specs.Bundled.{bundled, ArePlaced}
 use Rattle.gltf_edit.specs.DepthLaws.{bundled_depth}
@@ -57,7 +58,7 @@ loaded law required names path bytes gives left blob opened value is buffers dat
       reads = subst (λ (t : List ℕ). Reads t value) same.0 is.reads;
       nests = is.nests;
       records =
-          subst (λ (d : Data). root.is d opened.root)
+          subst (λ (d : Data). root.is (as_read required d) opened.root)
           (one_value document.text is.text document.value value
           (sym same.0) document.reads is.reads)
           document.records;

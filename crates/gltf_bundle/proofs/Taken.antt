@@ -16,7 +16,7 @@ use Rattle.gltf_buffers.specs.Names.{Names}
 use Rattle.gltf_buffers.specs.Shown.{bytes_of_each}
 use Rattle.gltf_buffers.specs.declared.data.Data.{Data as Buffer}
 use Rattle.gltf_bundle.specs.Images.{AllTaken, AreTaken, Takes, Stays, HasNoUri, front}
-use Rattle.gltf_bundle.specs.Images.{IsFirstNotTaken}
+use Rattle.gltf_bundle.specs.Images.{IsFirstNotTaken, FailedAtFirst, FailedAtMissing}
 use Rattle.gltf_bundle.specs.Images.{RefusesKept, RefusesImages, IsRefused, HasNoMedia}
 use Rattle.gltf_bundle.specs.Images.{RefusesImage, RefusesRead, IsUnread}
 use Rattle.gltf_bundle.specs.Keep.{spares}
@@ -112,15 +112,35 @@ none_lost Every names ds ps taken lost all some =
     no_loss Every names (λ d l bare. bare) ds ps taken lost all
 none_lost Missing names ds ps taken lost all some = absurd (some refl)
 
--- so it did not fail at any name of an image
-pub fine_taken : (keep : Keep) (names : Names) (value : Data) (ps : List (Option Picture))
+all_of : (ds : Items) → front (items_len ds) ds ≡ ds
+all_of no_items = refl
+all_of (item d ds) = ap (item d) (all_of ds)
+
+no_missing : Nothing ≢ Missing
+no_missing same = cc
+
+no_missing_of_all : Every ≢ Missing
+no_missing_of_all same = cc
+
+-- so it failed at no name but those of images that are missing and stay
+pub failed_behind : (keep : Keep) (names : Names) (value : Data) (ps : List (Option Picture))
     (taken : List (List ℕ)) (lost old new : List Named) → AreTaken keep names value ps taken lost
-    → new ≡ lost ++ old → keep ≢ Missing → new ≡ old
-fine_taken Every names value ps taken lost old new are after some =
+    → new ≡ lost ++ old → FailedAtMissing keep names (items_at (codes "images") value) old new
+failed_behind Every names value ps taken lost old new are after =
     after ∙ ap (λ (l : List Named). l ++ old) are.2
-fine_taken Nothing names value ps taken lost old new are after some =
-    after ∙ ap (λ (l : List Named). l ++ old) (none_lost Nothing names _ ps taken lost are some)
-fine_taken Missing names value ps taken lost old new are after some = absurd (some refl)
+failed_behind Nothing names value ps taken lost old new are after =
+    after
+    ∙ ap (λ (l : List Named). l ++ old) (none_lost Nothing names _ ps taken lost are no_missing)
+failed_behind Missing names value ps taken lost old new are after =
+    let ds = items_at (codes "images") value in
+    record {
+      count = items_len ds;
+      pictures = ps;
+      taken = taken;
+      lost = lost;
+      before = subst (λ es. AllTaken Missing names es ps taken lost) (sym (all_of ds)) are;
+      after = after;
+    }
 
 -- all stay
 pub none_of_all : (keep : Keep) (names : Names) (value : Data) → keep ≡ Every
@@ -166,8 +186,40 @@ at_index names vs i v ps taken j h is far same P wrong =
       wrong = wrong;
     }
 
-no_missing : Nothing ≢ Missing
-no_missing same = cc
+-- the source failed at no name but those of the first images that are missing and stay
+pub failed_at : (keep : Keep) (names : Names) (vs : List Value) (i : ℕ)
+    (ps : List (Option Picture)) (taken : List (List ℕ)) (lost old new : List Named)
+    → AllTaken keep names (items_view (take i vs)) ps taken lost → new ≡ lost ++ old
+    → FailedAtMissing keep names (items_view vs) old new
+failed_at Nothing names vs i ps taken lost old new far after =
+    after
+    ∙ ap (λ (l : List Named). l ++ old) (none_lost Nothing names _ ps taken lost far no_missing)
+failed_at Every names vs i ps taken lost old new far after =
+    after
+    ∙ ap (λ (l : List Named). l ++ old)
+    (none_lost Every names _ ps taken lost far no_missing_of_all)
+failed_at Missing names vs i ps taken lost old new far after = record {
+  count = i;
+  pictures = ps;
+  taken = taken;
+  lost = lost;
+  before = subst (λ ds. AllTaken Missing names ds ps taken lost) (front_of vs i) far;
+  after = after;
+}
+
+-- at none, where it was not asked for one
+pub none_failed : (keep : Keep) (names : Names) (vs : List Value) (old : List Named)
+    → FailedAtMissing keep names (items_view vs) old old
+none_failed Nothing names vs old = refl
+none_failed Every names vs old = refl
+none_failed Missing names vs old = record {
+  count = 0;
+  pictures = [];
+  taken = [];
+  lost = [];
+  before = (refl, refl);
+  after = refl;
+}
 
 -- no image before it may stay that is missing
 before_it : (keep : Keep) (names : Names) (ds : Items) (ps : List (Option Picture))
@@ -199,13 +251,8 @@ first_refused keep names vs i v ps taken lost old new (bundle.ImageType j) h is 
       at_index names vs i v ps taken j h is before.0 told.1.0 (HasNoMedia names old new)
           (subst (λ (l : List Named). HasNoMedia names l new (view v)) was told.1.1),
     )
-first_refused keep names vs i v ps taken lost old new (bundle.Import e) h is far told = (
-  told.0,
-  λ some.
-      told.1
-      ∙ ap (λ (l : List Named). l ++ old)
-      (none_lost keep names (items_view (take i vs)) ps taken lost far some),
-)
+first_refused keep names vs i v ps taken lost old new (bundle.Import e) h is far told =
+    (told.0, failed_at keep names vs i ps taken lost old new far told.1)
 first_refused keep names vs i v ps taken lost old new (bundle.View j) h is far told =
     absurd told.1
 first_refused keep names vs i v ps taken lost old new bundle.TooLong h is far told =

@@ -24,6 +24,7 @@ use Rattle.gltf_edit.specs.declared.span.Span.{Span}
 use Rattle.gltf_names.specs.Named.{Named, File}
 use Rattle.gltf_buffers.specs.Names.{Names, Held}
 use Rattle.gltf_required.specs.Import.{IsRead}
+use Rattle.gltf_required.specs.Read.{object_read}
 use Rattle.gltf_required.specs.declared.required.Required.{Required}
 use Rattle.gltf_glb.specs.Laws.{ReadsBack}
 use Rattle.gltf.specs.Laws.{OneTextAndBlob}
@@ -240,7 +241,7 @@ never same = cc
 
 abbrev source_read : (required : Required) (names : Names) (path : List ℕ) (value : Data)
     (r : Root) (buffers : List (List ℕ)) (source : IsSource required names path value r buffers)
-    → IsRead names source.bytes r buffers
+    → IsRead required names source.bytes r buffers
 source_read required names path value r buffers source = record {
   blob = source.blob;
   document = record {
@@ -284,7 +285,7 @@ module _ (one : OneTextAndBlob) (back : ReadsBack) (spaces : SpacesBehind)
   pub bytes_are : source.bytes ≡ answer
   bytes_are = of_some (sym source.gives ∙ held)
 
-  abbrev accepted : IsRead (Held from) source.bytes r buffers
+  abbrev accepted : IsRead requires (Held from) source.bytes r buffers
   accepted = source_read requires (Held from) other value r buffers source
 
   -- the same answer, by the bytes that the source has
@@ -308,17 +309,17 @@ module _ (one : OneTextAndBlob) (back : ReadsBack) (spaces : SpacesBehind)
 
   pub value_is : value ≡ edited
   value_is =
-      the_value one back spaces required names path keep source.bytes same_is (Held from) r buffers
-      accepted
+      the_value one back spaces required names path keep source.bytes same_is requires (Held from) r
+      buffers accepted
 
   pub buffers_are : buffers ≡ one_list all
   buffers_are =
-      the_buffers one back spaces required names path keep source.bytes same_is (Held from) r
-      buffers accepted
+      the_buffers one back spaces required names path keep source.bytes same_is requires (Held from)
+      r buffers accepted
 
   pub is_object : IsSome (as_object is.value)
   unfolding root
-  is_object = is.gathered.source.records.0
+  is_object = object_read required is.value is.gathered.source.records.0
 
   -- the images of the container
   images_at : (qs : List (Option Picture)) → is.pictures ≡ qs

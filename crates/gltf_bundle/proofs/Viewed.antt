@@ -15,8 +15,10 @@ use Rattle.gltf_edit.specs.Joined.{joined}
 use Rattle.gltf_edit.specs.declared.picture.Picture.{Picture}
 use Rattle.gltf_moved.specs.Images.{picture_at, left, KeepsImages as MovedKeeps}
 use Rattle.gltf_moved.specs.Laws.{one_list}
-use Rattle.gltf_moved.specs.RowLaws.{comes_from}
+use Rattle.gltf_moved.specs.RowLaws.{ReadsList, comes_from}
 use Rattle.gltf_moved.specs.Views.{StaysView, KeepsViews}
+use Rattle.gltf_mended.specs.Edited.{images_left}
+use Rattle.gltf_required.specs.Read.{get_read}
 use Rattle.gltf_glb.specs.Laws.{ReadsBack}
 use Rattle.gltf.specs.Laws.{OneTextAndBlob}
 use Rattle.gltf_pack.specs.Laws.{SpacesBehind}
@@ -86,16 +88,18 @@ same_type x y same = ap (λ c. c.1.0) same
 pub keeps_images : OneTextAndBlob → ReadsBack → SpacesBehind → MovedKeeps → KeepsViews
     → KeepsImages
 unfolding root
-keeps_images one back spaces images views required names path keep answer is over s others accepted
-    i x there bytes of_view =
+keeps_images one back spaces images views required names path keep answer is reading alike over s
+    others accepted i x there bytes of_view =
+    let kept = get_read required (codes "images") images_left is.value in
     let read = comes_from image.is (get (codes "images") is.value) is.root_.images.items i x
-    is.gathered.source.records.1.1.1.1.1.1.1.0 there in
+    (subst (λ o. ReadsList image.is o is.root_.images.items) kept
+    is.gathered.source.records.1.1.1.1.1.1.1.0) there in
     let e = read.from in
     let none : own_uri e ≡ None =
     ap (λ (v : Option ℕ). own_uri_at v (text_at (codes "uri") e))
     (view_read e x read.reads ∙ of_view.names_view) in
-    let moved = is_moved one back spaces required names path keep answer is over s others
-    accepted in
+    let moved = is_moved one back spaces required names path keep answer is reading over s others
+    accepted alike in
     let stays = images is.buffers is.images is.root_ s moved i x there
     (stays_out keep names is.value is.pictures is.images is.lost i e is.gathered.taken read.listed
     none) in
@@ -117,7 +121,8 @@ keeps_images one back spaces images views required names path keep answer is ove
         whole = whole;
         whole_there =
             ap (λ (bs : List (List ℕ)). slice_get bs view.view.buffer)
-            (the_buffers one back spaces required names path keep answer is over s others accepted)
+            (the_buffers one back spaces required names path keep answer is reading over s others
+            accepted)
             ∙ ap (slice_get (one_list (is.buffers ++ is.images))) view.has.first
             ∙ first_of is.buffers is.images of_view.view.buffer view.bytes view.its;
         within = view.has.after;

@@ -22,7 +22,7 @@ use Rattle.gltf_buffers.specs.Buffers.{sources_of, AreBytes}
 use Rattle.gltf_buffers.specs.Names.{Names, Nowhere, Gives}
 use Rattle.gltf.specs.Import.{AreParts, Accepts}
 use Rattle.gltf_required.specs.Import.{AcceptsAs}
-use Rattle.gltf_required.specs.Required.{IsLeft}
+use Rattle.gltf_required.specs.Required.{IsLeft, as_read}
 use Rattle.gltf_required.specs.declared.required.Required.{Required}
 use Rattle.gltf.specs.Shown.{bytes_of_each}
 use Rattle.gltf_bundle.specs.declared.joining.Places.{Places}
@@ -39,8 +39,9 @@ pub record IsValueOf (bytes : List ℕ) (value : Data) : Type 0 where
   pub reads : Reads text value
   pub nests : depth value ≤ max_depth
 
--- the file at the path is accepted, by its JSON value, its records and the bytes of its buffers,
--- with the rules of what is left of it without the required names that pass
+-- the file at the path is accepted, by its JSON value, the records of this value as it is read and
+-- the bytes of its buffers, with the rules of what is left of it without the required names that
+-- pass
 pub record IsSource (required : Required) (names : Names) (path : List ℕ) (value : Data) (r : Root)
     (buffers : List (List ℕ)) : Type 0 where
   pub bytes : List ℕ
@@ -50,7 +51,7 @@ pub record IsSource (required : Required) (names : Names) (path : List ℕ) (val
   pub parts : AreParts bytes text blob
   pub reads : Reads text value
   pub nests : depth value ≤ max_depth
-  pub records : root.is value r
+  pub records : root.is (as_read required value) r
   pub left : Root
   pub is_left : IsLeft required r left
   pub rules : Faults left ≡ []

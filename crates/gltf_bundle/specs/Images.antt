@@ -144,6 +144,20 @@ pub record IsFirstNotTaken (names : Names) (ds : Items) (i : ℕ) (P : Data → 
   pub there : get_item i ds ≡ Some image
   pub wrong : P image
 
+-- the source failed since at names of the first of these images, where those stay that are missing
+pub record FailedAtFirst (names : Names) (ds : Items) (old new : List Named) : Type 0 where
+  pub count : ℕ
+  pub pictures : List (Option Picture)
+  pub taken : List (List ℕ)
+  pub lost : List Named
+  pub before : AllTaken Missing names (front count ds) pictures taken lost
+  pub after : new ≡ lost ++ old
+
+-- it failed at these alone, and at none where no image may stay that is missing
+abbrev pub FailedAtMissing : Keep → Names → Items → List Named → List Named → Type 0
+FailedAtMissing Missing names ds old new = FailedAtFirst names ds old new
+FailedAtMissing keep names ds old new = new ≡ old
+
 -- what an error says of images: where those stay that are missing, none of them is an error
 abbrev pub RefusesImages : Keep → Names → Items → List Named → List Named → BundleError → Type 0
 RefusesImages keep names ds old new (bundle.Image i u e) =
@@ -151,5 +165,5 @@ RefusesImages keep names ds old new (bundle.Image i u e) =
 RefusesImages keep names ds old new (bundle.ImageType i) =
     (keep ≡ Nothing) × IsFirstNotTaken names ds i (HasNoMedia names old new)
 RefusesImages keep names ds old new (bundle.Import e) =
-    (e ≡ Memory) × (keep ≢ Missing → new ≡ old)
+    (e ≡ Memory) × FailedAtMissing keep names ds old new
 RefusesImages keep names ds old new _ = ⊥

@@ -14,6 +14,7 @@ use Rattle.gltf_names.specs.Named.{Named, File}
 use Rattle.gltf_buffers.specs.Names.{Names, Held}
 use Rattle.gltf_buffers.specs.Uri.{uri_of}
 use Rattle.gltf_required.specs.Import.{IsRead}
+use Rattle.gltf_required.specs.Required.{ReadAlike}
 use Rattle.gltf_required.specs.declared.required.Required.{Required}
 use Rattle.gltf_moved.specs.Images.{IsInView}
 use Rattle.gltf_moved.specs.Laws.{IsMoved, one_list, moved_value}
@@ -27,29 +28,31 @@ use Rattle.gltf_bundle.specs.declared.options.Keep.{Keep}
 use Rattle.gltf_bundle.specs.declared.options.Keep.TheVariants.{Nothing, Every}
 
 -- whatever a bundle is read as, over any source, whatever rules it breaks: the records are those of
--- the edited value, and the buffers are the one
+-- the edited value, where it is read as the file was, and the buffers are the one
 abbrev pub HasOneBuffer : Type 0
 HasOneBuffer =
     (required : Required) (names : Names) (path : List ℕ) (keep : Keep) (answer : List ℕ)
-    (is : IsBundle required names path keep answer) (over : Names) (s : Root)
-    (others : List (List ℕ)) → IsRead over answer s others
-    → IsMoved is.buffers is.images is.root_ s × (others ≡ one_list (is.buffers ++ is.images))
+    (is : IsBundle required names path keep answer) (reading : Required) (over : Names) (s : Root)
+    (others : List (List ℕ)) → IsRead reading over answer s others
+    → (ReadAlike required reading → IsMoved is.buffers is.images is.root_ s)
+    × (others ≡ one_list (is.buffers ++ is.images))
 
 -- no buffer has a URI, and no image has one, unless images may stay
 abbrev pub NeedsNoFile : Type 0
 NeedsNoFile =
     (required : Required) (names : Names) (path : List ℕ) (keep : Keep) (answer : List ℕ)
-    → IsBundle required names path keep answer → (over : Names) (s : Root)
-    (others : List (List ℕ)) → IsRead over answer s others
+    → IsBundle required names path keep answer → (reading : Required) (over : Names) (s : Root)
+    (others : List (List ℕ)) → IsRead reading over answer s others
     → All (λ b. b.uri ≡ None) s.buffers.items
     × (keep ≡ Nothing → All (λ i. i.uri ≡ None) s.images.items)
 
--- and each accessor has the items that it has in the file
+-- and each accessor has the items that it has in the file, where the bundle is read as that was
 abbrev pub KeepsItems : {X : Type 0} → Ghosts X → Type 0
 KeepsItems {X} t =
     (required : Required) (names : Names) (path : List ℕ) (keep : Keep) (answer : List ℕ)
-    (is : IsBundle required names path keep answer) (over : Names) (s : Root)
-    (others : List (List ℕ)) → IsRead over answer s others → (index : ℕ) (result : Option (List X))
+    (is : IsBundle required names path keep answer) (reading : Required)
+    → ReadAlike required reading → (over : Names) (s : Root) (others : List (List ℕ))
+    → IsRead reading over answer s others → (index : ℕ) (result : Option (List X))
     → ReadsAt t is.root_ (slice_get is.buffers) index result
     ↔ ReadsAt t s (slice_get others) index result
 
@@ -67,8 +70,9 @@ pub record IsShown (names : Names) (uri : List ℕ) (own : Option (List ℕ))
 abbrev pub ShowsImages : Type 0
 ShowsImages =
     (required : Required) (names : Names) (path answer : List ℕ)
-    (is : IsBundle required names path Nothing answer) (over : Names) (s : Root)
-    (others : List (List ℕ)) → IsRead over answer s others
+    (is : IsBundle required names path Nothing answer) (reading : Required)
+    → ReadAlike required reading → (over : Names) (s : Root) (others : List (List ℕ))
+    → IsRead reading over answer s others
     → (i : ℕ) (image : Image) → slice_get is.root_.images.items i ≡ Some image
     → (uri : List ℕ) → option_map string_bytes image.uri ≡ Some uri → image.buffer_view ≡ None
     → IsShown names uri (option_map string_bytes image.mime_type) others s i
@@ -97,8 +101,9 @@ pub record IsStill (buffers : List (List ℕ)) (s : Root) (x : Image) (bytes : L
 abbrev pub KeepsImages : Type 0
 KeepsImages =
     (required : Required) (names : Names) (path : List ℕ) (keep : Keep) (answer : List ℕ)
-    (is : IsBundle required names path keep answer) (over : Names) (s : Root)
-    (others : List (List ℕ)) → IsRead over answer s others
+    (is : IsBundle required names path keep answer) (reading : Required)
+    → ReadAlike required reading → (over : Names) (s : Root) (others : List (List ℕ))
+    → IsRead reading over answer s others
     → (i : ℕ) (x : Image) → slice_get is.root_.images.items i ≡ Some x
     → (bytes : List ℕ) → IsOfView is.buffers is.root_ x bytes
     → IsStill others s x bytes (slice_get s.images.items i)

@@ -5,3 +5,4 @@ pub mod Images
 pub mod Bundle
 pub mod Laws
 pub mod Refusals
+pub mod TextLaws

@@ -67,7 +67,10 @@ abbrev pub or_else : Option (List ℕ) → Option (List ℕ) → Option (List �
 or_else None o = o
 or_else (Some x) o = Some x
 
--- the media type of an image with this URI, this `mimeType` and these bytes
+-- the media type of an image with this `mimeType` and these bytes
+abbrev pub own_media : Option (List ℕ) → List ℕ → Option (List ℕ)
+own_media own bytes = or_else (option_and_then image_type own) (begun_media bytes)
+
+-- that of an image with this URI, this `mimeType` and these bytes
 abbrev pub media_of : List ℕ → Option (List ℕ) → List ℕ → Option (List ℕ)
-media_of uri own bytes =
-    or_else (named_media uri) (or_else (option_and_then image_type own) (begun_media bytes))
+media_of uri own bytes = or_else (named_media uri) (own_media own bytes)

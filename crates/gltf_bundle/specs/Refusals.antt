@@ -1,5 +1,5 @@
 -- What the errors of a bundle say.
-use Rattle.std.specs.Prelude.{◌≡◌, ◌≢◌, ◌≤◌, ◌^◌, ◌⊎◌, ◌++◌, ℕ, List, length, Option}
+use Rattle.std.specs.Prelude.{◌≡◌, ◌≤◌, ◌^◌, ◌⊎◌, ◌++◌, ℕ, List, length, Option}
 use Rattle.std.specs.Prelude.{codes, false}
 use Rattle.serde_json.specs.Data.{Data, depth}
 use Rattle.serde_json.specs.Read.{max_depth}
@@ -23,7 +23,7 @@ use Rattle.gltf_required.specs.Import.{RefusesImportAs}
 use Rattle.gltf_required.specs.declared.required.Required.{Required}
 use Rattle.gltf_bundle.specs.Bundle.{IsSource, IsGathered, IsCompact, blob_of}
 use Rattle.gltf_bundle.specs.Causes.{is_memory}
-use Rattle.gltf_bundle.specs.Images.{RefusesImages}
+use Rattle.gltf_bundle.specs.Images.{RefusesImages, FailedAtFirst}
 use Rattle.gltf_bundle.specs.declared.error.BundleError.{BundleError}
 use Rattle.gltf_bundle.specs.declared.options.Keep.{Keep}
 use Rattle.gltf_bundle.specs.declared.options.Keep.TheVariants.{Missing}
@@ -50,12 +50,29 @@ pub record HasBadImage (required : Required) (names : Names) (path : List ℕ) (
   pub source : IsSource required names path value root_ buffers
   pub told : RefusesImages keep names (items_at (codes "images") value) old new e
 
--- the error of the import, or of the images, or out of memory: then the source did not fail, unless
--- images that are missing stay
+-- the file is accepted, and the source failed since at names of its first images, where those stay
+-- that are missing
+pub record HasFailedAtFirst (required : Required) (names : Names) (path : List ℕ)
+    (old new : List Named) : Type 0 where
+  pub value : Data
+  pub root_ : Root
+  pub buffers : List (List ℕ)
+  pub source : IsSource required names path value root_ buffers
+  pub failed : FailedAtFirst names (items_at (codes "images") value) old new
+
+-- the source did not fail; or, where images stay that are missing, at names of some of these alone
+abbrev pub HasFailedAtMissing : Required → Names → List ℕ → Keep → List Named → List Named → Type 0
+HasFailedAtMissing required names path Missing old new =
+    (new ≡ old) ⊎ HasFailedAtFirst required names path old new
+HasFailedAtMissing required names path keep old new = new ≡ old
+
+-- the error of the import, or of the images, or out of memory: then the source failed at no name but
+-- those of images that are missing and stay
 abbrev pub RefusesFile : Required → Names → List ℕ → Keep → List Named → List Named → BundleError
     → Type 0
 RefusesFile required names path keep old new (bundle.Import e) =
-    LacksMemoryOr (keep ≢ Missing → new ≡ old) (RefusesFileAs required names path old new) e
+    LacksMemoryOr (HasFailedAtMissing required names path keep old new)
+    (RefusesFileAs required names path old new) e
 RefusesFile required names path keep old new (bundle.Image i u e) =
     HasBadImage required names path keep old new (bundle.Image i u e)
 RefusesFile required names path keep old new (bundle.ImageType i) =
@@ -111,7 +128,8 @@ pub record HasNoContainer (required : Required) (names : Names) (path : List ℕ
 abbrev pub RefusesBundle : Required → Names → List ℕ → Keep → List Named → List Named → BundleError
     → Type 0
 RefusesBundle required names path keep old new (bundle.Import e) =
-    LacksMemoryOr (keep ≢ Missing → new ≡ old) (RefusesFileAs required names path old new) e
+    LacksMemoryOr (HasFailedAtMissing required names path keep old new)
+    (RefusesFileAs required names path old new) e
 RefusesBundle required names path keep old new (bundle.View i) = HasStray required names path keep i
 RefusesBundle required names path keep old new (bundle.Image i u e) =
     HasBadImage required names path keep old new (bundle.Image i u e)

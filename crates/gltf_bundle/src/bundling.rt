@@ -76,6 +76,10 @@ pub fn bundle<S: NamedBytes>(
 /// before it is returned. Nothing that an extension says is read but that of
 /// `EXT_meshopt_compression` and `KHR_meshopt_compression`: what it says of views, accessors,
 /// images and textures by their indices stays true, since all keep theirs.
+///
+/// With [`Required::Mended`] and [`Required::AllMended`] the records are those of the file as it is
+/// mended, and the container is tried with the same mends. It is written as the file stands: a
+/// texture without `source` and a channel without `node` (sections 5.29.2 and 5.7.1) stay so.
 pub fn bundle_with<S: NamedBytes>(
     alloc: Global,
     source: &mut S,

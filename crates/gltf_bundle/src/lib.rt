@@ -16,5 +16,5 @@ pub use error::BundleError;
 pub use gltf_required::Required;
 pub use images::{image_bytes, images_of, text_at};
 pub use loading::{Loaded, load, load_with};
-pub use media::begun_media;
+pub use media::{begun_media, named_media};
 pub use options::{BundleOptions, Keep};

@@ -46,6 +46,11 @@ pub fn load<S: NamedBytes>(alloc: Global, source: &mut S, path: &str) -> Result<
 /// [`load`] of a file that may require these extensions (glTF 2.0, section 3.12, "Specifying
 /// Extensions"). The value is that of the whole file, with all names that it requires. The error of
 /// a broken rule is that of the file without the names that pass.
+///
+/// With [`Required::Mended`] and [`Required::AllMended`] the records are those of the file as it is
+/// mended, and so are the errors of records and rules: a texture may leave its `source`, and the
+/// target of a channel its `node`, to an extension (sections 5.29.2 and 5.7.1). The value is that
+/// of the file as it stands.
 pub fn load_with<S: NamedBytes>(
     alloc: Global,
     source: &mut S,

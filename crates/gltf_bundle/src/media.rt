@@ -20,7 +20,7 @@ pub(crate) fn media_of<'a>(uri: &'a str, own: Option<&'a str>, bytes: &[u8]) -> 
 }
 
 /// The media type that a `data:` URI names, where it is one of images.
-fn named_media(uri: &str) -> Option<&str>
+pub fn named_media(uri: &str) -> Option<&str>
     ensures { option_copied result ≡ named_media uri.now }
 {
     data_head(uri).and_then(image_type)

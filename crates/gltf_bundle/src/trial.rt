@@ -5,26 +5,25 @@ ghost use Rattle.gltf_buffers.specs.Buffers.{AreBytes, source_of};
 ghost use Rattle.gltf_buffers.specs.Names.{Nowhere};
 ghost use Rattle.gltf_glb.specs.Glb.{items_of};
 ghost use Rattle.gltf.specs.Errors.{OutOfMemoryOr};
-ghost use Rattle.gltf_required.specs.Import.{IsOpenedAs, RefusesDocumentAs, RefusesImportAs};
+ghost use Rattle.gltf_required.specs.Import.{RefusesImportAs};
 
-use gltf::{Document, owned_blob, text_and_blob};
+use gltf::owned_blob;
 use gltf_buffers::{NoNames, read_buffers};
 use gltf_glb::Result;
 use gltf_json::buffer::Buffer;
-use gltf_json_deserialize::deserialize;
-use gltf_required::{Required, checked};
+use gltf_required::{Required, document_as};
 use std::alloc::Global;
 use std::borrow::CowSlice;
 
 /// Tries bytes as [`gltf::import_slice`] does, with the same error, but for the required extensions
-/// that pass. Where the one buffer is the blob, nothing but its length decides, so that it is not
-/// copied.
+/// that pass and for what is mended. Where the one buffer is the blob, nothing but its length
+/// decides, so that it is not copied.
 pub(crate) fn tried(alloc: Global, bytes: &[u8], required: &Required<'_>) -> Result<()>
     ensures accepted { OnOk result (IsAcceptedAs required.now bytes.now) }
     ensures refused { IfErr result
         (OutOfMemoryOr (RefusesImportAs required.now Nowhere bytes.now)) }
 {
-    let (document, blob) = document_of(alloc, bytes, required)?;
+    let (document, blob) = document_as(alloc, bytes, required)?;
     let buffers = document.as_json().buffers.as_slice();
     if is_the_one(buffers, &blob) {
         return Ok(());
@@ -32,23 +31,6 @@ pub(crate) fn tried(alloc: Global, bytes: &[u8], required: &Required<'_>) -> Res
     let blob = owned_blob(alloc, blob)?;
     read_buffers(alloc, buffers, &mut NoNames, blob)?;
     Ok(())
-}
-
-/// The document of a file, as [`gltf_required::from_slice_as`] makes it, and the blob, which is
-/// lent.
-fn document_of<'b>(
-    alloc: Global,
-    bytes: &'b [u8],
-    required: &Required<'_>,
-) -> Result<(Document, Option<CowSlice<'b, u8>>)>
-    ensures valid { IfOk result (λ read. IsOpenedAs required.now bytes.now read.0
-        (items_of read.1)) }
-    ensures refused { IfErr result (OutOfMemoryOr (RefusesDocumentAs required.now bytes.now)) }
-{
-    let (text, blob) = text_and_blob(bytes)?;
-    let root = deserialize::from_slice(alloc, text.as_slice())?;
-    let document = checked(alloc, root, required)?;
-    Ok((document, blob))
 }
 
 /// Whether there is one buffer, which has no URI and no more bytes than the blob.

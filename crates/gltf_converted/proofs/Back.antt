@@ -9,6 +9,7 @@ use Rattle.gltf_buffers.specs.Buffers.{IsMeant}
 use Rattle.gltf_buffers.specs.Names.{Names, Held}
 use Rattle.gltf_buffers.specs.Uri.{uri_of}
 use Rattle.gltf_required.specs.Import.{IsRead}
+use Rattle.gltf_required.specs.Required.{ReadAlike}
 use Rattle.gltf_required.specs.declared.required.Required.{Required}
 use Rattle.gltf_bundle.specs.Bundle.{IsBundle}
 use Rattle.gltf_bundle.specs.Laws as bundled
@@ -23,17 +24,18 @@ use Rattle.gltf_converted.proofs.Sources.{held_read}
 
 module _ (files : HasFiles) (shows : ShowsImages) (passing : Required) (from : Holds)
     (other stem : List ℕ) (kept : Keep) (apart : kept ≢ Every) (drop : Bool) (set : Pieces)
-    (cut : IsSplit passing (Held from) other stem kept drop set) (there : Holds)
-    (holds : HoldsImages there set) (s : Root) (others : List (List ℕ))
-    (read : IsRead (Held there) (string_bytes set.json) s others) (i : ℕ) where
+    (cut : IsSplit passing (Held from) other stem kept drop set) (reading : Required)
+    (same : ReadAlike passing reading) (there : Holds) (holds : HoldsImages there set) (s : Root)
+    (others : List (List ℕ)) (read : IsRead reading (Held there) (string_bytes set.json) s others)
+    (i : ℕ) where
   -- an image of the container that names a view
   of_view : (y : Image) → slice_get cut.root_.images.items i ≡ Some y → (bytes : List ℕ)
       → bundled.IsOfView cut.whole cut.root_ y bytes
       → HasFile there s i (option_map string_bytes y.mime_type) bytes
   of_view y at bytes viewed =
       let file = files passing (Held from) other stem kept drop set cut apart i y at bytes viewed in
-      let shown = shows passing (Held from) other stem kept drop set cut there s others read i
-      file.0 file.1 (holds i file.0 file.1) y at in
+      let shown = shows passing (Held from) other stem kept drop set cut reading same there s others
+      read i file.0 file.1 (holds i file.0 file.1) y at in
       record {
         image = shown.image;
         is_there = shown.is_there;
@@ -64,29 +66,29 @@ module _ (files : HasFiles) (shows : ShowsImages) (passing : Required) (from : H
 
 pub keeps_images : bundled.ShowsImages → bundled.KeepsImages → HasFiles → ShowsImages
     → KeepsImagesBack
-keeps_images taken kept_in files shows required names path answer is from other held passing stem
-    kept apart drop set cut there holds s others read i x at =
+keeps_images taken kept_in files shows required names path answer is from other held passing alike
+    stem kept apart drop set cut reading same there holds s others read i x at =
     let text = held_read passing from other answer cut.value cut.root_ cut.whole held cut.source in
     let viewed : (bytes : List ℕ) → bundled.IsOfView is.buffers is.root_ x bytes
     → HasFile there s i (option_map string_bytes x.mime_type) bytes =
     λ bytes of_it.
-    let still = kept_in required names path Nothing answer is (Held from) cut.root_ cut.whole text i
-    x at bytes of_it in
+    let still = kept_in required names path Nothing answer is passing alike (Held from) cut.root_
+    cut.whole text i x at bytes of_it in
     subst (λ (t : Option (List ℕ)). HasFile there s i t bytes) still.type
-    (of_view files shows passing from other stem kept apart drop set cut there holds s others read i
-    still.image still.there bytes still.of_view) in
+    (of_view files shows passing from other stem kept apart drop set cut reading same there holds s
+    others read i still.image still.there bytes still.of_view) in
     let by_uri : (uri : List ℕ) → option_map string_bytes x.uri ≡ Some uri → x.buffer_view ≡ None
     → HasFileOfUri names uri (option_map string_bytes x.mime_type) there s i =
     λ uri with_uri no_view.
-    let shown = taken required names path answer is (Held from) cut.root_ cut.whole text i x at uri
-    with_uri no_view in
+    let shown = taken required names path answer is passing alike (Held from) cut.root_ cut.whole
+    text i x at uri with_uri no_view in
     record {
       bytes = shown.bytes;
       media = shown.media;
       meant = shown.meant;
       is_media = shown.is_media;
       file =
-          in_view files shows passing from other stem kept apart drop set cut there holds s others
-          read i shown.media shown.bytes shown.in_view;
+          in_view files shows passing from other stem kept apart drop set cut reading same there
+          holds s others read i shown.media shown.bytes shown.in_view;
     } in
     (viewed, by_uri)

@@ -26,14 +26,14 @@ meant_once there (Relative name) one other first second =
 meant_once there Unsupported one other first second = of_ok (sym first.is ∙ second.is)
 
 pub keeps_images : ShowsImages → bundled.ShowsImages → KeepsImagesThere
-keeps_images split bundle required names path stem keep drop set is there other held passing answer
-    made over s others read i p slot holds x at =
+keeps_images split bundle required names path stem keep drop set is there other held passing alike
+    answer made reading same_reading over s others read i p slot holds x at =
     let text = held_read passing there other (string_bytes set.json) made.value made.root_
     made.buffers held made.gathered.source in
-    let shown = split required names path stem keep drop set is there made.root_ made.buffers text i
-    p slot holds x at in
-    let inside = bundle passing (Held there) other answer made over s others read i shown.image
-    shown.is_there shown.uri shown.has_uri shown.no_view in
+    let shown = split required names path stem keep drop set is passing alike there made.root_
+    made.buffers text i p slot holds x at in
+    let inside = bundle passing (Held there) other answer made reading same_reading over s others
+    read i shown.image shown.is_there shown.uri shown.has_uri shown.no_view in
     let bytes = p.bytes.items in
     let type = option_map string_bytes x.mime_type in
     let same : inside.bytes ≡ bytes =

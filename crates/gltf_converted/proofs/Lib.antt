@@ -1,3 +1,5 @@
 pub mod Back
 pub mod Images
 pub mod Sources
+pub mod Held
+pub mod Typed

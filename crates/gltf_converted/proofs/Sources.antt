@@ -15,7 +15,7 @@ of_some same = cc
 
 source_read : (required : Required) (names : Names) (path : List ℕ) (value : Data) (r : Root)
     (buffers : List (List ℕ)) (source : IsSource required names path value r buffers)
-    → IsRead names source.bytes r buffers
+    → IsRead required names source.bytes r buffers
 source_read required names path value r buffers source = record {
   blob = source.blob;
   document = record {
@@ -31,9 +31,10 @@ source_read required names path value r buffers source = record {
 -- the bytes at the path are read so
 pub held_read : (required : Required) (there : Holds) (path bytes : List ℕ) (value : Data)
     (r : Root) (buffers : List (List ℕ)) → there (File path) ≡ Some bytes
-    → IsSource required (Held there) path value r buffers → IsRead (Held there) bytes r buffers
+    → IsSource required (Held there) path value r buffers
+    → IsRead required (Held there) bytes r buffers
 held_read required there path bytes value r buffers held source =
-    subst (λ (x : List ℕ). IsRead (Held there) x r buffers)
+    subst (λ (x : List ℕ). IsRead required (Held there) x r buffers)
     (of_some (sym source.gives ∙ held))
     (source_read required (Held there) path value r buffers source)
 

@@ -1,7 +1,7 @@
 //! Laws of two conversions, one after the other. Each is a statement over definitions, proved as
 //! the contract of a function that does nothing.
 ghost use Rattle.gltf_converted.specs.Laws.{KeepsItemsThere, KeepsItemsBack, KeepsImagesThere};
-ghost use Rattle.gltf_converted.specs.Laws.{KeepsImagesBack};
+ghost use Rattle.gltf_converted.specs.Laws.{HoldsEachImage, KeepsImagesBack};
 
 use gltf_items::Item;
 
@@ -30,6 +30,19 @@ pub fn images_are_kept_by_bundles()
 {
     gltf_split::laws::images_are_shown();
     gltf_bundle::laws::images_are_shown();
+}
+
+/// Where a file is split, and the set is bundled over a source that has its files, each image of the
+/// file, in a view or with a URI alone, has the same bytes in the container, and the media type that
+/// it has in the file: but for one that a `data:` URI alone names, which the text of a set does not
+/// keep.
+pub fn each_image_is_kept_by_bundles()
+    ensures { HoldsEachImage }
+{
+    gltf_detached::laws::uris_lead_to_names();
+    gltf_split::laws::images_in_views_have_files();
+    gltf_split::laws::images_with_uris_have_files();
+    images_are_kept_by_bundles();
 }
 
 /// Where a file is bundled, and the container is split, each image of the file has in the set, over

@@ -15,7 +15,8 @@ use std::mem;
 
 /// The document of these records, without the names in `extensionsRequired` that pass, where it
 /// breaks no rule then: with [`Required::Supported`] the document as it is, with
-/// [`Required::Also`] without these names, with [`Required::All`] without any.
+/// [`Required::Also`] and [`Required::Mended`] without these names, with [`Required::All`] and
+/// [`Required::AllMended`] without any. Nothing is mended here.
 ///
 /// The error is [`gltf::Error::Validation`] with all rules that are broken, at their places in the
 /// file, or [`gltf::Error::Memory`], which says nothing of the records.
@@ -28,6 +29,13 @@ pub fn checked(alloc: Global, root: Root, required: &Required<'_>) -> Result<Doc
         Required::Supported => whole(alloc, root),
         Required::Also(options) => besides(alloc, root, options),
         Required::All => bare(alloc, root),
+        Required::Mended(options) => {
+            let names = Options {
+                also_supported: options.also_supported,
+            };
+            besides(alloc, root, &names)
+        }
+        Required::AllMended(_) => bare(alloc, root),
     }
 }
 

@@ -2,7 +2,7 @@
 use Rattle.std.proofs.Common.{◌≡◌, ℕ, ◌<◌, ◌≤◌, ◌-◌, ◌%◌, List, [], ◌∷◌, ◌++◌, length, map}
 use Rattle.std.proofs.Common.{Bool}
 use Rattle.std.proofs.Common.{true, false, Vec, Global}
-use Rattle.std.proofs.Common.{Option, Some, Ok, Err, Result, refl, sym, ap, subst, ◌∙◌, arith}
+use Rattle.std.proofs.Common.{Option, Some, None, Ok, Err, Result, refl, sym, ap, subst, ◌∙◌, arith}
 use Rattle.std.proofs.Common.{slice_get, get_or, nat_lt, option_map, string_bytes}
 use Rattle.std.proofs.Common.{replicate, length-append, suc, zero}
 use Rattle.std.proofs.lemmas.Bool.{ltb-false}
@@ -21,8 +21,10 @@ use Rattle.gltf_buffers.specs.Buffers.{BufferFault, long_enough, TooShort, meant
 use Rattle.gltf_buffers.specs.Names.{Names, Held, MayBeGiven, name_of}
 use Rattle.gltf_buffers.specs.Padding.{padded}
 use Rattle.gltf_buffers.specs.Uri as uri
-use Rattle.gltf.specs.Import.{IsDocument}
-use Rattle.gltf_required.specs.Import.{IsValidAs}
+use Rattle.gltf_mend.specs.declared.mends.Mends.{Mends}
+use Rattle.gltf_required.specs.Import.{IsDocumentAs, IsValidAs}
+use Rattle.gltf_required.specs.Read.{read_detached}
+use Rattle.gltf_required.specs.Required.{ReadAlike, as_read, mended_by, mends_of}
 use Rattle.gltf_required.specs.declared.required.Required.{Required}
 use Rattle.gltf_detach.specs.Naming.{buffer_uris, image_uris, image_uri, uri_of_part}
 use Rattle.gltf_detach.specs.declared.part.Part.{Part}
@@ -44,8 +46,9 @@ of_some same = cc
 -- ---- the records
 
 module _ (required : Required) (names : Names) (path stem : List ℕ) (keep : Keep) (drop : Bool)
-    (set : Pieces) (is : IsSplit required names path stem keep drop set) (s : Root)
-    (blob : Option (List ℕ)) (document : IsDocument (string_bytes set.json) s blob) where
+    (set : Pieces) (is : IsSplit required names path stem keep drop set) (reading : Required)
+    (alike : ReadAlike required reading) (s : Root) (blob : Option (List ℕ))
+    (document : IsDocumentAs reading (string_bytes set.json) s blob) where
   abbrev left : Data
   left = value_left drop is.value is.whole
 
@@ -56,12 +59,16 @@ module _ (required : Required) (names : Names) (path stem : List ℕ) (keep : Ke
       let reads = subst (λ (t : List ℕ). Reads t document.value) same document.reads in
       of_some (sym reads.1 ∙ is.reads.1)
 
-  pub is_detached : (r : Root) → root.is left r
+  pub is_detached : (r : Root) → root.is (as_read required left) r
       → IsDetached (buffer_uris set.buffers.items) (image_uris set.images.items) r s
   is_detached r read = record {
-    value = left;
+    value = as_read required left;
     before = read;
-    after = subst (λ (d : Data). root.is d s) the_value document.records;
+    after =
+        subst (λ (d : Data). root.is d s)
+        (sym (alike document.value) ∙ ap (as_read required) the_value
+        ∙ read_detached required (buffer_uris set.buffers.items) (image_uris set.images.items) left)
+        document.records;
   }
 
 -- ---- the buffers
@@ -153,7 +160,7 @@ not_less a b h = grind arith
 -- the file is read over the bytes of its buffers
 source_over : (required : Required) (names : Names) (path : List ℕ) (value : Data) (r : Root)
     (buffers : List (List ℕ)) → IsSource required names path value r buffers
-    → IsReadOver value r buffers
+    → IsReadOver (as_read required value) r buffers
 source_over required names path value r buffers source = record {
   is = source.records;
   count = source.data_.count ∙ length_of_map source_of r.buffers.items;
@@ -175,33 +182,41 @@ source_over required names path value r buffers source = record {
 }
 
 -- what is left of a document, and what it is read over
-pub record IsLeftOver (drop : Bool) (value : Data) (r : Root) (whole left : List (List ℕ))
-    : Type 0 where
+pub record IsLeftOver (mends : Option Mends) (drop : Bool) (value : Data) (r : Root)
+    (whole left : List (List ℕ)) : Type 0 where
   pub root_ : Root
-  pub over : IsReadOver (value_left drop value whole) root_ left
+  pub over : IsReadOver (mended_by mends (value_left drop value whole)) root_ left
   pub images : root_.images ≡ r.images
 
-abbrev pub left_over : IsReadTrimmed → (drop : Bool) (value : Data) (r : Root)
-    (whole : List (List ℕ)) → IsReadOver value r whole
-    → IsLeftOver drop value r whole (bytes_left drop value whole)
-left_over trimmed true value r whole over =
+pub some_mends : {A : Type 0} (mends : Mends) → ◌≡◌ {A = Option Mends} (Some mends) None → A
+some_mends mends same = cc
+
+abbrev pub left_over : IsReadTrimmed → (mends : Option Mends) (drop : Bool)
+    → (drop ≡ true → mends ≡ None) → (value : Data) (r : Root) (whole : List (List ℕ))
+    → IsReadOver (mended_by mends value) r whole
+    → IsLeftOver mends drop value r whole (bytes_left drop value whole)
+left_over trimmed None true stands value r whole over =
     let found = trimmed value r whole over in
     record { root_ = found.0; over = found.1; images = found.2 }
-left_over trimmed false value r whole over = record { root_ = r; over = over; images = refl }
+left_over trimmed (Some mends) true stands value r whole over = some_mends mends (stands refl)
+left_over trimmed mends false stands value r whole over =
+    record { root_ = r; over = over; images = refl }
 
 pub split_over : (required : Required) (names : Names) (path stem : List ℕ) (keep : Keep)
     (drop : Bool) (set : Pieces) (is : IsSplit required names path stem keep drop set)
-    → IsReadOver is.value is.root_ is.whole
+    → IsReadOver (as_read required is.value) is.root_ is.whole
 split_over required names path stem keep drop set is =
     source_over required names path is.value is.root_ is.whole is.source
 
 -- what is left of the file that a set is of
 pub split_left : IsReadTrimmed → (required : Required) (names : Names) (path stem : List ℕ)
     (keep : Keep) (drop : Bool) (set : Pieces) (is : IsSplit required names path stem keep drop set)
-    → IsLeftOver drop is.value is.root_ is.whole (bytes_of_parts set.buffers.items)
+    → IsLeftOver (mends_of required) drop is.value is.root_ is.whole
+    (bytes_of_parts set.buffers.items)
 split_left trimmed required names path stem keep drop set is =
-    subst (λ (xs : List (List ℕ)). IsLeftOver drop is.value is.root_ is.whole xs) (sym is.bytes)
-    (left_over trimmed drop is.value is.root_ is.whole
+    subst (λ (xs : List (List ℕ)).
+    IsLeftOver (mends_of required) drop is.value is.root_ is.whole xs) (sym is.bytes)
+    (left_over trimmed (mends_of required) drop is.stands is.value is.root_ is.whole
     (split_over required names path stem keep drop set is))
 
 module _ (value : Data) (r : Root) (ps : List Part) (over : IsReadOver value r (bytes_of_parts ps))
@@ -217,13 +232,13 @@ module _ (value : Data) (r : Root) (ps : List Part) (over : IsReadOver value r (
         (over.each i found.0 found.1).fours)
 
 pub has_its_buffers : NamesBuffers → ReadsFiles → IsReadTrimmed → HasItsBuffers
-has_its_buffers named files trimmed required names path stem keep drop set is there holds s others
-    accepts =
+has_its_buffers named files trimmed required names path stem keep drop set is reading alike there
+    holds s others accepts =
     let ps = set.buffers.items in
-    let detached = is_detached required names path stem keep drop set is s accepts.blob
+    let detached = is_detached required names path stem keep drop set is reading alike s accepts.blob
     accepts.document in
     let left = split_left trimmed required names path stem keep drop set is in
-    let value = value_left drop is.value is.whole in
+    let value = as_read required (value_left drop is.value is.whole) in
     let are = named (buffer_uris ps) (image_uris set.images.items) left.root_ s
     (detached left.root_ left.over.is) in
     let own = own_count value left.root_ ps left.over in (
@@ -295,13 +310,15 @@ file_at (p ∷ ps) (suc i) h =
 module _ (named : NamesBuffers) (lead : LeadToNames) (trimmed : IsReadTrimmed)
     (required : Required) (names : Names) (path stem : List ℕ) (keep : Keep) (drop : Bool)
     (set : Pieces)
-    (is : IsSplit required names path stem keep drop set) (passing : Required) (there : Holds)
+    (is : IsSplit required names path stem keep drop set) (passing : Required)
+    (alike : ReadAlike required passing) (there : Holds)
     (holds : HoldsBuffers there set) (s : Root) (blob : Option (List ℕ))
     (valid : IsValidAs passing (string_bytes set.json) s blob) where
   abbrev parts : List Part
   parts = set.buffers.items
 
-  abbrev left_there : IsLeftOver drop is.value is.root_ is.whole (bytes_of_parts parts)
+  abbrev left_there : IsLeftOver (mends_of required) drop is.value is.root_ is.whole
+      (bytes_of_parts parts)
   left_there = split_left trimmed required names path stem keep drop set is
 
   abbrev own_root : Root
@@ -310,11 +327,13 @@ module _ (named : NamesBuffers) (lead : LeadToNames) (trimmed : IsReadTrimmed)
   are : AreNamed (buffer_uris parts) own_root s
   are =
       named (buffer_uris parts) (image_uris set.images.items) own_root s
-      (is_detached required names path stem keep drop set is s blob valid.document own_root
-      left_there.over.is)
+      (is_detached required names path stem keep drop set is passing alike s blob valid.document
+      own_root left_there.over.is)
 
   own : length own_root.buffers.items ≡ length parts
-  own = own_count (value_left drop is.value is.whole) own_root parts left_there.over
+  own =
+      own_count (as_read required (value_left drop is.value is.whole)) own_root parts
+      left_there.over
 
   as_many : length (sources_of s) ≡ length parts
   as_many = length_of_map source_of s.buffers.items ∙ are.count ∙ own
@@ -363,20 +382,19 @@ module _ (named : NamesBuffers) (lead : LeadToNames) (trimmed : IsReadTrimmed)
   )
 
 pub accepted_over : NamesBuffers → LeadToNames → IsReadTrimmed → IsTakenOver
-accepted_over named lead trimmed required names path stem keep drop set is passing text there
+accepted_over named lead trimmed required names path stem keep drop set is passing alike text there
     holds =
-    accepted named lead trimmed required names path stem keep drop set is passing there holds text.0
-    text.1 text.2
+    accepted named lead trimmed required names path stem keep drop set is passing alike there holds
+    text.0 text.1 text.2
 
 -- ---- images
 
 pub shows_images : NamesImages → LeadToNames → IsReadTrimmed → ShowsImages
-shows_images named lead trimmed required names path stem keep drop set is there s others accepts i
-    p at holds x before =
+shows_images named lead trimmed required names path stem keep drop set is reading alike there s
+    others accepts i p at holds x before =
     let left = split_left trimmed required names path stem keep drop set is in
-    let detached = is_detached required names path stem keep drop set is s accepts.blob
-    accepts.document
-    left.root_ left.over.is in
+    let detached = is_detached required names path stem keep drop set is reading alike s accepts.blob
+    accepts.document left.root_ left.over.is in
     let u = uri_of_part p in
     let image : slice_get left.root_.images.items i ≡ Some x =
     ap (λ (v : Vec Image Global). slice_get v.items i) left.images ∙ before in

@@ -7,3 +7,4 @@ mod Imported
 mod Items
 mod Apart
 mod Viewed
+mod Linked

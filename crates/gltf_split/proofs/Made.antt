@@ -5,6 +5,7 @@ use Rattle.std.proofs.Common.{string_bytes, drop, None, Some, Vec, Global, appen
 use Rattle.std.proofs.Math.Seq.{take-suc}
 use Rattle.std.proofs.lemmas.List.{map-append, append-nil}
 use Rattle.serde_json.specs.Data.{Data, Items, no_items, item}
+use Rattle.serde_json.specs.Events.{items_len}
 use Rattle.serde_json.specs.View.{view, items_view}
 use Rattle.serde_json.specs.declared.value.Value.{Value}
 use Rattle.gltf_names.specs.Named.{Named}
@@ -16,10 +17,12 @@ use Rattle.gltf_detach.specs.declared.part.Part.{Part}
 use Rattle.gltf_trim.specs.Tails.{bytes_of}
 use Rattle.gltf_trim.specs.Trimmed.{first}
 use Rattle.gltf_trimmed.specs.Laws.{cut, cut_all}
+use Rattle.gltf_bundle.specs.Images.{front}
 use Rattle.gltf_bundle.specs.declared.options.Keep.{Keep}
 use Rattle.gltf_bundle.specs.declared.options.Keep.TheVariants.{Nothing, Missing, Every}
 use Rattle.gltf_edit.specs.Embedded.{items_at}
 use Rattle.gltf_split.specs.Images.{AreParts, AreImages, MayBePart, Stays, IsBare}
+use Rattle.gltf_split.specs.Images.{FailedAtMissing}
 use Rattle.gltf_split.specs.Splits.{AreNamed, bytes_of_parts}
 
 -- ---- buffers
@@ -185,23 +188,88 @@ none_lost Every names stem buffers document i ds ps lost far some =
     no_loss Every names (λ d l bare. bare) stem buffers document i ds ps lost far
 none_lost Missing names stem buffers document i ds ps lost far some = absurd (some refl)
 
--- so it did not fail at any name of an image
-pub fine_parts : (keep : Keep) (names : Names) (stem : List ℕ) (buffers : List (List ℕ))
-    (document : Data) (ps : List (Option Part)) (lost old new : List Named)
-    → AreImages keep names stem buffers document ps lost → new ≡ lost ++ old → keep ≢ Missing
-    → new ≡ old
-fine_parts Every names stem buffers document ps lost old new are after some =
-    after ∙ ap (λ (l : List Named). l ++ old) are.1
-fine_parts Nothing names stem buffers document ps lost old new are after some =
-    after
-    ∙ ap (λ (l : List Named). l ++ old)
-    (none_lost Nothing names stem buffers document 0 (items_at (codes "images") document) ps lost
-    are some)
-fine_parts Missing names stem buffers document ps lost old new are after some =
-    absurd (some refl)
+all_of : (ds : Items) → front (items_len ds) ds ≡ ds
+all_of no_items = refl
+all_of (item d ds) = ap (item d) (all_of ds)
+
+front_of : (vs : List Value) (i : ℕ) → items_view (take i vs) ≡ front i (items_view vs)
+front_of [] zero = refl
+front_of [] (suc i) = refl
+front_of (v ∷ vs) zero = refl
+front_of (v ∷ vs) (suc i) = ap (item (view v)) (front_of vs i)
 
 no_missing : Nothing ≢ Missing
 no_missing same = cc
+
+no_missing_of_all : Every ≢ Missing
+no_missing_of_all same = cc
+
+-- so it failed at no name but those of images that are missing and stay
+pub failed_behind : (keep : Keep) (names : Names) (stem : List ℕ) (buffers : List (List ℕ))
+    (document : Data) (ps : List (Option Part)) (lost old new : List Named)
+    → AreImages keep names stem buffers document ps lost → new ≡ lost ++ old
+    → FailedAtMissing keep names buffers document (items_at (codes "images") document) old new
+failed_behind Every names stem buffers document ps lost old new are after =
+    after ∙ ap (λ (l : List Named). l ++ old) are.1
+failed_behind Nothing names stem buffers document ps lost old new are after =
+    after
+    ∙ ap (λ (l : List Named). l ++ old)
+    (none_lost Nothing names stem buffers document 0 (items_at (codes "images") document) ps lost
+    are no_missing)
+failed_behind Missing names stem buffers document ps lost old new are after =
+    let ds = items_at (codes "images") document in
+    record {
+      count = items_len ds;
+      stem = stem;
+      parts = ps;
+      lost = lost;
+      before =
+          subst (λ (es : Items). AreParts Missing names stem buffers document 0 es ps lost)
+          (sym (all_of ds)) are;
+      after = after;
+    }
+
+-- at none but those of the first that are
+pub failed_at : (keep : Keep) (names : Names) (stem : List ℕ) (buffers : List (List ℕ))
+    (document : Data) (vs : List Value) (i : ℕ) (ps : List (Option Part))
+    (lost old new : List Named)
+    → AreParts keep names stem buffers document 0 (items_view (take i vs)) ps lost
+    → new ≡ lost ++ old → FailedAtMissing keep names buffers document (items_view vs) old new
+failed_at Nothing names stem buffers document vs i ps lost old new far after =
+    after
+    ∙ ap (λ (l : List Named). l ++ old)
+    (none_lost Nothing names stem buffers document 0 (items_view (take i vs)) ps lost far
+    no_missing)
+failed_at Every names stem buffers document vs i ps lost old new far after =
+    after
+    ∙ ap (λ (l : List Named). l ++ old)
+    (none_lost Every names stem buffers document 0 (items_view (take i vs)) ps lost far
+    no_missing_of_all)
+failed_at Missing names stem buffers document vs i ps lost old new far after = record {
+  count = i;
+  stem = stem;
+  parts = ps;
+  lost = lost;
+  before =
+      subst (λ (es : Items). AreParts Missing names stem buffers document 0 es ps lost)
+      (front_of vs i) far;
+  after = after;
+}
+
+-- at none, where it was not asked for one
+pub none_failed : (keep : Keep) (names : Names) (stem : List ℕ) (buffers : List (List ℕ))
+    (document : Data) (vs : List Value) (old : List Named)
+    → FailedAtMissing keep names buffers document (items_view vs) old old
+none_failed Nothing names stem buffers document vs old = refl
+none_failed Every names stem buffers document vs old = refl
+none_failed Missing names stem buffers document vs old = record {
+  count = 0;
+  stem = stem;
+  parts = [];
+  lost = [];
+  before = refl;
+  after = refl;
+}
 
 -- all stay
 pub none_of_all : (keep : Keep) (names : Names) (stem : List ℕ) (buffers : List (List ℕ))

@@ -1,6 +1,6 @@
 -- What errors say.
 use Rattle.std.proofs.Common.{◌≡◌, ◌≢◌, ℕ, ◌<◌, ◌++◌, List, Option, None, length, get_or, Some}
-use Rattle.std.proofs.Common.{Bool, true, false, [], ◌∷◌, inr, string_bytes}
+use Rattle.std.proofs.Common.{Bool, true, false, [], ◌∷◌, inl, inr, string_bytes}
 use Rattle.std.proofs.Common.{refl, sym, ap, subst, take}
 use Rattle.std.proofs.Common.{◌∙◌, codes}
 use Rattle.serde_json.specs.Data.{Data}
@@ -26,11 +26,11 @@ use Rattle.gltf_bundle.specs.Refusals.{RefusesSource, LacksMemoryOr}
 use Rattle.gltf_bundle.specs.declared.error.BundleError.{BundleError}
 use Rattle.gltf_bundle.specs.declared.error.BundleError.TheVariants as bundle
 use Rattle.gltf_split.specs.Images.{RefusesImages, RefusesOwn, RefusesKept, RefusesView}
-use Rattle.gltf_split.specs.Images.{HoldsAt, HasStrayView, AreParts, Stays}
-use Rattle.gltf_split.proofs.Made.{none_before, none_lost, fine_parts}
+use Rattle.gltf_split.specs.Images.{HoldsAt, HasStrayView, AreParts, Stays, FailedAtMissing}
+use Rattle.gltf_split.proofs.Made.{none_before, failed_at, failed_behind}
 use Rattle.gltf_detach.specs.declared.part.Part.{Part}
-use Rattle.gltf_split.specs.Refusals.{RefusesSplit}
-use Rattle.gltf_split.specs.Splits.{Splits}
+use Rattle.gltf_split.specs.Refusals.{RefusesSplit, HasFailedAtMissing}
+use Rattle.gltf_split.specs.Splits.{Splits, IsLaidOut}
 use Rattle.gltf_split.specs.declared.splitting.Pieces.{Pieces}
 use Rattle.gltf_split.specs.Views.{view_bytes}
 use Rattle.gltf_bundle.specs.declared.options.Keep.{Keep}
@@ -78,13 +78,8 @@ module _ (keep : Keep) (names : Names) (stem : List ℕ) (buffers : List (List �
       holds = at_index vs i v i h is refl (HasStrayView buffers document n) told;
     },
   )
-  one_refused vs i v (bundle.Import e) ps lost far h is told = (
-    told.0,
-    λ more.
-        told.1
-        ∙ ap (λ (l : List Named). l ++ old)
-        (none_lost keep names stem buffers document 0 (items_view (take i vs)) ps lost far more),
-  )
+  one_refused vs i v (bundle.Import e) ps lost far h is told =
+      (told.0, failed_at keep names stem buffers document vs i ps lost old new far told.1)
   one_refused vs i v (bundle.ImageType j) ps lost far h is told = absurd told
   one_refused vs i v bundle.TooLong ps lost far h is told = absurd told
   one_refused vs i v (bundle.Answer e) ps lost far h is told = absurd told
@@ -196,13 +191,38 @@ weaker : (M N : Type 0) (P : Error → Type 0) (e : Error) → (M → N) → Lac
 weaker M N P glb.Memory f told = f told
 weaker M N P e f told = told
 
-module _ (required : Required) (names : Names) (path stem : List ℕ) (keep : Keep) (drop : Bool)
-    (old new : List Named) where
+-- the source did not fail
+as_before : (required : Required) (names : Names) (path : List ℕ) (keep : Keep)
+    (old new : List Named) → new ≡ old → HasFailedAtMissing required names path keep old new
+as_before required names path Nothing old new same = same
+as_before required names path Missing old new same = inl same
+as_before required names path Every old new same = same
+
+-- it failed at names of images of a file that is accepted
+pub at_images : (required : Required) (names : Names) (path : List ℕ) (keep : Keep)
+    (old new : List Named) (value : Data) (r : Root) (buffers : List (List ℕ))
+    → IsSource required names path value r buffers
+    → FailedAtMissing keep names buffers value (items_at (codes "images") value) old new
+    → HasFailedAtMissing required names path keep old new
+at_images required names path Nothing old new value r buffers source failed = failed
+at_images required names path Missing old new value r buffers source failed =
+    inr (record {
+      value = value;
+      root_ = r;
+      buffers = buffers;
+      source = source;
+      failed = failed;
+    })
+at_images required names path Every old new value r buffers source failed = failed
+
+module _ (required : Required) (names : Names) (path stem : List ℕ) (keep : Keep)
+    (drop pretty : Bool) (old new : List Named) where
   pub source_refused : (e : BundleError) → RefusesSource required names path old new e
-      → RefusesSplit required names path stem keep drop old new e
+      → RefusesSplit required names path stem keep drop pretty old new e
   source_refused (bundle.Import e) told =
-      weaker (new ≡ old) (keep ≢ Missing → new ≡ old) (RefusesFileAs required names path old new) e
-      (λ same some. same) told
+      weaker (new ≡ old) (HasFailedAtMissing required names path keep old new)
+      (RefusesFileAs required names path old new) e (as_before required names path keep old new)
+      told
   source_refused (bundle.View v) told = absurd told
   source_refused (bundle.Image i u e) told = absurd told
   source_refused (bundle.ImageType i) told = absurd told
@@ -213,11 +233,12 @@ module _ (required : Required) (names : Names) (path stem : List ℕ) (keep : Ke
       (source : IsSource required names path value r buffers) where
     pub images_refused : (e : BundleError)
         → RefusesImages keep names buffers value (items_at (codes "images") value) old new e
-        → RefusesSplit required names path stem keep drop old new e
+        → RefusesSplit required names path stem keep drop pretty old new e
     images_refused (bundle.Import e) told =
         subst (λ e.
-        LacksMemoryOr (keep ≢ Missing → new ≡ old) (RefusesFileAs required names path old new) e)
-        (sym told.0) told.1
+        LacksMemoryOr (HasFailedAtMissing required names path keep old new)
+        (RefusesFileAs required names path old new) e)
+        (sym told.0) (at_images required names path keep old new value r buffers source told.1)
     images_refused (bundle.View v) told =
         record { value = value; root_ = r; buffers = buffers; source = source; told = told }
     images_refused (bundle.Image i u e) told =
@@ -228,10 +249,12 @@ module _ (required : Required) (names : Names) (path stem : List ℕ) (keep : Ke
 
   -- the text was made, and is refused, or there was not enough memory to read it
   pub answer_refused : (set : Pieces) → Splits required names path stem keep drop old new set
-      → (e : Error) → OutOfMemoryOr (RefusesDocumentAs required (string_bytes set.json)) e
-      → RefusesSplit required names path stem keep drop old new (of_answer e)
-  answer_refused set is glb.Memory told =
-      fine_parts keep names stem is.0.whole is.0.value set.images.items is.0.lost old new
-      is.0.images is.1
-  answer_refused set is e told =
-      record { set = set; is = is.0; not_memory = λ same. cc; fault = told }
+      → IsLaidOut pretty (string_bytes set.json) → (e : Error)
+      → OutOfMemoryOr (RefusesDocumentAs required (string_bytes set.json)) e
+      → RefusesSplit required names path stem keep drop pretty old new (of_answer e)
+  answer_refused set is laid glb.Memory told =
+      at_images required names path keep old new is.0.value is.0.root_ is.0.whole is.0.source
+      (failed_behind keep names stem is.0.whole is.0.value set.images.items is.0.lost old new
+      is.0.images is.1)
+  answer_refused set is laid e told =
+      record { set = set; is = is.0; laid = laid; not_memory = λ same. cc; fault = told }

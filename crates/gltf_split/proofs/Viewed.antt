@@ -15,7 +15,9 @@ use Rattle.gltf_detach.specs.declared.part.Part.{Part}
 use Rattle.gltf_edit.specs.Bundled.{size_at, size_or_zero}
 use Rattle.gltf_edit.specs.Embedded.{items_at}
 use Rattle.gltf_moved.specs.RowLaws.{required_size, required_index, optional_size, optional_index}
-use Rattle.gltf_moved.specs.RowLaws.{comes_from}
+use Rattle.gltf_moved.specs.RowLaws.{ReadsList, comes_from}
+use Rattle.gltf_mended.specs.Edited.{images_left, views_left}
+use Rattle.gltf_required.specs.Read.{get_read}
 use Rattle.gltf_names.specs.Named.{Named}
 use Rattle.gltf_buffers.specs.Names.{Names}
 use Rattle.gltf_bundle.specs.declared.options.Keep.{Keep}
@@ -26,7 +28,7 @@ use Rattle.gltf_split.specs.Views.{cut, view_bytes, bytes_at, bytes_in}
 
 -- ---- the view that an image names
 
-view_read : (e : Data) (x : Image) → image.is e x
+pub view_read : (e : Data) (x : Image) → image.is e x
     → size_at (codes "bufferView") e ≡ x.buffer_view
 unfolding image
 view_read e x is = optional_index (codes "bufferView") e x.buffer_view is.1.0
@@ -123,10 +125,13 @@ unfolding root
 has_files required names path stem keep drop set is kept i x there bytes of_view =
     let records = is.source.records in
     let read = comes_from image.is (get (codes "images") is.value) is.root_.images.items i x
-    records.1.1.1.1.1.1.1.0 there in
+    (subst (λ o. ReadsList image.is o is.root_.images.items)
+    (get_read required (codes "images") images_left is.value) records.1.1.1.1.1.1.1.0) there in
     let view = comes_from buffer_view.is (get (codes "bufferViews") is.value)
     is.root_.buffer_views.items of_view.index of_view.view
-    records.1.1.1.1.1.0 of_view.view_there in
+    (subst (λ o. ReadsList buffer_view.is o is.root_.buffer_views.items)
+    (get_read required (codes "bufferViews") views_left is.value) records.1.1.1.1.1.0)
+    of_view.view_there in
     let named : size_at (codes "bufferView") read.from ≡ Some of_view.index =
     view_read read.from x read.reads ∙ of_view.names_view in
     let viewed : view_bytes is.whole is.value of_view.index ≡ Some bytes =

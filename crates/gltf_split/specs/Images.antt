@@ -13,7 +13,7 @@ use Rattle.gltf_names.specs.Named.{Named}
 use Rattle.gltf_buffers.specs.Buffers.{IsMeant}
 use Rattle.gltf_buffers.specs.Names.{Names}
 use Rattle.gltf_buffers.specs.Uri.{uri_of}
-use Rattle.gltf_bundle.specs.Images.{text_at, IsUnread, IsRefused}
+use Rattle.gltf_bundle.specs.Images.{text_at, IsUnread, IsRefused, front}
 use Rattle.gltf_bundle.specs.Media.{begun_media}
 use Rattle.gltf_bundle.specs.declared.options.Keep.{Keep}
 use Rattle.gltf_bundle.specs.declared.options.Keep.TheVariants.{Nothing, Missing, Every}
@@ -141,6 +141,24 @@ pub record HoldsSomewhere (ds : Items) (P : Data → Type 0) : Type 0 where
   pub index : ℕ
   pub holds : HoldsAt ds index P
 
+-- the source failed since at names of the first of these images, where those stay that are missing,
+-- whatever the files of the others are called
+pub record FailedAtFirst (names : Names) (buffers : List (List ℕ)) (document : Data) (ds : Items)
+    (old new : List Named) : Type 0 where
+  pub count : ℕ
+  pub stem : List ℕ
+  pub parts : List (Option Part)
+  pub lost : List Named
+  pub before : AreParts Missing names stem buffers document 0 (front count ds) parts lost
+  pub after : new ≡ lost ++ old
+
+-- it failed at these alone, and at none where no image may stay that is missing
+abbrev pub FailedAtMissing : Keep → Names → List (List ℕ) → Data → Items → List Named → List Named
+    → Type 0
+FailedAtMissing Missing names buffers document ds old new =
+    FailedAtFirst names buffers document ds old new
+FailedAtMissing keep names buffers document ds old new = new ≡ old
+
 -- what an error says of images: where those stay that are missing, none of them is an error
 abbrev pub RefusesImages : Keep → Names → List (List ℕ) → Data → Items → List Named → List Named
     → BundleError → Type 0
@@ -149,5 +167,5 @@ RefusesImages keep names buffers document ds old new (bundle.Image i u e) =
 RefusesImages keep names buffers document ds old new (bundle.View v) =
     (keep ≢ Every) × HoldsSomewhere ds (HasStrayView buffers document v)
 RefusesImages keep names buffers document ds old new (bundle.Import e) =
-    (e ≡ Memory) × (keep ≢ Missing → new ≡ old)
+    (e ≡ Memory) × FailedAtMissing keep names buffers document ds old new
 RefusesImages keep names buffers document ds old new _ = ⊥

@@ -14,12 +14,13 @@ use Rattle.gltf_buffers.specs.Buffers.{IsMeant}
 use Rattle.gltf_buffers.specs.Names.{Names, Held}
 use Rattle.gltf_buffers.specs.Uri.{uri_of}
 use Rattle.gltf_required.specs.Import.{AcceptsAs, IsRead}
+use Rattle.gltf_required.specs.Required.{ReadAlike, as_read}
 use Rattle.gltf_bundle.specs.Laws.{IsOfView}
 use Rattle.gltf_required.specs.declared.required.Required.{Required}
 use Rattle.gltf_split.specs.Splits.{IsSplit, IsValidTextAs, bytes_of_parts, value_left}
 use Rattle.gltf_split.specs.declared.splitting.Pieces.{Pieces}
 use Rattle.gltf_bundle.specs.declared.options.Keep.{Keep}
-use Rattle.gltf_bundle.specs.declared.options.Keep.TheVariants.{Every}
+use Rattle.gltf_bundle.specs.declared.options.Keep.TheVariants.{Nothing, Every}
 
 abbrev pub Holds : Type 0
 Holds = Named → Option (List ℕ)
@@ -35,26 +36,27 @@ IsAcceptedOver required there set =
     (s : Root) × (others : List (List ℕ)) × AcceptsAs required (Held there)
     (string_bytes set.json) s others
 
--- so it is over each source that has the files of its buffers
+-- so it is over each source that has the files of its buffers, where it is read as the file was
 abbrev pub IsTakenOver : Type 0
 IsTakenOver =
     (required : Required) (names : Names) (path stem : List ℕ) (keep : Keep) (drop : Bool)
     (set : Pieces)
     → IsSplit required names path stem keep drop set → (passing : Required)
-    → IsValidTextAs passing (string_bytes set.json)
+    → ReadAlike required passing → IsValidTextAs passing (string_bytes set.json)
     → (there : Holds) → HoldsBuffers there set → IsAcceptedOver passing there set
 
--- whatever the text of a set is read as, whatever rules it breaks, where a source has the files of
--- its buffers: the records are those of the edited value, whatever is read of what is left of the
--- value of the file, and the buffers have the bytes of the files
+-- whatever the text of a set is read as, whatever rules it breaks, as the file was read, where a
+-- source has the files of its buffers: the records are those of the edited value, whatever is read
+-- of what is left of the value of the file, and the buffers have the bytes of the files
 abbrev pub HasItsBuffers : Type 0
 HasItsBuffers =
     (required : Required) (names : Names) (path stem : List ℕ) (keep : Keep) (drop : Bool)
     (set : Pieces)
-    (is : IsSplit required names path stem keep drop set) (there : Holds) → HoldsBuffers there set
-    → (s : Root) (others : List (List ℕ)) → IsRead (Held there)
+    (is : IsSplit required names path stem keep drop set) (reading : Required)
+    → ReadAlike required reading → (there : Holds) → HoldsBuffers there set
+    → (s : Root) (others : List (List ℕ)) → IsRead reading (Held there)
     (string_bytes set.json) s others
-    → ((r : Root) → root.is (value_left drop is.value is.whole) r
+    → ((r : Root) → root.is (as_read required (value_left drop is.value is.whole)) r
     → IsDetached (buffer_uris set.buffers.items) (image_uris set.images.items) r s)
     × (others ≡ bytes_of_parts set.buffers.items)
 
@@ -63,8 +65,9 @@ abbrev pub KeepsItems : {X : Type 0} → Ghosts X → Type 0
 KeepsItems {X} t =
     (required : Required) (names : Names) (path stem : List ℕ) (keep : Keep) (drop : Bool)
     (set : Pieces)
-    (is : IsSplit required names path stem keep drop set) (there : Holds) → HoldsBuffers there set
-    → (s : Root) (others : List (List ℕ)) → IsRead (Held there)
+    (is : IsSplit required names path stem keep drop set) (reading : Required)
+    → ReadAlike required reading → (there : Holds) → HoldsBuffers there set
+    → (s : Root) (others : List (List ℕ)) → IsRead reading (Held there)
     (string_bytes set.json) s others
     → (index : ℕ) (result : Option (List X))
     → ReadsAt t is.root_ (slice_get is.whole) index result
@@ -87,9 +90,9 @@ abbrev pub ShowsImages : Type 0
 ShowsImages =
     (required : Required) (names : Names) (path stem : List ℕ) (keep : Keep) (drop : Bool)
     (set : Pieces)
-    (is : IsSplit required names path stem keep drop set) (there : Holds) (s : Root)
-    (others : List (List ℕ))
-    → IsRead (Held there) (string_bytes set.json) s others
+    (is : IsSplit required names path stem keep drop set) (reading : Required)
+    → ReadAlike required reading → (there : Holds) (s : Root) (others : List (List ℕ))
+    → IsRead reading (Held there) (string_bytes set.json) s others
     → (i : ℕ) (p : Part) → slice_get set.images.items i ≡ Some (Some p) → HoldsPart there p
     → (x : Image) → slice_get is.root_.images.items i ≡ Some x → IsShown there p x s i
 
@@ -102,6 +105,22 @@ HasFiles =
     → (i : ℕ) (x : Image) → slice_get is.root_.images.items i ≡ Some x
     → (bytes : List ℕ) → IsOfView is.whole is.root_ x bytes
     → (p : Part) × (slice_get set.images.items i ≡ Some (Some p)) × (p.bytes.items ≡ bytes)
+
+-- image i has a file, and this URI leads to the bytes of it
+pub record HasLinkedFile (names : Names) (uri : List ℕ) (set : Pieces) (i : ℕ) : Type 0 where
+  pub part : Part
+  pub there : slice_get set.images.items i ≡ Some (Some part)
+  pub meant : IsMeant names (uri_of uri) (Ok part.bytes.items)
+
+-- so has each image with a URI that names no view, where no image may stay
+abbrev pub HasLinkedFiles : Type 0
+HasLinkedFiles =
+    (required : Required) (names : Names) (path stem : List ℕ) (keep : Keep) (drop : Bool)
+    (set : Pieces)
+    (is : IsSplit required names path stem keep drop set) → keep ≡ Nothing
+    → (i : ℕ) (x : Image) → slice_get is.root_.images.items i ≡ Some x
+    → (uri : List ℕ) → option_map string_bytes x.uri ≡ Some uri → x.buffer_view ≡ None
+    → HasLinkedFile names uri set i
 
 -- ---- names
 

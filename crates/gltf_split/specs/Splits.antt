@@ -1,7 +1,7 @@
 -- What a file is split into (glTF 2.0, sections 2.8, 3.6.1 and 3.8.3).
 use Rattle.std.specs.Prelude.{◌≡◌, ℕ, ◌+◌, List, [], ◌∷◌, ◌++◌, length, map, Bool, true, false, ⊤}
 use Rattle.std.specs.Prelude.{string_bytes, if◌then◌else◌}
-use Rattle.std.specs.Prelude.{Option}
+use Rattle.std.specs.Prelude.{Option, Some, None}
 use Rattle.json.specs.Layout.{pretty}
 use Rattle.json.specs.Lex.{tokens}
 use Rattle.json.specs.Print.{print}
@@ -17,7 +17,9 @@ use Rattle.gltf_trimmed.specs.Laws.{trimmed_bytes}
 use Rattle.gltf_names.specs.Named.{Named}
 use Rattle.gltf_buffers.specs.Names.{Names}
 use Rattle.gltf.specs.Import.{IsValidDocument}
+use Rattle.gltf_mend.specs.declared.mends.Mends.{Mends}
 use Rattle.gltf_required.specs.Import.{IsValidAs}
+use Rattle.gltf_required.specs.Required.{ReadsAsItStands, mends_of}
 use Rattle.gltf_required.specs.declared.required.Required.{Required}
 use Rattle.gltf_bundle.specs.Bundle.{IsSource}
 use Rattle.gltf_bundle.specs.Keep.{keep_of}
@@ -54,6 +56,14 @@ IsValidTextAs required text =
 abbrev pub drops : SplitOptions → Bool
 drops options = if options.keep_images then false else options.drop_image_views
 
+-- and unless the document is mended
+abbrev pub drops_by : Option Mends → SplitOptions → Bool
+drops_by None options = drops options
+drops_by (Some mends) options = false
+
+abbrev pub drops_as : Required → SplitOptions → Bool
+drops_as required options = drops_by (mends_of required) options
+
 -- which images are not touched
 abbrev pub kept : SplitOptions → Keep
 kept options = keep_of options.keep_images options.keep_missing_images
@@ -77,13 +87,14 @@ bytes_left false value whole = whole
 -- the files of the buffers have what is left of the bytes that the file at the path is imported
 -- with, those of the images have the bytes of the images, but for those that stay, and the text is
 -- that of what is left of the value of the file, whose buffers and images name these files; the
--- source failed at the names of images that stay
+-- source failed at the names of images that stay. Views go only where nothing is mended
 pub record IsSplit (required : Required) (names : Names) (path stem : List ℕ) (keep : Keep)
     (drop : Bool) (set : Pieces) : Type 0 where
   pub value : Data
   pub root_ : Root
   pub whole : List (List ℕ)
   pub source : IsSource required names path value root_ whole
+  pub stands : drop ≡ true → ReadsAsItStands required
   pub bytes : bytes_of_parts set.buffers.items ≡ bytes_left drop value whole
   pub named : AreNamed stem (length set.buffers.items) 0 set.buffers.items
   pub lost : List Named

@@ -1,7 +1,7 @@
 //! Laws of splits. Each is a statement over definitions, proved as the contract of a function that
 //! does nothing.
 ghost use Rattle.gltf_split.specs.Laws.{IsTakenOver, HasItsBuffers, KeepsItems, ShowsImages};
-ghost use Rattle.gltf_split.specs.Laws.{HasFiles, HasNamesApart};
+ghost use Rattle.gltf_split.specs.Laws.{HasFiles, HasLinkedFiles, HasNamesApart};
 
 use gltf_detached::laws::{
     buffers_are_named, files_are_read, images_are_named, uris_lead_to_names,
@@ -53,6 +53,12 @@ pub fn images_are_shown()
 /// the view, unless images are kept.
 pub fn images_in_views_have_files()
     ensures { HasFiles }
+{}
+
+/// Each image of the file that has a URI and names no view has a file with the bytes that the URI
+/// leads to, where no image may stay.
+pub fn images_with_uris_have_files()
+    ensures { HasLinkedFiles }
 {}
 
 /// No two files of a set have the same name, and none has that of the text, `STEM.gltf`.

@@ -11,7 +11,8 @@ pub struct SplitOptions {
     /// URI. Such an image is no error then.
     pub keep_missing_images: bool,
     /// The views at the end of the list that only images name go, since images have files, and so
-    /// do their bytes at the ends of buffers. Where images are not touched, this says nothing.
+    /// do their bytes at the ends of buffers. Where images are not touched, or the document is
+    /// mended, this says nothing.
     pub drop_image_views: bool,
     /// The JSON text has line breaks, and two spaces for each step in.
     pub pretty: bool,

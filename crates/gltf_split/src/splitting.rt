@@ -8,7 +8,7 @@ ghost use Rattle.gltf_buffers.specs.Names.{names_of};
 ghost use Rattle.gltf_buffers.specs.Shown.{bytes_of_each};
 ghost use Rattle.gltf_required.specs.declared.required.Required.TheVariants.{Supported};
 ghost use Rattle.gltf_split.specs.Splits.{Splits, IsValidText, IsValidTextAs, AreNamed};
-ghost use Rattle.gltf_split.specs.Splits.{bytes_of_parts, drops, kept, IsLaidOut};
+ghost use Rattle.gltf_split.specs.Splits.{bytes_of_parts, drops, drops_as, kept, IsLaidOut};
 ghost use Rattle.serde_json.specs.Written.{IsInOrder};
 ghost use Rattle.gltf_split.specs.Refusals.{RefusesSplit};
 
@@ -78,8 +78,8 @@ pub fn split<S: NamedBytes>(
     ensures layout { IfOk result (λ set. IsLaidOut options.now.pretty (string_bytes set.json)) }
     ensures accepted { IfOk result (λ set. IsValidText (string_bytes set.json)) }
     ensures refused { IfErr result (RefusesSplit Supported (names_of (S.bytes_by_name source.old))
-        path.now stem.now (kept options.now) (drops options.now) (S.failures source.old)
-        (S.failures source.new)) }
+        path.now stem.now (kept options.now) (drops options.now) options.now.pretty
+        (S.failures source.old) (S.failures source.new)) }
 {
     split_with(alloc, source, path, stem, options, &Required::Supported)
 }
@@ -89,6 +89,11 @@ pub fn split<S: NamedBytes>(
 /// it is returned. Nothing that an extension says is read: what it says of views, accessors, images
 /// and textures by their indices stays true, since all keep theirs, but for views that go with
 /// [`SplitOptions::drop_image_views`], which stay where an extension may name them.
+///
+/// With [`Required::Mended`] and [`Required::AllMended`] the records are those of the file as it is
+/// mended, and the text is read with the same mends. It is written as the file stands: a texture
+/// without `source` and a channel without `node` (sections 5.29.2 and 5.7.1) stay so. All views stay
+/// then.
 pub fn split_with<S: NamedBytes>(
     alloc: Global,
     source: &mut S,
@@ -98,13 +103,14 @@ pub fn split_with<S: NamedBytes>(
     required: &Required<'_>,
 ) -> Result<Pieces, BundleError>
     ensures split { IfOk result (Splits required.now (names_of (S.bytes_by_name source.old))
-        path.now stem.now (kept options.now) (drops options.now) (S.failures source.old)
-        (S.failures source.new)) }
+        path.now stem.now (kept options.now) (drops_as required.now options.now)
+        (S.failures source.old) (S.failures source.new)) }
     ensures layout { IfOk result (λ set. IsLaidOut options.now.pretty (string_bytes set.json)) }
     ensures accepted { IfOk result (λ set. IsValidTextAs required.now (string_bytes set.json)) }
     ensures refused { IfErr result (RefusesSplit required.now
         (names_of (S.bytes_by_name source.old)) path.now stem.now (kept options.now)
-        (drops options.now) (S.failures source.old) (S.failures source.new)) }
+        (drops_as required.now options.now) options.now.pretty (S.failures source.old)
+        (S.failures source.new)) }
 {
     let set = gathered(alloc, source, path, stem, options, required)?;
     match from_slice_as(alloc, set.json.as_bytes(), required) {
@@ -123,19 +129,20 @@ fn gathered<S: NamedBytes>(
     required: &Required<'_>,
 ) -> Result<Pieces, BundleError>
     ensures split { IfOk result (Splits required.now (names_of (S.bytes_by_name source.old))
-        path.now stem.now (kept options.now) (drops options.now) (S.failures source.old)
-        (S.failures source.new)) }
+        path.now stem.now (kept options.now) (drops_as required.now options.now)
+        (S.failures source.old) (S.failures source.new)) }
     ensures layout { IfOk result (λ set. IsLaidOut options.now.pretty (string_bytes set.json)) }
     ensures refused { IfErr result (RefusesSplit required.now
         (names_of (S.bytes_by_name source.old)) path.now stem.now (kept options.now)
-        (drops options.now) (S.failures source.old) (S.failures source.new)) }
+        (drops_as required.now options.now) options.now.pretty (S.failures source.old)
+        (S.failures source.new)) }
 {
     let Loaded { value, buffers } = load_with(alloc, source, path, required)?;
     let images = image_parts(alloc, source, &value, options.keep(), stem, &buffers)?;
     let Loaded {
         value: left,
         buffers: cut,
-    } = what_is_left(alloc, value, buffers, options.drops_views())?;
+    } = what_is_left(alloc, value, buffers, drops_as(options, required))?;
     let buffers = buffer_parts(alloc, stem, cut)?;
     let value = detached(alloc, left, &buffers, &images)?;
     let json = written(alloc, &value, options.pretty)?;
@@ -144,6 +151,16 @@ fn gathered<S: NamedBytes>(
         buffers,
         images,
     })
+}
+
+/// Whether the views of images go: not where the document is mended.
+fn drops_as(options: &SplitOptions, required: &Required<'_>) -> bool
+    ensures { result ≡ drops_as required.now options.now }
+{
+    match required.mends() {
+        Some(_) => false,
+        None => options.drops_views(),
+    }
 }
 
 /// A file for each buffer.

@@ -1,13 +1,23 @@
-use Rattle.std.proofs.Common.{◌++◌, ap, ◌∙◌, arith, ℕ, List, take, subst}
+use Rattle.std.proofs.Common.{◌++◌, ◌∷◌, ◌+◌, ap, ◌∙◌, arith, ℕ, List, take, subst}
 use Rattle.std.proofs.Common.{append_assoc, sym, refl, []}
 use Rattle.std.proofs.lemmas.List.{append-nil}
 use Rattle.std.proofs.lemmas.Result.{err_from_is_err_and}
-use Rattle.serde_json.specs.View.{view}
+use Rattle.serde_json.specs.View.{view, items_view}
+use Rattle.serde_json.specs.declared.value.Value.{Value}
 use Rattle.gltf_names.specs.Named.{Named}
 use Rattle.gltf_buffers.specs.Names.{Names}
-use Rattle.gltf_bundle.specs.Images.{Takes, RefusesKept}
-use Rattle.gltf_bundle.proofs.Taken.{one_more, taken_more, first_refused, none_lost}
+use Rattle.gltf_bundle.specs.Images.{AllTaken, Takes, RefusesKept}
+use Rattle.gltf_bundle.proofs.Taken.{one_more, taken_more, first_refused, failed_at, none_failed}
 use Rattle.gltf_bundle.proofs.images.all_taken.Goals as goal
+
+pub returns-in_err-all-clause-refused : goal.returns-in_err-all-clause-refused
+returns-in_err-all-clause-refused g c =
+    let passed = err_from_is_err_and c.from_residual.result c.from_residual.ensures.1 in
+    rw (passed.1, passed.2) (
+      refl,
+      none_failed c.args.keep (g.N.Ask.names c.args.names.now) c.args.images.now
+          (g.N.Ask.failures c.args.names.now),
+    )
 
 pub returns-in_err-picture-clause-refused : goal.returns-in_err-picture-clause-refused
 returns-in_err-picture-clause-refused g c =
@@ -88,13 +98,17 @@ returns-in_err-push-clause-refused g c =
     Takes keep ns (view image) c.in_ok-picture.picture made.taken.0 first) far.kept made.taken.2 in
     let more = one_more keep names (take c.loop-i.i c.args.images.now) c.loop-i.all.items far.taken
     far.lost far.far image c.in_ok-picture.picture made.taken.0 first takes in
+    let here = subst (λ (vs : List Value).
+    AllTaken keep names (items_view vs) (c.loop-i.all.items ++ c.in_ok-picture.picture ∷ [])
+    (far.taken ++ made.taken.0) (first ++ far.lost))
+    (sym (taken_more c.args.images.now c.loop-i.i image (omega arith) c.index-images-i.is)) more in
     let exit = c.from_residual-in_err-push in
     let passed = err_from_is_err_and exit.result exit.ensures.1 in
     rw (passed.1, passed.2) (
       refl,
-      λ some.
-          made.taken.4 ∙ ap (λ (xs : List Named). first ++ xs) far.fine
-          ∙ sym (append_assoc first far.lost old)
-          ∙ ap (λ (xs : List Named). xs ++ old)
-          (none_lost keep names _ _ _ (first ++ far.lost) more some),
+      failed_at keep names c.args.images.now (c.loop-i.i + 1)
+          (c.loop-i.all.items ++ c.in_ok-picture.picture ∷ []) (far.taken ++ made.taken.0)
+          (first ++ far.lost) old (g.N.Ask.failures c.taken_in.new.names) here
+          (made.taken.4 ∙ ap (λ (xs : List Named). first ++ xs) far.fine
+          ∙ sym (append_assoc first far.lost old)),
     )

@@ -6,7 +6,7 @@ use Rattle.gltf_buffers.specs.Names.{Names, names_of}
 use Rattle.gltf.specs.Shown.{bytes_of_each}
 use Rattle.gltf_edit.specs.Embedded.{items_at}
 use Rattle.gltf_bundle.specs.Images.{AreTaken, RefusesImages}
-use Rattle.gltf_bundle.proofs.Refused.{images_refused}
+use Rattle.gltf_bundle.proofs.Refused.{images_refused, load_refused}
 use Rattle.gltf_bundle.proofs.loading.gather.Goals as goal
 
 pub returns-clause-gathered : goal.returns-clause-gathered
@@ -28,6 +28,17 @@ returns-clause-gathered g c =
       taken.3,
       taken.4 ∙ ap (λ (xs : List Named). taken.1 ++ xs) was.ensures.fine,
     )
+
+pub returns-in_err-value-clause-refused : goal.returns-in_err-value-clause-refused
+returns-in_err-value-clause-refused g c =
+    let names = names_of (g.S.NamedBytes.bytes_by_name c.args.source.now) in
+    let old = g.S.NamedBytes.failures c.args.source.now in
+    let new = g.S.NamedBytes.failures c.load_with.new.source in
+    let exit = c.from_residual in
+    let passed = err_from_is_err_and exit.result exit.ensures.1 in
+    rw (passed.1, passed.2)
+    (load_refused c.args.required.now names c.args.path.now c.args.keep old new
+    c.in_err-value.field-0.0 c.in_err-value.ensures.refused)
 
 pub returns-in_err-pictures-clause-refused : goal.returns-in_err-pictures-clause-refused
 returns-in_err-pictures-clause-refused g c =

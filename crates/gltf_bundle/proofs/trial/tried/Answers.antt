@@ -18,7 +18,7 @@ returns-then-is_the_one-clause-accepted c =
     let all = rw (c.as_slice-buffers.ensures.value, c.as_json.ensures) at are in
     is_accepted c.args.required.now c.args.bytes.now c.in_ok-document.document
     (items_of c.in_ok-document.blob) all.0
-    c.in_ok-document.ensures.valid all.1
+    c.in_ok-document.ensures.opened all.1
 
 pub returns-in_err-read_buffers-clause-refused : goal.returns-in_err-read_buffers-clause-refused
 returns-in_err-read_buffers-clause-refused c =
@@ -30,7 +30,7 @@ returns-in_err-read_buffers-clause-refused c =
     rw (passed.1, passed.2)
     (buffers_told c.args.required.now c.args.bytes.now c.in_ok-document.document
     (items_of c.in_ok-document.blob) [] []
-    c.in_err-read_buffers.field-0.0 c.in_ok-document.ensures.valid fails)
+    c.in_err-read_buffers.field-0.0 c.in_ok-document.ensures.opened fails)
 
 pub returns-clause-accepted : goal.returns-clause-accepted
 returns-clause-accepted c =
@@ -39,4 +39,4 @@ returns-clause-accepted c =
     c.in_ok-read_buffers.ensures.ok in
     is_accepted c.args.required.now c.args.bytes.now c.in_ok-document.document
     (items_of c.in_ok-document.blob)
-    (bytes_of_each c.in_ok-read_buffers.field-0.items) c.in_ok-document.ensures.valid are
+    (bytes_of_each c.in_ok-read_buffers.field-0.items) c.in_ok-document.ensures.opened are

@@ -1,13 +1,24 @@
-use Rattle.std.proofs.Common.{List, [], ◌∙◌, ◌++◌, refl, ap, sym, arith, subst, append_assoc}
+use Rattle.std.proofs.Common.{List, [], ◌∷◌, ◌+◌, ◌∙◌, ◌++◌, refl, ap, sym, arith, subst}
+use Rattle.std.proofs.Common.{append_assoc}
 use Rattle.std.proofs.lemmas.Result.{err_from_is_err_and}
 use Rattle.serde_json.specs.View.{view}
 use Rattle.gltf_names.specs.Named.{Named}
 use Rattle.gltf_buffers.specs.Names.{Names}
 use Rattle.gltf_buffers.specs.Shown.{bytes_of_each}
 use Rattle.gltf_split.specs.Images.{MayBePart, RefusesKept}
-use Rattle.gltf_split.proofs.Made.{one_more, none_lost}
+use Rattle.gltf_split.proofs.Made.{one_more, failed_at, none_failed}
 use Rattle.gltf_split.proofs.Refused.{one_refused}
 use Rattle.gltf_split.proofs.images.all_parts.Goals as goal
+
+pub returns-in_err-all-clause-refused : goal.returns-in_err-all-clause-refused
+returns-in_err-all-clause-refused g c =
+    let passed = err_from_is_err_and c.from_residual.result c.from_residual.ensures.1 in
+    rw (passed.1, passed.2) (
+      refl,
+      none_failed c.args.keep (g.N.Ask.names c.args.names.now) c.args.stem.now
+          (bytes_of_each c.args.buffers.now) (view c.args.document.now) c.args.images.now
+          (g.N.Ask.failures c.args.names.now),
+    )
 
 pub returns-in_err-part-clause-refused : goal.returns-in_err-part-clause-refused
 returns-in_err-part-clause-refused g c =
@@ -93,9 +104,9 @@ returns-in_err-push-clause-refused g c =
     let passed = err_from_is_err_and exit.result exit.ensures.1 in
     rw (passed.1, passed.2) (
       refl,
-      λ some.
-          made.part.2 ∙ ap (λ (xs : List Named). first ++ xs) far.fine
-          ∙ sym (append_assoc first far.lost old)
-          ∙ ap (λ (xs : List Named). xs ++ old)
-          (none_lost keep names stem buffers document 0 _ _ (first ++ far.lost) more some),
+      failed_at keep names stem buffers document c.args.images.now (c.loop-i.i + 1)
+          (c.loop-i.all.items ++ p ∷ []) (first ++ far.lost) old
+          (g.N.Ask.failures c.part_of.new.names) more
+          (made.part.2 ∙ ap (λ (xs : List Named). first ++ xs) far.fine
+          ∙ sym (append_assoc first far.lost old)),
     )

@@ -8,10 +8,11 @@ use Rattle.gltf_edit.specs.Embedded.{items_at}
 use Rattle.gltf_detach.specs.Detached.{detached}
 use Rattle.gltf_detach.specs.Naming.{buffer_uris, image_uris}
 use Rattle.gltf_split.specs.Images.{AreImages, RefusesImages}
-use Rattle.gltf_split.specs.Splits.{drops, kept, value_left, bytes_left}
-use Rattle.gltf_split.proofs.Made.{fine_parts}
-use Rattle.gltf_split.proofs.Refused.{images_refused, source_refused}
-use Rattle.gltf_split.proofs.Whole.{is_split}
+use Rattle.gltf_required.specs.Required.{mends_of}
+use Rattle.gltf_split.specs.Splits.{drops_as, kept, value_left, bytes_left}
+use Rattle.gltf_split.proofs.Made.{failed_behind}
+use Rattle.gltf_split.proofs.Refused.{at_images, images_refused, source_refused}
+use Rattle.gltf_split.proofs.Whole.{is_split, stands_by}
 use Rattle.gltf_split.proofs.splitting.gathered.Goals as goal
 
 pub returns-clause-split : goal.returns-clause-split
@@ -19,7 +20,7 @@ returns-clause-split g c =
     let names = names_of (g.S.NamedBytes.bytes_by_name c.args.source.now) in
     let stem = c.args.stem.now in
     let keep = kept c.args.options.now in
-    let drop = drops c.args.options.now in
+    let drop = drops_as c.args.required.now c.args.options.now in
     let was = c.in_ok-value in
     let document = view was.field-0.value in
     let all = bytes_of_each was.field-0.buffers.items in
@@ -30,15 +31,16 @@ returns-clause-split g c =
     was.ensures.kept made.1 in
     let left = c.in_ok-left in
     let value = left.ensures.value
-    ∙ ap (λ (b : Bool). value_left b document all) c.drops_views.ensures in
+    ∙ ap (λ (b : Bool). value_left b document all) c.drops_as.ensures in
     let bytes = left.ensures.bytes
-    ∙ ap (λ (b : Bool). bytes_left b document all) c.drops_views.ensures in
+    ∙ ap (λ (b : Bool). bytes_left b document all) c.drops_as.ensures in
     let us = buffer_uris c.in_ok-buffers.buffers.items in
     let vs = image_uris images in
     let old = g.S.NamedBytes.failures c.args.source.now in
     let new = g.S.NamedBytes.failures c.image_parts.new.names in
     is_split c.args.required.now names c.args.path.now stem keep drop document was.ensures.loaded.0
-    was.field-0.buffers.items was.ensures.loaded.1 left.field-0.buffers.items bytes
+    was.field-0.buffers.items was.ensures.loaded.1
+    (stands_by (mends_of c.args.required.now) c.args.options.now) left.field-0.buffers.items bytes
     record {
       json = c.in_ok-json.json;
       buffers = c.in_ok-buffers.buffers;
@@ -63,7 +65,8 @@ returns-in_err-value-clause-refused g c =
     rw (passed.1, passed.2)
     (source_refused c.args.required.now names c.args.path.now c.args.stem.now
     (kept c.args.options.now)
-    (drops c.args.options.now) old new e c.in_err-value.ensures.refused)
+    (drops_as c.args.required.now c.args.options.now) c.args.options.now.pretty old new e
+    c.in_err-value.ensures.refused)
 
 pub returns-in_err-images-clause-refused : goal.returns-in_err-images-clause-refused
 returns-in_err-images-clause-refused g c =
@@ -87,57 +90,89 @@ returns-in_err-images-clause-refused g c =
     rw (passed.1, passed.2)
     (images_refused c.args.required.now names c.args.path.now c.args.stem.now
     (kept c.args.options.now)
-    (drops c.args.options.now) old new
+    (drops_as c.args.required.now c.args.options.now) c.args.options.now.pretty old new
     document was.ensures.loaded.0 all was.ensures.loaded.1 e of_images)
 
 pub returns-in_err-left-clause-refused : goal.returns-in_err-left-clause-refused
 returns-in_err-left-clause-refused g c =
+    let names = names_of (g.S.NamedBytes.bytes_by_name c.args.source.now) in
     let old = g.S.NamedBytes.failures c.args.source.now in
     let new = g.S.NamedBytes.failures c.image_parts.new.names in
     let was = c.in_ok-value in
+    let document = view was.field-0.value in
+    let all = bytes_of_each was.field-0.buffers.items in
     let made = rw (c.deref.ensures.value, c.keep.ensures) at c.in_ok-images.ensures.parts in
     let exit = c.from_residual-in_err-left in
     let passed = err_from_is_err_and exit.result exit.ensures.1 in
     rw (passed.1, passed.2)
-    (fine_parts (kept c.args.options.now) _ c.args.stem.now
-    (bytes_of_each was.field-0.buffers.items) (view was.field-0.value) c.in_ok-images.images.items
-    made.0 old new made.1 (made.2 ∙ ap (λ (xs : List Named). made.0 ++ xs) was.ensures.fine))
+    (at_images c.args.required.now names c.args.path.now (kept c.args.options.now) old new document
+    was.ensures.loaded.0 all was.ensures.loaded.1
+    (failed_behind (kept c.args.options.now) names c.args.stem.now all document
+    c.in_ok-images.images.items made.0 old new
+    (subst (λ (ns : Names).
+    AreImages (kept c.args.options.now) ns c.args.stem.now all document
+    c.in_ok-images.images.items made.0) was.ensures.kept made.1)
+    (made.2 ∙ ap (λ (xs : List Named). made.0 ++ xs) was.ensures.fine)))
 
 pub returns-in_err-buffers-clause-refused : goal.returns-in_err-buffers-clause-refused
 returns-in_err-buffers-clause-refused g c =
+    let names = names_of (g.S.NamedBytes.bytes_by_name c.args.source.now) in
     let old = g.S.NamedBytes.failures c.args.source.now in
     let new = g.S.NamedBytes.failures c.image_parts.new.names in
     let was = c.in_ok-value in
+    let document = view was.field-0.value in
+    let all = bytes_of_each was.field-0.buffers.items in
     let made = rw (c.deref.ensures.value, c.keep.ensures) at c.in_ok-images.ensures.parts in
     let exit = c.from_residual-in_err-buffers in
     let passed = err_from_is_err_and exit.result exit.ensures.1 in
     rw (passed.1, passed.2)
-    (fine_parts (kept c.args.options.now) _ c.args.stem.now
-    (bytes_of_each was.field-0.buffers.items) (view was.field-0.value) c.in_ok-images.images.items
-    made.0 old new made.1 (made.2 ∙ ap (λ (xs : List Named). made.0 ++ xs) was.ensures.fine))
+    (at_images c.args.required.now names c.args.path.now (kept c.args.options.now) old new document
+    was.ensures.loaded.0 all was.ensures.loaded.1
+    (failed_behind (kept c.args.options.now) names c.args.stem.now all document
+    c.in_ok-images.images.items made.0 old new
+    (subst (λ (ns : Names).
+    AreImages (kept c.args.options.now) ns c.args.stem.now all document
+    c.in_ok-images.images.items made.0) was.ensures.kept made.1)
+    (made.2 ∙ ap (λ (xs : List Named). made.0 ++ xs) was.ensures.fine)))
 
 pub returns-in_err-value-2-clause-refused : goal.returns-in_err-value-2-clause-refused
 returns-in_err-value-2-clause-refused g c =
+    let names = names_of (g.S.NamedBytes.bytes_by_name c.args.source.now) in
     let old = g.S.NamedBytes.failures c.args.source.now in
     let new = g.S.NamedBytes.failures c.image_parts.new.names in
     let was = c.in_ok-value in
+    let document = view was.field-0.value in
+    let all = bytes_of_each was.field-0.buffers.items in
     let made = rw (c.deref.ensures.value, c.keep.ensures) at c.in_ok-images.ensures.parts in
     let exit = c.from_residual-in_err-value-2 in
     let passed = err_from_is_err_and exit.result exit.ensures.1 in
     rw (passed.1, passed.2)
-    (fine_parts (kept c.args.options.now) _ c.args.stem.now
-    (bytes_of_each was.field-0.buffers.items) (view was.field-0.value) c.in_ok-images.images.items
-    made.0 old new made.1 (made.2 ∙ ap (λ (xs : List Named). made.0 ++ xs) was.ensures.fine))
+    (at_images c.args.required.now names c.args.path.now (kept c.args.options.now) old new document
+    was.ensures.loaded.0 all was.ensures.loaded.1
+    (failed_behind (kept c.args.options.now) names c.args.stem.now all document
+    c.in_ok-images.images.items made.0 old new
+    (subst (λ (ns : Names).
+    AreImages (kept c.args.options.now) ns c.args.stem.now all document
+    c.in_ok-images.images.items made.0) was.ensures.kept made.1)
+    (made.2 ∙ ap (λ (xs : List Named). made.0 ++ xs) was.ensures.fine)))
 
 pub returns-in_err-json-clause-refused : goal.returns-in_err-json-clause-refused
 returns-in_err-json-clause-refused g c =
+    let names = names_of (g.S.NamedBytes.bytes_by_name c.args.source.now) in
     let old = g.S.NamedBytes.failures c.args.source.now in
     let new = g.S.NamedBytes.failures c.image_parts.new.names in
     let was = c.in_ok-value in
+    let document = view was.field-0.value in
+    let all = bytes_of_each was.field-0.buffers.items in
     let made = rw (c.deref.ensures.value, c.keep.ensures) at c.in_ok-images.ensures.parts in
     let exit = c.from_residual-in_err-json in
     let passed = err_from_is_err_and exit.result exit.ensures.1 in
     rw (passed.1, passed.2)
-    (fine_parts (kept c.args.options.now) _ c.args.stem.now
-    (bytes_of_each was.field-0.buffers.items) (view was.field-0.value) c.in_ok-images.images.items
-    made.0 old new made.1 (made.2 ∙ ap (λ (xs : List Named). made.0 ++ xs) was.ensures.fine))
+    (at_images c.args.required.now names c.args.path.now (kept c.args.options.now) old new document
+    was.ensures.loaded.0 all was.ensures.loaded.1
+    (failed_behind (kept c.args.options.now) names c.args.stem.now all document
+    c.in_ok-images.images.items made.0 old new
+    (subst (λ (ns : Names).
+    AreImages (kept c.args.options.now) ns c.args.stem.now all document
+    c.in_ok-images.images.items made.0) was.ensures.kept made.1)
+    (made.2 ∙ ap (λ (xs : List Named). made.0 ++ xs) was.ensures.fine)))

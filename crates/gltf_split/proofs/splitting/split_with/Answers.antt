@@ -1,6 +1,6 @@
 use Rattle.gltf_buffers.specs.Names.{names_of}
 use Rattle.gltf.specs.Shown.{blob_bytes}
-use Rattle.gltf_split.specs.Splits.{drops, kept}
+use Rattle.gltf_split.specs.Splits.{drops_as, kept}
 use Rattle.gltf_split.proofs.Refused.{answer_refused}
 use Rattle.gltf_split.proofs.splitting.split_with.Goals as goal
 
@@ -23,7 +23,8 @@ returns-in-Err-clause-refused g c =
     rw c.of_answer.ensures
     (answer_refused c.args.required.now
     (names_of (g.S.NamedBytes.bytes_by_name c.args.source.now)) c.args.path.now c.args.stem.now
-    (kept c.args.options.now) (drops c.args.options.now)
-    (g.S.NamedBytes.failures c.args.source.now) (g.S.NamedBytes.failures c.gathered.new.source)
-    c.in_ok-set.set c.in_ok-set.ensures.split c.in-Err.error
+    (kept c.args.options.now) (drops_as c.args.required.now c.args.options.now)
+    c.args.options.now.pretty (g.S.NamedBytes.failures c.args.source.now)
+    (g.S.NamedBytes.failures c.gathered.new.source)
+    c.in_ok-set.set c.in_ok-set.ensures.split c.in_ok-set.ensures.layout c.in-Err.error
     (rw c.as_bytes.ensures.value at c.in-Err.ensures.refused))
